@@ -1,5 +1,6 @@
 -- Why a segment does not grow, from what is asked of it.
-use Rattle.std.proofs.Common.{◌≡◌, refl, sym, ap, ◌∙◌, ℕ, ◌+◌, ◌%◌, ◌<◌, ◌≤◌, Bool, true, false, ◌&&◌, ◌||◌, not, Option, Some, None, Ok, Err, List, ◌++◌, length, arith, nat_lt, ◌==◌, if◌then◌else◌}
+use Rattle.std.proofs.Common.{◌≡◌, refl, sym, ap, ◌∙◌, ℕ, ◌+◌, ◌%◌, ◌<◌, ◌≤◌, Bool, true, false, ◌&&◌, ◌||◌, not}
+use Rattle.std.proofs.Common.{Option, Some, None, Ok, Err, List, ◌++◌, length, arith, nat_lt, ◌==◌, if◌then◌else◌}
 use Rattle.std.proofs.lemmas.Bool.{eqb-true, false≢true, le-ltb, lt-ltb}
 use Rattle.std.proofs.lemmas.List.{length-append}
 use Rattle.raw_region.specs.Memory.{Cut}
@@ -9,7 +10,7 @@ use Rattle.segment_manager.specs.Answers.{Number}
 use Rattle.segment_manager.specs.Directory.{Directory, live}
 use Rattle.segment_manager.specs.Plan.{Refuse, perform}
 use Rattle.seg_types.specs.declared.refusals.Refusal.TheVariants.{ReadOnly as Reading}
-use Rattle.segment_manager.specs.Resized.{room_behind}
+use Rattle.segment_manager.specs.blocks.Resized.{room_behind}
 use Rattle.segment_manager.specs.State.{IsReply, StandsFor, State}
 use Rattle.segment_manager.specs.Step.{effect, is_read_only, step}
 use Rattle.segment_manager.proofs.Laws.{live-size}

@@ -1,5 +1,6 @@
 -- A directory in a larger or smaller segment.
-use Rattle.std.specs.Prelude.{◌≡◌, ℕ, ◌+◌, ◌-◌, ◌%◌, ◌≤◌, not, ◌||◌, Option, Some, None, Result, Ok, Err, ◌==◌, nat_lt, if◌then◌else◌, length}
+use Rattle.std.specs.Prelude.{◌≡◌, ℕ, ◌+◌, ◌-◌, ◌%◌, ◌≤◌, not, ◌||◌, Option, Some, None, Result, Ok, Err, ◌==◌, nat_lt}
+use Rattle.std.specs.Prelude.{if◌then◌else◌, length}
 use Rattle.raw_region.specs.Memory.{Cut, whole}
 use Rattle.segment_manager.specs.declared.modes.Mode.{Mode}
 use Rattle.segment_manager.specs.Directory.{Directory, IsDirectory}
@@ -8,7 +9,7 @@ use Rattle.segment_manager.specs.Step.{is_read_only}
 use Rattle.grow_shrink.specs.declared.refusals.GrowError.{GrowError}
 use Rattle.grow_shrink.specs.declared.refusals.GrowError.TheVariants.{ReadOnly, BadGrow, TooLarge, RegionTooSmall}
 -- the directory with so many bytes more, and as far as its last extent and the end tag
-pub use Rattle.segment_manager.specs.Resized.{grown, shrunk}
+pub use Rattle.segment_manager.specs.blocks.Resized.{grown, shrunk}
 
 -- how many bytes the region has from the segment's base on
 abbrev pub room_of : Cut → ℕ

@@ -1,6 +1,6 @@
 //! A segment that grows at its end, or gives up what is free there.
 ghost use Rattle.std.specs.Prelude.{◌≡◌, ◌+◌, ◌%◌, not, ◌||◌, ◌==◌, nat_lt, OnErr, OnOk};
-ghost use Rattle.segment_manager.specs.Resized.{Resizes, grown, shrunk};
+ghost use Rattle.segment_manager.specs.blocks.Resized.{Resizes, grown, shrunk};
 ghost use Rattle.segment_manager.specs.Step.{is_read_only as may_only_be_read};
 ghost use Rattle.grow_shrink.specs.Resized.{IsRefusedBy, growth_refusal, room_of, shrink_refusal};
 

@@ -2,7 +2,7 @@
 ghost use Rattle.std.specs.Prelude.{◌≤◌};
 ghost use Rattle.seg_types.specs.declared.kinds.ScalarKind.TheVariants.{I64 as OfI64};
 ghost use Rattle.seg_types.specs.Keys.{new_key_seen};
-ghost use Rattle.segment_manager.specs.NewObjects.{IsOfItsKind};
+ghost use Rattle.segment_manager.specs.objects.NewObjects.{IsOfItsKind};
 
 use crate::bench::Bench;
 use crate::segments::{fresh, opened};

@@ -3,7 +3,7 @@ ghost use Rattle.std.specs.Prelude.{◌≡◌};
 ghost use Rattle.std.specs.Result.{IfOk};
 ghost use Rattle.seg_types.specs.declared.kinds.Kind.{Kind};
 ghost use Rattle.seg_types.specs.Keys.{new_key_seen};
-ghost use Rattle.segment_manager.specs.NewObjects.{IsOfKind};
+ghost use Rattle.segment_manager.specs.objects.NewObjects.{IsOfKind};
 
 use crate::bench::Bench;
 use crate::checks::{done, holds, same};

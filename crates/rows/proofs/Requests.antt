@@ -4,7 +4,7 @@ use Rattle.block_tags.specs.declared.tile.Role.TheVariants.{Object, Storage}
 use Rattle.best_fit.specs.Extents.{LiveSet, gaps}
 use Rattle.best_fit.specs.Fit.{place, fit}
 use Rattle.best_fit.specs.Requests.{place_all, all_added}
-use Rattle.segment_manager.specs.OwnedTexts.{text_needs, owned_texts}
+use Rattle.segment_manager.specs.containers.OwnedTexts.{text_needs, owned_texts}
 use Rattle.rows.proofs.Images.{extent}
 
 -- gaps of 32 and 48 bytes

@@ -1,5 +1,6 @@
 -- Neighbours in the map of a key: what the directory says of them, by the kind of the object.
-use Rattle.std.proofs.Common.{◌≡◌, ◌∙◌, refl, sym, ap, subst, ℕ, ℤ, List, Option, None, Some, Result, Ok, Err, option_map}
+use Rattle.std.proofs.Common.{◌≡◌, ◌∙◌, refl, sym, ap, subst, ℕ, ℤ, List, Option, None, Some, Result, Ok, Err}
+use Rattle.std.proofs.Common.{option_map}
 use Rattle.seg_types.specs.declared.kinds.Kind.{Kind}
 use Rattle.seg_types.specs.declared.kinds.Kind.TheVariants.{Map, Scalar, String, Strings, Vector}
 use Rattle.seg_types.specs.declared.kinds.ScalarKind.{ScalarKind}
@@ -12,10 +13,10 @@ use Rattle.seg_map.specs.Numbers.{NumberPair}
 use Rattle.seg_map.specs.Places.{item_of}
 use Rattle.segment_manager.specs.Calls.{kind_at}
 use Rattle.segment_manager.specs.Directory.{Directory, Object, kind_of}
-use Rattle.segment_manager.specs.Instances.{IsMissing}
-use Rattle.segment_manager.specs.Maps.{pair_above}
+use Rattle.segment_manager.specs.objects.Instances.{IsMissing}
+use Rattle.segment_manager.specs.containers.Maps.{pair_above}
 use Rattle.segment_manager.specs.State.{Answers, StandsFor, State}
-use Rattle.segment_manager.specs.Walks.{Item, first_of, pairs_at}
+use Rattle.segment_manager.specs.containers.Walks.{Item, first_of, pairs_at}
 use Rattle.segment_c.specs.declared.values.Value.{Value}
 use Rattle.segment_c.specs.Reads.{TellsPair, above_in, first_at, first_in, item_in, next_at, next_in}
 

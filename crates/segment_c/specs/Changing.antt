@@ -11,7 +11,7 @@ use Rattle.segment_c.specs.declared.changes.Change.TheVariants.{Append, AssignTe
 use Rattle.segment_c.specs.declared.changes.Change.TheVariants.{InsertText, PopText, PushText, SetText, Trim}
 use Rattle.segment_manager.specs.Answers.{Answer, refusal_of}
 use Rattle.segment_manager.specs.State.{IsStep, IsStepOfKind, KeepsRefused, State}
-use Rattle.segment_manager.specs.TextLists.{LeadsOnOfKind}
+use Rattle.segment_manager.specs.containers.TextLists.{LeadsOnOfKind}
 
 -- which step of the machine it is
 abbrev pub IsChange : Change → Key → State → State → Answer → Type 0

@@ -2,7 +2,7 @@
 use Rattle.std.specs.Prelude.{◌≡◌, ◌≤◌, ◌⊎◌, ℕ, ◌+◌, ◌%◌, false, None, length}
 use Rattle.segment_manager.specs.declared.modes.Mode.{Mode}
 use Rattle.segment_manager.specs.Directory.{Directory}
-use Rattle.segment_manager.specs.Resized.{grown}
+use Rattle.segment_manager.specs.blocks.Resized.{grown}
 use Rattle.segment_manager.specs.State.{State, StandsFor}
 use Rattle.segment_manager.specs.Step.{is_read_only}
 use Rattle.grow_shrink.specs.Resized.{growth_refusal}

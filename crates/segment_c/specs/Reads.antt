@@ -15,9 +15,9 @@ use Rattle.seg_map.specs.Places.{item_of}
 use Rattle.segment_manager.specs.Answers.{Answer, TextElement, Refused}
 use Rattle.segment_manager.specs.Calls.{kind_at}
 use Rattle.segment_manager.specs.Directory.{Directory}
-use Rattle.segment_manager.specs.Maps.{pair_above}
+use Rattle.segment_manager.specs.containers.Maps.{pair_above}
 use Rattle.segment_manager.specs.State.{StandsFor, State}
-use Rattle.segment_manager.specs.Walks.{Item, first_of, item_of_kinds, item_seen, pairs_at}
+use Rattle.segment_manager.specs.containers.Walks.{Item, first_of, item_of_kinds, item_seen, pairs_at}
 use Rattle.segment_values.specs.Ranges.{range_at}
 use Rattle.segment_c.specs.declared.keys.ObjectKey.{ObjectKey}
 use Rattle.segment_c.specs.declared.values.Value.{Value}

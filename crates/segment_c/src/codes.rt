@@ -5,8 +5,8 @@ ghost use Rattle.seg_types.specs.Refusals.{refusal_number};
 ghost use Rattle.segment_c.specs.Codes.{answer_for, is_answer};
 ghost use Rattle.segment_c.specs.Passed.{element_in};
 ghost use Rattle.segment_manager.specs.Answers.{Answer, Done, Found, Made, Refused, Truth};
-ghost use Rattle.segment_manager.specs.Found.{found_answer, pair_answer};
-ghost use Rattle.segment_manager.specs.Maps.{any_value_answer};
+ghost use Rattle.segment_manager.specs.objects.Found.{found_answer, pair_answer};
+ghost use Rattle.segment_manager.specs.containers.Maps.{any_value_answer};
 ghost use Rattle.segment_manager.specs.State.{done_answer, handle_answer, scalar_answer, truth_answer};
 
 use crate::handle::{Handle, put};

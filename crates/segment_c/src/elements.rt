@@ -11,7 +11,7 @@ ghost use Rattle.segment_manager.specs.Answers.{Done, refusal_of};
 ghost use Rattle.segment_manager.specs.Calls.{scalar_reply};
 ghost use Rattle.segment_manager.specs.State.{Answers, IsStep, IsStepOfKind, Moves, scalar_answer};
 ghost use Rattle.segment_manager.specs.Step.{step_of_kind};
-ghost use Rattle.segment_manager.specs.TextLists.{LeadsOnOfKind};
+ghost use Rattle.segment_manager.specs.containers.TextLists.{LeadsOnOfKind};
 
 use crate::calls::{enter, enter_with, passed};
 use crate::changes::{Change, make_change};

@@ -1,5 +1,6 @@
 //! Segments made, opened, looked at, saved and closed.
-ghost use Rattle.std.specs.Prelude.{◌≡◌, ◌≢◌, ◌≤◌, ◌⊎◌, ◌↔◌, ◌+◌, IfErr, IfOk, IsTrue, MatchOption, MatchResult, false, length};
+ghost use Rattle.std.specs.Prelude.{◌≡◌, ◌≢◌, ◌≤◌, ◌⊎◌, ◌↔◌, ◌+◌, IfErr, IfOk, IsTrue, MatchOption, MatchResult, false};
+ghost use Rattle.std.specs.Prelude.{length};
 ghost use Rattle.std.specs.declared.option.Option.TheVariants.{None, Some};
 ghost use Rattle.block_tags.specs.Format.{is_legal_size};
 ghost use Rattle.image_check.specs.Classes.{number_of};
@@ -13,7 +14,7 @@ ghost use Rattle.segment_c.specs.Opening.{IsImageOpened, IsNoImage, IsWhyNotOpen
 ghost use Rattle.segment_c.specs.Passed.{or_else};
 ghost use Rattle.segment_manager.specs.Answers.{Number};
 ghost use Rattle.segment_manager.specs.Calls.{IsCreated};
-ghost use Rattle.segment_manager.specs.Resized.{room_behind};
+ghost use Rattle.segment_manager.specs.blocks.Resized.{room_behind};
 ghost use Rattle.segment_manager.specs.State.{IsReply, IsSegment, State};
 ghost use Rattle.segment_manager.specs.declared.modes.Mode.TheVariants.{Write};
 

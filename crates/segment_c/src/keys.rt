@@ -3,7 +3,7 @@ ghost use Rattle.std.specs.Prelude.{◌≡◌, ◌≢◌, ◌≤◌, MatchResult
 ghost use Rattle.seg_types.specs.Keys.{index_key_seen, key_seen};
 ghost use Rattle.seg_types.specs.Names.{NoKey};
 ghost use Rattle.segment_c.specs.Passed.{entry_of, entry_wrong, key_of, key_wrong};
-ghost use Rattle.segment_manager.specs.NewObjects.{IsOfKind};
+ghost use Rattle.segment_manager.specs.objects.NewObjects.{IsOfKind};
 
 use crate::codes::{BAD_KEY, BAD_KIND, BAD_NAME, NULL_SLICE};
 use seg_types::{IndexKey, Key, Kind, Name};

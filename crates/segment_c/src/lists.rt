@@ -11,7 +11,7 @@ ghost use Rattle.segment_c.specs.Lists.{IsInfo, IsTold, TellsAlone, TellsBlock, 
 ghost use Rattle.segment_c.specs.Passed.{key_of, key_wrong};
 ghost use Rattle.segment_manager.specs.Answers.{Number};
 ghost use Rattle.segment_manager.specs.Directory.{Directory, Object, live, named_objects, object_at, unique_objects};
-ghost use Rattle.segment_manager.specs.Instances.{IsInstance};
+ghost use Rattle.segment_manager.specs.objects.Instances.{IsInstance};
 ghost use Rattle.segment_manager.specs.State.{IsReply, StandsFor};
 
 use crate::calls::{enter, passed};

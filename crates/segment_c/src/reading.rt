@@ -6,7 +6,7 @@ ghost use Rattle.seg_types.specs.Keys.{key_seen};
 ghost use Rattle.segment_c.specs.Calls.{Reads};
 ghost use Rattle.segment_c.specs.Passed.{key_of, key_wrong};
 ghost use Rattle.segment_c.specs.Reads.{AreSizes, Copies, CopiesAnswer, IsCoded, IsCopied};
-ghost use Rattle.segment_manager.specs.Contents.{bytes_at, sizes_at};
+ghost use Rattle.segment_manager.specs.containers.Contents.{bytes_at, sizes_at};
 ghost use Rattle.segment_manager.specs.Directory.{Directory};
 ghost use Rattle.segment_manager.specs.State.{StandsFor};
 ghost use Rattle.segment_manager.specs.Step.{step_of_kind};

@@ -8,7 +8,7 @@ ghost use Rattle.segment_c.specs.Growing.{IsGrowthCode, IsLonger, IsShortOfRoom}
 ghost use Rattle.segment_c.specs.Opening.{capacity_wrong};
 ghost use Rattle.segment_c.specs.Resizing.{IsMoved, size_code};
 ghost use Rattle.segment_manager.specs.Directory.{Directory};
-ghost use Rattle.segment_manager.specs.Resized.{Resizes, shrunk};
+ghost use Rattle.segment_manager.specs.blocks.Resized.{Resizes, shrunk};
 ghost use Rattle.segment_manager.specs.State.{IsSegment, StandsFor, State};
 
 use crate::calls::passed;

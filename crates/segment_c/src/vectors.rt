@@ -5,12 +5,14 @@ ghost use Rattle.seg_types.specs.Keys.{index_key_seen, key_seen, new_key_seen};
 ghost use Rattle.seg_types.specs.declared.kinds.Kind.TheVariants.{Scalar as ScalarOf, Vector as VectorOf};
 ghost use Rattle.segment_c.specs.Calls.{IsAsked, KeepsRefused, Owes};
 ghost use Rattle.segment_c.specs.Codes.{answer_for};
-ghost use Rattle.segment_c.specs.Passed.{count_wrong, entry_of, entry_wrong, key_of, key_wrong, many_of, new_of, new_wrong, numbers_of, or_else, row_count, row_of, row_wrong, scalar_kind_in};
+ghost use Rattle.segment_c.specs.Passed.{count_wrong, entry_of, entry_wrong, key_of, key_wrong, many_of, new_of};
+ghost use Rattle.segment_c.specs.Passed.{new_wrong, numbers_of, or_else, row_count, row_of, row_wrong, scalar_kind_in};
 ghost use Rattle.segment_manager.specs.Answers.{Done, Found, Made};
-ghost use Rattle.segment_manager.specs.Found.{pair_answer};
+ghost use Rattle.segment_manager.specs.objects.Found.{pair_answer};
 ghost use Rattle.segment_manager.specs.Keeping.{HasKey, KeepsWhere};
-ghost use Rattle.segment_manager.specs.NewObjects.{IsOfKind};
-ghost use Rattle.segment_manager.specs.State.{IsStep, IsStepOfKind, KeepsRefused as KeepsOld, done_answer, handle_answer};
+ghost use Rattle.segment_manager.specs.objects.NewObjects.{IsOfKind};
+ghost use Rattle.segment_manager.specs.State.{IsStep, IsStepOfKind, KeepsRefused as KeepsOld, done_answer};
+ghost use Rattle.segment_manager.specs.State.{handle_answer};
 
 use crate::calls::{enter_entry, enter_new, enter_row, passed};
 use crate::codes::{BAD_COUNT, done, found, made};

@@ -3,7 +3,7 @@ use Rattle.std.specs.Prelude.{◌≡◌, ◌⊎◌, ◌++◌, ◌∷◌, [], ℕ
 use Rattle.raw_region.specs.Device.{Took}
 use Rattle.segment_manager.specs.declared.modes.Mode.TheVariants.{Write}
 use Rattle.segment_manager.specs.Directory.{Directory}
-use Rattle.segment_manager.specs.Resized.{Resizes}
+use Rattle.segment_manager.specs.blocks.Resized.{Resizes}
 use Rattle.segment_manager.specs.State.{State, IsReply}
 use Rattle.segment_manager.specs.Answers.{Number}
 use Rattle.seg_types.specs.Commands.{Size}

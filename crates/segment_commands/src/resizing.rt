@@ -1,7 +1,7 @@
 //! The commands that change the size of the segment in a file.
 ghost use Rattle.std.specs.Prelude.{◌≡◌, ◌^◌, ◌-◌, ◌<◌, OnOk};
 ghost use Rattle.grow_shrink.specs.Resized.{IsRefusedBy, growth_refusal, grown, room_of, shrink_refusal, shrunk};
-ghost use Rattle.segment_manager.specs.Resized.{Resizes};
+ghost use Rattle.segment_manager.specs.blocks.Resized.{Resizes};
 ghost use Rattle.segment_commands.specs.Holding.{Holds};
 ghost use Rattle.segment_commands.specs.Resizing.{IsResize, TellsAndWrites, TellsSize, next_by, refusal_by, size_line};
 ghost use Rattle.segment_commands.specs.Telling.{Tells};

@@ -69,26 +69,26 @@ pub use Rattle.segment_manager.proofs.Laws.{all-sorted, by_kind-strict, by_name-
 pub use Rattle.segment_manager.proofs.Laws.{live-size, said-at}
 pub use Rattle.segment_manager.specs.Answers.{Answer, Done, Made, Number, Truth}
 pub use Rattle.segment_manager.specs.Calls.{IsWhy, elements_of}
-pub use Rattle.segment_manager.specs.Contents.{sizes_at, sizes_of}
+pub use Rattle.segment_manager.specs.containers.Contents.{sizes_at, sizes_of}
 pub use Rattle.segment_manager.specs.Directory.{Bytes, Directory, Elements, IsDirectory, Numbers, Object, Pairs, Texts}
 pub use Rattle.segment_manager.specs.Directory.{Value, by_kind, by_name, empty, extents_of, has_good_name, has_key}
 pub use Rattle.segment_manager.specs.Directory.{has_own_block, insert_by, is_class, is_good_value, is_object}
 pub use Rattle.segment_manager.specs.Directory.{is_owned_text, kind_of, live, named_objects, object_at, object_len}
 pub use Rattle.segment_manager.specs.Directory.{padded, rises_from, sorted, table_extents, unique_objects}
 pub use Rattle.segment_manager.specs.Directory.{value_extents, value_len}
-pub use Rattle.segment_manager.specs.Instances.{SaysAt, SaysOf}
+pub use Rattle.segment_manager.specs.objects.Instances.{SaysAt, SaysOf}
 pub use Rattle.segment_manager.specs.Layout.{head_len}
-pub use Rattle.segment_manager.specs.Located.{IsLocated}
+pub use Rattle.segment_manager.specs.objects.Located.{IsLocated}
 pub use Rattle.segment_manager.specs.Plan.{New, Plan, Reply, Request, bare, class_of, name_of, perform, with}
-pub use Rattle.segment_manager.specs.Resized.{shrunk}
+pub use Rattle.segment_manager.specs.blocks.Resized.{shrunk}
 pub use Rattle.segment_manager.specs.State.{Answers, IsStep, IsStepOfKind, StandsFor, State, done_answer}
 pub use Rattle.segment_manager.specs.Step.{changed, effect, found_at}
 unfoldable pub use Rattle.segment_manager.specs.Step.{step, step_of_kind}
-pub use Rattle.segment_manager.specs.Walks.{item_seen, pairs_at}
+pub use Rattle.segment_manager.specs.containers.Walks.{item_seen, pairs_at}
 pub use Rattle.segment_manager.specs.declared.errors.CreateError.{CreateError}
 pub use Rattle.segment_manager.specs.declared.errors.CreateRefused.{CreateRefused}
 pub use Rattle.segment_manager.specs.declared.modes.Mode.TheVariants.{Write}
-pub use Rattle.segment_manager.specs.declared.telling.Instance.{Instance}
+pub use Rattle.segment_manager.specs.declared.objects.telling.Instance.{Instance}
 pub use Rattle.segment_dump.specs.Asked.{element_part, element_text, length_in, pair_part, string_part, text_part}
 pub use Rattle.segment_dump.specs.Builders.{AddsElement, AreLeft, Builds, Collects, FillsNew, HasPlace, IsBegun}
 pub use Rattle.segment_dump.specs.Builders.{IsFillable, IsNext, IsVectorKind, PiecesLeft, ReadsElement, ReadsLength}

@@ -15,12 +15,12 @@ use Rattle.seg_types.specs.declared.kinds.Kind.TheVariants.{String, Strings as S
 use Rattle.seg_types.specs.Commands.{is_changing}
 use Rattle.segment_manager.specs.declared.modes.Mode.{Mode}
 use Rattle.segment_manager.specs.declared.modes.Mode.TheVariants.{ReadOnly, CopyOnWrite}
-use Rattle.segment_manager.specs.declared.targets.Object.{Object as Located}
+use Rattle.segment_manager.specs.declared.objects.targets.Object.{Object as Located}
 use Rattle.segment_manager.specs.Answers.{Element, TextElement}
 use Rattle.segment_manager.specs.Calls.{HasScalars}
-use Rattle.segment_manager.specs.Contents.{bytes_at, text_bytes}
+use Rattle.segment_manager.specs.containers.Contents.{bytes_at, text_bytes}
 use Rattle.segment_manager.specs.Directory.{count_of}
-use Rattle.segment_manager.specs.Located.{located}
+use Rattle.segment_manager.specs.objects.Located.{located}
 use Rattle.segment_manager.specs.Plan.{Refuse}
 use Rattle.segment_manager.specs.Step.{get, is_read_only}
 use Rattle.segment_dump.proofs.PartLines.{parts-all, parts-same}

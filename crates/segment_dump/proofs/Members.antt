@@ -6,7 +6,7 @@ use Rattle.segment_dump.proofs.Common.{Instance, Object, Directory, by_kind, by_
 use Rattle.segment_dump.proofs.Common.{object_at, rises_from, unique_objects, SaysAt, SaysOf, State, StandsFor}
 use Rattle.segment_dump.proofs.Common.{all-ordered, part_of}
 use Rattle.std.proofs.lemmas.Option.{same_Some}
-use Rattle.segment_manager.specs.Instances.{IsInstance}
+use Rattle.segment_manager.specs.objects.Instances.{IsInstance}
 use Rattle.segment_dump.proofs.Lists.{all-kept}
 use Rattle.segment_dump.proofs.Found.{none-some}
 

@@ -9,7 +9,7 @@ use Rattle.segment_dump.proofs.Common.{said-at, Capacity, Holds, Kinds, Names, a
 use Rattle.segment_dump.proofs.Common.{capacity_note, index_notes, measured_places, places_at, anonymous_objects}
 use Rattle.segment_dump.proofs.Common.{part_of}
 use Rattle.seg_types.specs.declared.kinds.Kind.TheVariants.{Map}
-use Rattle.segment_manager.specs.declared.targets.Object.{Object as Located}
+use Rattle.segment_manager.specs.declared.objects.targets.Object.{Object as Located}
 use Rattle.segment_manager.specs.State.{IsSegment}
 use Rattle.segment_dump.specs.Capacities.{notes_at, notes_of, object_capacities, object_notes, places_in, places_of}
 use Rattle.segment_dump.proofs.Elements.{sizes_of_object}

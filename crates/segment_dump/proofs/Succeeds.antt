@@ -11,7 +11,7 @@ use Rattle.segment_dump.proofs.Common.{block_room, front_room, item_needs, items
 use Rattle.segment_dump.proofs.Common.{dump_text, end_text, items_text}
 use Rattle.std.specs.Prelude.{OnErr}
 use Rattle.segment_manager.specs.Calls.{Creates}
-use Rattle.segment_manager.specs.Resized.{Resizes}
+use Rattle.segment_manager.specs.blocks.Resized.{Resizes}
 use Rattle.segment_dump.specs.Comparing.{IsNoDumpOf}
 use Rattle.segment_dump.specs.Succeeding.{IsSized, Judges, MakesObjects, Sizes, SucceedsOf, Trims, site_of, trimmed}
 use Rattle.segment_dump.proofs.Buildables.{needs-all, portable-left}

@@ -5,8 +5,8 @@ use Rattle.segment_dump.proofs.Common.{kind_of, IsLocated, Answers, State, Stand
 use Rattle.segment_dump.proofs.Common.{content_of, count_of_content, count_at, lines_at, object_lines, part_of}
 use Rattle.segment_dump.proofs.Common.{parts_until, content_text, pair_line}
 use Rattle.seg_types.specs.declared.kinds.Kind.TheVariants.{Map}
-use Rattle.segment_manager.specs.declared.targets.Object.{Object as Located}
-use Rattle.segment_manager.specs.Walks.{pairs_of}
+use Rattle.segment_manager.specs.declared.objects.targets.Object.{Object as Located}
+use Rattle.segment_manager.specs.containers.Walks.{pairs_of}
 use Rattle.segment_dump.specs.Asked.{number_line}
 use Rattle.segment_dump.proofs.Elements.{flat_map-made, length-made, count_of_object}
 use Rattle.segment_dump.proofs.PartLines.{parts-all}

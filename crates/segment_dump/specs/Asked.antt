@@ -11,7 +11,7 @@ use Rattle.segment_manager.specs.declared.modes.Mode.{Mode}
 use Rattle.segment_manager.specs.Answers.{Answer, Element, TextElement}
 use Rattle.segment_manager.specs.Directory.{Directory}
 use Rattle.segment_manager.specs.Step.{step, step_of_kind}
-use Rattle.segment_manager.specs.Walks.{Item, pairs_at}
+use Rattle.segment_manager.specs.containers.Walks.{Item, pairs_at}
 use Rattle.segment_dump.specs.Parts.{part_of}
 use Rattle.segment_dump.specs.Texts.{element_line, pair_line, text_lines}
 

@@ -1,5 +1,6 @@
 -- What the calls promise that make a segment of a dump, where nothing is lacking for its objects.
-use Rattle.std.specs.Prelude.{◌≡◌, ◌<◌, ◌≤◌, ◌+◌, ◌^◌, ⊤, ℕ, Bool, true, List, [], ◌∷◌, ◌++◌, codes, decimal, Option, Some, None, Result, Ok, length, MatchResult}
+use Rattle.std.specs.Prelude.{◌≡◌, ◌<◌, ◌≤◌, ◌+◌, ◌^◌, ⊤, ℕ, Bool, true, List, [], ◌∷◌, ◌++◌, codes, decimal, Option}
+use Rattle.std.specs.Prelude.{Some, None, Result, Ok, length, MatchResult}
 use Rattle.std.specs.List.{AllByRecursion}
 use Rattle.best_fit.specs.Extents.{free_bytes}
 use Rattle.seg_types.specs.declared.kinds.Class.{Class}
@@ -8,7 +9,7 @@ use Rattle.segment_lang.specs.Tokens.{next_word}
 use Rattle.segment_lang.specs.Words.{Bare}
 use Rattle.segment_manager.specs.declared.modes.Mode.TheVariants.{Write}
 use Rattle.segment_manager.specs.Directory.{Directory, empty, live}
-use Rattle.segment_manager.specs.Resized.{shrunk}
+use Rattle.segment_manager.specs.blocks.Resized.{shrunk}
 use Rattle.segment_manager.specs.State.{State, StandsFor}
 use Rattle.segment_dump.specs.declared.counting.Count.{Count}
 use Rattle.segment_dump.specs.declared.counting.Front.{Front}

@@ -2,9 +2,9 @@
 ghost use Rattle.std.specs.Prelude.{◌≡◌, ◌-◌, ◌^◌, ◌<◌, ◌++◌};
 ghost use Rattle.raw_region.specs.Device.{Writes};
 ghost use Rattle.seg_types.specs.Names.{ByHandle};
-ghost use Rattle.segment_manager.specs.Contents.{sizes_at};
-ghost use Rattle.segment_manager.specs.Instances.{SaysOf};
-ghost use Rattle.segment_manager.specs.Located.{IsLocated, IsObject};
+ghost use Rattle.segment_manager.specs.containers.Contents.{sizes_at};
+ghost use Rattle.segment_manager.specs.objects.Instances.{SaysOf};
+ghost use Rattle.segment_manager.specs.objects.Located.{IsLocated, IsObject};
 ghost use Rattle.segment_manager.specs.State.{Answers};
 ghost use Rattle.segment_dump.specs.Capacities.{Holds, capacities, capacities_text, capacity_note, index_notes};
 ghost use Rattle.segment_dump.specs.Capacities.{measured_places, notes_at, places_at};

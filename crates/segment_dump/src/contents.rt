@@ -3,8 +3,8 @@ ghost use Rattle.std.specs.Prelude.{◌≡◌, ◌-◌, ◌^◌, ◌<◌, ◌∷
 ghost use Rattle.seg_types.specs.Commands.{Get};
 ghost use Rattle.seg_types.specs.Names.{ByHandle};
 ghost use Rattle.segment_manager.specs.Calls.{HasScalars};
-ghost use Rattle.segment_manager.specs.Contents.{bytes_at, sizes_at};
-ghost use Rattle.segment_manager.specs.Located.{IsLocated, IsObject};
+ghost use Rattle.segment_manager.specs.containers.Contents.{bytes_at, sizes_at};
+ghost use Rattle.segment_manager.specs.objects.Located.{IsLocated, IsObject};
 ghost use Rattle.segment_manager.specs.State.{Answers};
 ghost use Rattle.segment_manager.specs.Step.{step};
 ghost use Rattle.segment_dump.specs.Owed.{WritesOf, count_at, lines_at};

@@ -3,7 +3,7 @@ ghost use Rattle.std.specs.Prelude.{◌≡◌, ◌-◌, ◌^◌, ◌<◌};
 ghost use Rattle.std.specs.List.{flat_map};
 ghost use Rattle.seg_types.specs.Names.{ByHandle};
 ghost use Rattle.segment_manager.specs.Directory.{named_objects, object_at, unique_objects};
-ghost use Rattle.segment_manager.specs.Instances.{SaysOf};
+ghost use Rattle.segment_manager.specs.objects.Instances.{SaysOf};
 ghost use Rattle.segment_dump.specs.Items.{anonymous_objects};
 ghost use Rattle.segment_dump.specs.Owed.{WritesOf, where_anonymous};
 ghost use Rattle.segment_dump.specs.Parts.{part_of};

@@ -1,5 +1,6 @@
 -- A segment with the path of its file: what the disk is asked, in order, and what becomes of the segment.
-use Rattle.std.specs.Prelude.{◌≡◌, ◌≢◌, ◌⊎◌, ◌≤◌, ◌<◌, ℕ, ◌+◌, ◌%◌, false, List, [], ◌∷◌, length, IsTrue, string_bytes, Option, Some, None, Result, Ok, Err, IfErr, MatchResult}
+use Rattle.std.specs.Prelude.{◌≡◌, ◌≢◌, ◌⊎◌, ◌≤◌, ◌<◌, ℕ, ◌+◌, ◌%◌, false, List, [], ◌∷◌, length, IsTrue, string_bytes}
+use Rattle.std.specs.Prelude.{Option, Some, None, Result, Ok, Err, IfErr, MatchResult}
 use Rattle.raw_region.specs.Device.{Given}
 use Rattle.raw_region.specs.Format.{current}
 use Rattle.block_tags.specs.Format.{is_legal_size}
@@ -7,24 +8,26 @@ use Rattle.segment_manager.specs.declared.modes.Mode.{Mode}
 use Rattle.segment_manager.specs.declared.modes.Mode.TheVariants.{Write, ReadOnly}
 use Rattle.segment_manager.specs.Calls.{IsCreated}
 use Rattle.segment_manager.specs.Directory.{Directory}
-use Rattle.segment_manager.specs.Resized.{Resizes}
+use Rattle.segment_manager.specs.blocks.Resized.{Resizes}
 use Rattle.segment_manager.specs.State.{State, StandsFor}
 use Rattle.segment_manager.specs.Step.{is_read_only}
 use Rattle.image_check.specs.declared.errors.OpenError.{OpenError}
-use Rattle.image_check.specs.declared.errors.OpenError.TheVariants.{Image as NoImage, RegionTooSmall as NoRoom, OutOfMemory as NoMemory, ReadFault as NotRead}
+use Rattle.image_check.specs.declared.errors.OpenError.TheVariants.{Image as NoImage, RegionTooSmall as NoRoom}
+use Rattle.image_check.specs.declared.errors.OpenError.TheVariants.{OutOfMemory as NoMemory, ReadFault as NotRead}
 use Rattle.image_check.specs.declared.errors.OpenRefused.{OpenRefused}
-use Rattle.image_check.specs.Opening.{Opens}
+use Rattle.image_check.specs.Opening.{Opens, IsUntouched}
 use Rattle.image_check.specs.OpeningAny.{OpensAny}
 use Rattle.grow_shrink.specs.declared.refusals.GrowError.{GrowError}
 use Rattle.grow_shrink.specs.Resized.{grown, growth_refusal, room_of, shrink_refusal, shrunk}
-use Rattle.image_check.specs.Opening.{IsUntouched}
 use Rattle.segment_disk.specs.declared.presence.Making.{Making}
 use Rattle.segment_disk.specs.declared.presence.Making.TheVariants.{New, Emptied}
 use Rattle.segment_disk.specs.declared.presence.Presence.{Presence}
 use Rattle.segment_disk.specs.declared.presence.Presence.TheVariants.{Absent, There}
 use Rattle.segment_disk.specs.Events.{Event, Looked, Held, After}
 use Rattle.segment_file.specs.declared.file_errors.FileError.{FileError}
-use Rattle.segment_file.specs.declared.file_errors.FileError.TheVariants.{Exists, BadSize, Image, RegionTooSmall, OutOfMemory, ReadFault, WriteFault, InUse, WrongMode, Growth}
+use Rattle.segment_file.specs.declared.file_errors.FileError.TheVariants.{Exists, BadSize, Image, RegionTooSmall}
+use Rattle.segment_file.specs.declared.file_errors.FileError.TheVariants.{OutOfMemory, ReadFault, WriteFault, InUse}
+use Rattle.segment_file.specs.declared.file_errors.FileError.TheVariants.{WrongMode, Growth}
 use Rattle.segment_file.specs.declared.segment_files.SegmentFile.{SegmentFile}
 use Rattle.segment_file.specs.Files.{WritesImage, opens, does_not_open}
 use Rattle.segment_file.specs.Holding.{IsHolding}

@@ -5,7 +5,8 @@ use Rattle.segment_manager.proofs.Common.{is_proper, released, LaysOut, live_of,
 use Rattle.segment_manager.proofs.Common.{IsReleased, ByHandle, Object, Directory, live, value_extents, has_key}
 use Rattle.segment_manager.proofs.Common.{without_object, Denotes, IsObjectAt, lay_out_one, list_any-insert, Anonymous}
 use Rattle.segment_manager.proofs.{Common.extents_of, Common.[], Common.◌∷◌, Order.inserted, Live.IsFound, Live.IsIn}
-use Rattle.segment_manager.proofs.{Live.live-split, Live.removing, ObjectLists.all-found, Denoted.denotes-without}
+use Rattle.segment_manager.proofs.{Live.live-split, Live.removing, objects.ObjectLists.all-found}
+use Rattle.segment_manager.proofs.{Denoted.denotes-without}
 
 -- ---- objects are live blocks
 

@@ -3,7 +3,7 @@ use Rattle.segment_manager.proofs.Common.{◌≡◌, refl, sym, ℤ, true, Some,
 use Rattle.segment_manager.proofs.Common.{U8, Kind, Scalar, Vector, Map, code_of, kind_of_code, same_kind, scalar_code}
 use Rattle.segment_manager.proofs.Common.{Value, Numbers, kind_of, IsTrue, current, is_kind_of}
 use Rattle.seg_types.specs.declared.kinds.ScalarKind.TheVariants.{I32, I64, U64}
-use Rattle.segment_manager.proofs.Heads.{scalar-small}
+use Rattle.segment_manager.proofs.objects.Heads.{scalar-small}
 
 -- ---- codes are read
 

@@ -103,17 +103,18 @@ pub use Rattle.seg_index.specs.declared.keys.Key.TheVariants.{Code, Name}
 pub use Rattle.seg_index.specs.declared.keys.Lookup.TheVariants.{Absent, Found}
 pub use Rattle.segment_manager.specs.Answers.{Answer, Done, Element, Made, Number, Refused, TextElement, Truth}
 pub use Rattle.segment_manager.specs.Answers.{is_untouched, refusal_of}
-pub use Rattle.segment_manager.specs.Begun.{Begins, IsAbsentAt, IsBegun, IsBegunAlone, IsBegunEntry, IsHeaded, IsLoose}
-pub use Rattle.segment_manager.specs.Begun.{IsLooseAlone, IsLooseEntry, IsNotBegun, IsReadyFor, IsTakenKey, IsWanted}
-pub use Rattle.segment_manager.specs.Begun.{LeadsThere}
+pub use Rattle.segment_manager.specs.objects.Begun.{Begins, IsAbsentAt, IsBegun, IsBegunAlone, IsBegunEntry, IsHeaded}
+pub use Rattle.segment_manager.specs.objects.Begun.{IsLoose, IsLooseAlone, IsLooseEntry, IsNotBegun, IsReadyFor}
+pub use Rattle.segment_manager.specs.objects.Begun.{IsTakenKey, IsWanted, LeadsThere}
 pub use Rattle.segment_manager.specs.Calls.{IsTileOfIndex, elements_at, elements_of, kind_at}
-pub use Rattle.segment_manager.specs.Changeable.{IsChangeable, IsToChange, IsUnchangeable, IsValueOf}
-pub use Rattle.segment_manager.specs.Contents.{Contents, IsRefilled, are_bytes, bytes_at}
-pub use Rattle.segment_manager.specs.Contents.{container_at, container_place, contents_of, has_values, place_of_kind}
-pub use Rattle.segment_manager.specs.Contents.{has_sizes, has_storage, sizes_at, sizes_at_kind, sizes_of, sizes_of_kind}
+pub use Rattle.segment_manager.specs.containers.Changeable.{IsChangeable, IsToChange, IsUnchangeable, IsValueOf}
+pub use Rattle.segment_manager.specs.containers.Contents.{Contents, IsRefilled, are_bytes, bytes_at, container_at}
+pub use Rattle.segment_manager.specs.containers.Contents.{container_place, contents_of, has_values, place_of_kind}
+pub use Rattle.segment_manager.specs.containers.Contents.{has_sizes, has_storage, sizes_at, sizes_at_kind, sizes_of}
+pub use Rattle.segment_manager.specs.containers.Contents.{sizes_of_kind}
 pub use Rattle.segment_manager.specs.Denotes.{Denotes, IsHeader, IsObjectAt, IsValueAt, handles, padded_name}
 pub use Rattle.segment_manager.specs.Denotes.{two_halves}
-pub use Rattle.segment_manager.specs.Destroyed.{Becomes, Empties, HoldsObject, emptied}
+pub use Rattle.segment_manager.specs.objects.Destroyed.{Becomes, Empties, HoldsObject, emptied}
 pub use Rattle.segment_manager.specs.Directory.{Bytes, Directory, Elements, IsDirectory, Numbers, Object, Pairs, Texts}
 pub use Rattle.segment_manager.specs.Directory.{Value, by_kind, by_name, count_of, empty, extents_of, has_good_name}
 pub use Rattle.segment_manager.specs.Directory.{has_key, has_own_block, insert_by, is_class, is_good_value, is_index}
@@ -122,31 +123,32 @@ pub use Rattle.segment_manager.specs.Directory.{padded, put_object, remove_objec
 pub use Rattle.segment_manager.specs.Directory.{same_bytes, sorted, table_extents, unique_objects, value_extents}
 pub use Rattle.segment_manager.specs.Directory.{value_len, with_changed, with_object, without_object}
 unfoldable pub use Rattle.segment_manager.specs.Directory.{live}
-pub use Rattle.segment_manager.specs.ElementLists.{first_size, length_at_kind, number_or_none}
-pub use Rattle.segment_manager.specs.Filled.{Constructs, FindsOrConstructs, IsBegunFor, IsDenied, IsGiven, IsMadeValue}
-pub use Rattle.segment_manager.specs.Filled.{IsNoValue, MakesValue, with_count}
-pub use Rattle.segment_manager.specs.Found.{IsBelow, handle_at, is_object_at, pair_answer}
-pub use Rattle.segment_manager.specs.Heads.{IsEntry}
-pub use Rattle.segment_manager.specs.Indexed.{Seeks, class_of_index, entries_of, objects_of, order_of, reserve_of}
-pub use Rattle.segment_manager.specs.Indexed.{table_of, with_table_of}
-pub use Rattle.segment_manager.specs.Instances.{IsInstance, IsMissing, SaysAt, SaysOf}
-pub use Rattle.segment_manager.specs.Items.{TakesItems}
-pub use Rattle.segment_manager.specs.Iterating.{GoesOn, GoesOnNames, NameWalk, Walk, is_own, is_own_span, own_spans}
+pub use Rattle.segment_manager.specs.objects.ElementLists.{first_size, length_at_kind, number_or_none}
+pub use Rattle.segment_manager.specs.containers.Filled.{Constructs, FindsOrConstructs, IsBegunFor, IsDenied, IsGiven}
+pub use Rattle.segment_manager.specs.containers.Filled.{IsMadeValue, IsNoValue, MakesValue, with_count}
+pub use Rattle.segment_manager.specs.objects.Found.{IsBelow, handle_at, is_object_at, pair_answer}
+pub use Rattle.segment_manager.specs.objects.Heads.{IsEntry}
+pub use Rattle.segment_manager.specs.indexes.Indexed.{Seeks, class_of_index, entries_of, objects_of, order_of}
+pub use Rattle.segment_manager.specs.indexes.Indexed.{reserve_of, table_of, with_table_of}
+pub use Rattle.segment_manager.specs.objects.Instances.{IsInstance, IsMissing, SaysAt, SaysOf}
+pub use Rattle.segment_manager.specs.objects.Items.{TakesItems}
+pub use Rattle.segment_manager.specs.indexes.Iterating.{GoesOn, GoesOnNames, NameWalk, Walk, is_own, is_own_span}
+pub use Rattle.segment_manager.specs.indexes.Iterating.{own_spans}
 pub use Rattle.segment_manager.specs.Keeping.{HasPlaces, KeepsWhere, LacksKey}
 pub use Rattle.segment_manager.specs.Layout.{head_len}
-pub use Rattle.segment_manager.specs.Listed.{HasEntries, HasEntry, IsAnonymousAt, IsListed}
-pub use Rattle.segment_manager.specs.Located.{IsLocated}
-pub use Rattle.segment_manager.specs.Maps.{HasPairs, ReleasesPairs, map_at, numbers_in, numbers_of, pair_above}
-pub use Rattle.segment_manager.specs.Maps.{pair_at_end, pair_below, pair_from, pair_up_to, told_of, told_of_map}
-pub use Rattle.segment_manager.specs.Maps.{value_or_absent}
-pub use Rattle.segment_manager.specs.NewObjects.{IsNewKeyOf, IsOfKind, IsRequested, IsRestored, IsUnmet}
+pub use Rattle.segment_manager.specs.indexes.Listed.{HasEntries, HasEntry, IsAnonymousAt, IsListed}
+pub use Rattle.segment_manager.specs.objects.Located.{IsLocated}
+pub use Rattle.segment_manager.specs.containers.Maps.{HasPairs, ReleasesPairs, map_at, numbers_in, numbers_of}
+pub use Rattle.segment_manager.specs.containers.Maps.{pair_above, pair_at_end, pair_below, pair_from, pair_up_to}
+pub use Rattle.segment_manager.specs.containers.Maps.{told_of, told_of_map, value_or_absent}
+pub use Rattle.segment_manager.specs.objects.NewObjects.{IsNewKeyOf, IsOfKind, IsRequested, IsRestored, IsUnmet}
 pub use Rattle.segment_manager.specs.Plan.{Need, New, Plan, Refuse, Regrown as RegrownNeed, Reply, Request, bare}
 pub use Rattle.segment_manager.specs.Plan.{class_of, met, name_of, perform, with, with_capacity, with_entry}
 pub use Rattle.segment_manager.specs.Plan.{with_new_index, with_new_object, with_owned_text, with_owned_texts}
 pub use Rattle.segment_manager.specs.Plan.{with_place, with_storage, with_value}
-pub use Rattle.segment_manager.specs.Resized.{Resizes, grown, shrunk}
-pub use Rattle.segment_manager.specs.Standing.{HasObject, IsHeadAt, IsHeadOf, StandsAt, pair_of_kind, repeated}
-pub use Rattle.segment_manager.specs.Standing.{room_for}
+pub use Rattle.segment_manager.specs.blocks.Resized.{Resizes, grown, shrunk}
+pub use Rattle.segment_manager.specs.objects.Standing.{HasObject, IsHeadAt, IsHeadOf, StandsAt, pair_of_kind, repeated}
+pub use Rattle.segment_manager.specs.objects.Standing.{room_for}
 pub use Rattle.segment_manager.specs.State.{Answers, IsReply, IsReplyOfKind, IsSegment, IsStep, IsStepOfKind}
 pub use Rattle.segment_manager.specs.State.{KeepsRefused, LeadsOn, Moves, StandsFor, State, Stays, answer_of}
 pub use Rattle.segment_manager.specs.State.{done_answer, handle_answer, refusal_in, scalar_answer, truth_answer}
@@ -155,18 +157,18 @@ pub use Rattle.segment_manager.specs.Step.{and_then, changed, effect, element_at
 pub use Rattle.segment_manager.specs.Step.{map_of, pair_of, plan, set, storage_of, texts_of, values_of, with_items}
 pub use Rattle.segment_manager.specs.Step.{with_table}
 unfoldable pub use Rattle.segment_manager.specs.Step.{step, step_of_kind}
-pub use Rattle.segment_manager.specs.Stored.{AnswersSafely, HasEnough, StepsSafely, command_of}
-pub use Rattle.segment_manager.specs.TextLists.{LeadsOnOfKind}
-pub use Rattle.segment_manager.specs.ToChange.{IsNotToChange}
-pub use Rattle.segment_manager.specs.Walks.{IsMap, first_of, item_of_kinds, item_seen, pairs_at, pairs_of}
-pub use Rattle.segment_manager.specs.declared.beginning.NewEntry.{NewEntry}
-pub use Rattle.segment_manager.specs.declared.head.Head.{Head}
+pub use Rattle.segment_manager.specs.containers.Stored.{AnswersSafely, HasEnough, StepsSafely, command_of}
+pub use Rattle.segment_manager.specs.containers.TextLists.{LeadsOnOfKind}
+pub use Rattle.segment_manager.specs.containers.ToChange.{IsNotToChange}
+pub use Rattle.segment_manager.specs.containers.Walks.{IsMap, first_of, item_of_kinds, item_seen, pairs_at, pairs_of}
+pub use Rattle.segment_manager.specs.declared.objects.beginning.NewEntry.{NewEntry}
+pub use Rattle.segment_manager.specs.declared.objects.head.Head.{Head}
 pub use Rattle.segment_manager.specs.declared.modes.Mode.{Mode}
 pub use Rattle.segment_manager.specs.declared.modes.Mode.TheVariants.{CopyOnWrite, Write}
-pub use Rattle.segment_manager.specs.declared.storages.Change.{Change}
-pub use Rattle.segment_manager.specs.declared.storages.Change.TheVariants.{Clear, Reserve, Shrink}
-pub use Rattle.segment_manager.specs.declared.targets.Object.{Object as Located}
-pub use Rattle.segment_manager.specs.declared.telling.Instance.{Instance}
+pub use Rattle.segment_manager.specs.declared.containers.storages.Change.{Change}
+pub use Rattle.segment_manager.specs.declared.containers.storages.Change.TheVariants.{Clear, Reserve, Shrink}
+pub use Rattle.segment_manager.specs.declared.objects.targets.Object.{Object as Located}
+pub use Rattle.segment_manager.specs.declared.objects.telling.Instance.{Instance}
 
 -- what the exit of a `?` returns is the error that it met
 pub exit-is : {T E : Type 0} (r : Result T E) (why : E) → IsErrAnd r (λ e. e ≡ why) → r ≡ Err why

@@ -11,11 +11,11 @@ use Rattle.segment_manager.proofs.Order.{Differs, inserted, live-rises, rising-i
 use Rattle.segment_manager.proofs.Live.{adding, removing, of_each, IsFound, IsIn, live-put, live-without}
 use Rattle.segment_manager.proofs.Faces.{IsLike, replace-rises, anonymous-named, anonymous-unique, ordered-with}
 use Rattle.segment_manager.proofs.Faces.{ordered-without, ordered-changed, by_name-face, by_kind-face}
-use Rattle.segment_manager.proofs.ObjectLists.{all-put, all-remove, all-replace, list_all-put, list_all-remove}
-use Rattle.segment_manager.proofs.ObjectLists.{list_all-replace, stands_apart, put-rises, remove-rises}
+use Rattle.segment_manager.proofs.objects.ObjectLists.{all-put, all-remove, all-replace, list_all-put, list_all-remove}
+use Rattle.segment_manager.proofs.objects.ObjectLists.{list_all-replace, stands_apart, put-rises, remove-rises}
 use Rattle.segment_manager.proofs.Words.{first, second, no_more}
 use Rattle.segment_manager.proofs.Frame.{any_objects-same, any_index-same, header-same}
-use Rattle.segment_manager.proofs.{Indexes.directory-less}
+use Rattle.segment_manager.proofs.{indexes.Indexes.directory-less}
 use Rattle.block_tags.specs.declared.tile.Role.TheVariants.{Index}
 use Rattle.seg_types.specs.declared.kinds.Class.TheVariants.{Named, Unique}
 

@@ -3,11 +3,12 @@
 
 -- the object of a key, by its kind: the step of the kind is the command's, and where there is no object the command is
 -- refused
-pub use Rattle.segment_manager.proofs.AnyStorage.{IsOfKindAt, of_kind-steps}
+pub use Rattle.segment_manager.proofs.containers.AnyStorage.{IsOfKindAt, of_kind-steps}
 pub use Rattle.segment_manager.proofs.Steps.{step_of_kind-step, with-found, with-not_found}
 -- two commands with one plan, and a plan that comes to a refusal
-pub use Rattle.segment_manager.proofs.Refilled.{same_plan-steps}
+pub use Rattle.segment_manager.proofs.containers.Refilled.{same_plan-steps}
 -- the literal of a value is read as the value
-pub use Rattle.segment_manager.proofs.Stored.{literal-read, literals-read}
+pub use Rattle.segment_manager.proofs.objects.Stored.{literal-read, literals-read}
 -- the plans of the commands on a vector or a text, and on an object that is neither
-pub use Rattle.segment_manager.proofs.ContentPlans.{append-other, assign-plan, assign-refused, text-plan, text-refused}
+pub use Rattle.segment_manager.proofs.containers.ContentPlans.{append-other, assign-plan, assign-refused, text-plan}
+pub use Rattle.segment_manager.proofs.containers.ContentPlans.{text-refused}

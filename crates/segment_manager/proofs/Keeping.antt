@@ -1,7 +1,8 @@
 -- What calls on keys leave to the last byte, as the code makes them.
 use Rattle.segment_manager.proofs.Common.{◌≡◌, sym, subst, ◌∙◌, ℕ, none-some, Key, Index, Entry, Found, Seeks}
 use Rattle.segment_manager.proofs.Common.{entries_of, table_of, KeepsWhere, LacksKey}
-use Rattle.segment_manager.proofs.{Common.State, Bridge.lookup-found, Destroys.Ends, HeldIndexes.denotes-index}
+use Rattle.segment_manager.proofs.{Common.State, indexes.Bridge.lookup-found, objects.Destroys.Ends}
+use Rattle.segment_manager.proofs.{indexes.HeldIndexes.denotes-index}
 
 -- a look-up that found an entry: an object has the key
 pub keeps-found : {s t : State} (view : s ≡ t) {new : State} (i : Index) (e : Entry) (at : ℕ)

@@ -3,8 +3,8 @@ use Rattle.segment_manager.proofs.Common.{◌≡◌, ℕ, zero, suc, ◌+◌, Li
 use Rattle.segment_manager.proofs.Common.{refl, sym, ap, ◌∙◌, arith, option_map, Map, ScalarKind, ScalarValue, ByHandle}
 use Rattle.segment_manager.proofs.Common.{kind_of_scalar, value_of_scalar, NumberPair, item_of, Directory, pair_above}
 use Rattle.segment_manager.proofs.Common.{Answers, State, StandsFor, IsMap, first_of, item_of_kinds, item_seen}
-use Rattle.segment_manager.proofs.{Common.pairs_at, PairWalks.first-at, PairWalks.walk-next}
-use Rattle.segment_manager.specs.{Parts.part_of, Walks.Item}
+use Rattle.segment_manager.proofs.{Common.pairs_at, containers.PairWalks.first-at, containers.PairWalks.walk-next}
+use Rattle.segment_manager.specs.{Parts.part_of, containers.Walks.Item}
 
 -- the next pair is the one at a place
 abbrev pub IsNext : State → ℕ → ScalarKind → ScalarKind → Option (ScalarValue × ScalarValue) → ℕ → Type 0

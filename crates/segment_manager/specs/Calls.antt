@@ -21,7 +21,7 @@ use Rattle.segment_manager.specs.declared.modes.Mode.{Mode}
 use Rattle.segment_manager.specs.declared.errors.CreateError.{CreateError}
 use Rattle.segment_manager.specs.declared.errors.CreateError.TheVariants.{BadSize, RegionTooSmall}
 use Rattle.segment_manager.specs.declared.errors.CreateRefused.{CreateRefused}
-use Rattle.segment_manager.specs.declared.tiles.Span.{Span}
+use Rattle.segment_manager.specs.declared.blocks.tiles.Span.{Span}
 use Rattle.segment_manager.specs.Layout.{header_len}
 use Rattle.segment_manager.specs.Directory.{Object, Directory, empty, kind_of, live, object_at}
 use Rattle.segment_manager.specs.Answers.{Answer, Refused}

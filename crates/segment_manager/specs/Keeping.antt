@@ -6,12 +6,12 @@ use Rattle.seg_types.specs.declared.kinds.ScalarKind.{ScalarKind}
 use Rattle.seg_types.specs.Kinds.{size_of}
 use Rattle.seg_types.specs.Names.{Key}
 use Rattle.seg_map.specs.Map.{pair_at}
-use Rattle.segment_manager.specs.Contents.{sizes_at}
+use Rattle.segment_manager.specs.containers.Contents.{sizes_at}
 use Rattle.seg_vector.specs.declared.places.Place.{Place}
 use Rattle.segment_manager.specs.Directory.{Object, Directory, object_at}
-use Rattle.segment_manager.specs.Standing.{place_at}
+use Rattle.segment_manager.specs.objects.Standing.{place_at}
 use Rattle.segment_manager.specs.State.{State, StandsFor}
-use Rattle.segment_manager.specs.Walks.{pairs_at}
+use Rattle.segment_manager.specs.containers.Walks.{pairs_at}
 
 -- the call changes nothing where this holds of the directory
 abbrev pub KeepsWhere : State → State → (Directory → Type 0) → Type 0

@@ -7,13 +7,13 @@ use Rattle.seg_types.specs.Names.{Key, ByHandle}
 use Rattle.seg_types.specs.Commands as asked
 use Rattle.seg_types.specs.Commands.{Command, NumNamed, NumUnique, Pop, is_changing}
 use Rattle.segment_manager.specs.declared.modes.Mode.{Mode}
-use Rattle.segment_manager.specs.declared.targets.Object.{Object as Located}
+use Rattle.segment_manager.specs.declared.objects.targets.Object.{Object as Located}
 use Rattle.segment_manager.specs.Directory.{Directory, named_objects, object_at, unique_objects}
 use Rattle.segment_manager.specs.Answers.{Answer, Number, Refused, TextElement, refusal_of}
 use Rattle.segment_manager.specs.Step.{step, step_of_kind, is_read_only}
 use Rattle.segment_manager.specs.State.{State, StandsFor, IsReply, IsStep, LeadsOn, answer_of, refusal_in}
-use Rattle.segment_manager.specs.Found.{IsBelow}
-use Rattle.segment_manager.specs.Located.{IsLocated}
+use Rattle.segment_manager.specs.objects.Found.{IsBelow}
+use Rattle.segment_manager.specs.objects.Located.{IsLocated}
 
 -- what is refused leaves the directory as it was; a segment that is open for reading refuses what may change it
 pub record IsSafe (mode : Mode) (d : Directory) (c : Command) : Type 0 where

@@ -4,8 +4,8 @@ use Rattle.seg_types.specs.declared.kinds.Kind.{Kind}
 use Rattle.seg_types.specs.Names.{Key}
 use Rattle.seg_types.specs.Commands as asked
 use Rattle.seg_types.specs.Commands.{Command}
-use Rattle.segment_manager.specs.declared.targets.Object.{Object as Located}
-use Rattle.segment_manager.specs.Located.{IsObject}
+use Rattle.segment_manager.specs.declared.objects.targets.Object.{Object as Located}
+use Rattle.segment_manager.specs.objects.Located.{IsObject}
 use Rattle.segment_manager.specs.Answers.{Answer}
 use Rattle.segment_manager.specs.State.{IsSegment, IsStep, IsStepOfKind, State}
 

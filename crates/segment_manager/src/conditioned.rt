@@ -2,10 +2,10 @@
 //! answers, the check of images, and the calls that change a segment's end. No program needs them, and `zaluxhoni` does
 //! not hand them on:
 //! each names, under `# Conditions`, the call that does the same without one.
-pub use crate::any_elements::set_any;
-pub use crate::finding::{named_at, unique_at};
+pub use crate::blocks::sizing::{cut_end, extend_end};
+pub use crate::blocks::tiles::next_tile;
+pub use crate::containers::any_elements::set_any;
+pub use crate::containers::walking_pairs::{first_pair, next_pair};
+pub use crate::objects::finding::{named_at, unique_at};
+pub use crate::objects::telling::{named_instance, unique_instance};
 pub use crate::segment::adopt;
-pub use crate::sizing::{cut_end, extend_end};
-pub use crate::telling::{named_instance, unique_instance};
-pub use crate::tiles::next_tile;
-pub use crate::walking_pairs::{first_pair, next_pair};

@@ -1,8 +1,9 @@
 //! What holds of every command, whatever the segment holds. Each function here does nothing: its contract is the law.
 ghost use Rattle.std.specs.Prelude.{◌≡◌};
 ghost use Rattle.raw_region.specs.Format.{current};
-ghost use Rattle.segment_manager.specs.{Denotes.magic_number, Denotes.two_halves, Entries.IndexesFollowObjects};
-ghost use Rattle.segment_manager.specs.{Heads.EntriesSayObjects, OwnedTexts.TextsArePlaced, Staying.ObjectsStay};
+ghost use Rattle.segment_manager.specs.{Denotes.magic_number, Denotes.two_halves, indexes.Entries.IndexesFollowObjects};
+ghost use Rattle.segment_manager.specs.{objects.Heads.EntriesSayObjects, containers.OwnedTexts.TextsArePlaced};
+ghost use Rattle.segment_manager.specs.{Staying.ObjectsStay};
 ghost use Rattle.segment_manager.specs.Laws.{CountedAreBelow, HandlesMeanObjects, KeysMeanObjects};
 ghost use Rattle.segment_manager.specs.Laws.{KeysOfKindMeanObjects, ReadsChangeNothing, ReadsOfKindChangeNothing};
 ghost use Rattle.segment_manager.specs.Laws.{PoppedTextsLeadOn, RefusalsChangeNothing, RefusalsOfKindChangeNothing};

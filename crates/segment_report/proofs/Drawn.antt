@@ -1,21 +1,24 @@
 -- The blocks and gaps of a segment lie in it, and what is written of each in its picture.
-use Rattle.std.proofs.Common.{◌≡◌, ℕ, zero, suc, ◌+◌, ◌-◌, ◌^◌, ◌<◌, ◌≤◌, Bool, true, false, List, [], ◌∷◌, ◌++◌, nat_lt, if◌then◌else◌, Some, None, slice_get, refl, sym, ap, subst, ◌∙◌, arith}
+use Rattle.std.proofs.Common.{◌≡◌, ℕ, zero, suc, ◌+◌, ◌-◌, ◌^◌, ◌<◌, ◌≤◌, Bool, true, false, List, [], ◌∷◌, ◌++◌}
+use Rattle.std.proofs.Common.{nat_lt, if◌then◌else◌, Some, None, slice_get, refl, sym, ap, subst, ◌∙◌, arith}
 use Rattle.std.specs.Prelude.{IsTrue, codes}
 use Rattle.std.specs.List.{AllByRecursion}
 use Rattle.std.proofs.lemmas.Bool.{and_parts, ltb-true}
 use Rattle.block_tags.specs.Format.{is_legal_size}
-use Rattle.best_fit.specs.Extents.{Extent, LiveSet, Span, end_of, free_bytes, is_proper, proper_from, span_between, spans, spans_from}
+use Rattle.best_fit.specs.Extents.{Extent, LiveSet, Span, end_of, free_bytes, is_proper, proper_from, span_between}
+use Rattle.best_fit.specs.Extents.{spans, spans_from}
 use Rattle.best_fit.proofs.Laws.{legal_size, proper_from-IsFirst, proper_from-reaches}
 use Rattle.seg_types.specs.Commands.{Free, Size}
 use Rattle.seg_types.specs.Names.{ByHandle}
-use Rattle.segment_manager.specs.declared.telling.Instance.{Instance}
+use Rattle.segment_manager.specs.declared.objects.telling.Instance.{Instance}
 use Rattle.segment_manager.specs.Answers.{Number}
 use Rattle.segment_manager.specs.Directory.{Directory, live, object_at}
-use Rattle.segment_manager.specs.Instances.{IsMissing, SaysOf}
+use Rattle.segment_manager.specs.objects.Instances.{IsMissing, SaysOf}
 use Rattle.segment_manager.specs.State.{IsReply, IsSegment, State, StandsFor}
 use Rattle.segment_manager.proofs.Laws.{AllByRecursion-append, live-size}
 use Rattle.seg_types.specs.declared.refusals.Refusal.{Refusal}
-use Rattle.segment_report.specs.Picture.{HasScale, bytes_in_row, called, head_text, label_text, object_in, object_label, shape_text, sort_of, span_text}
+use Rattle.segment_report.specs.Picture.{HasScale, bytes_in_row, called, head_text, label_text, object_in, object_label}
+use Rattle.segment_report.specs.Picture.{shape_text, sort_of, span_text}
 use Rattle.segment_report.proofs.Replies.{free_is, size_is}
 
 -- ---- where they lie

@@ -13,7 +13,7 @@ use Rattle.seg_types.specs.Commands as asked
 use Rattle.seg_types.proofs.Laws.{scalar_of-kind, scalar_of-value}
 use Rattle.segment_lang.specs.Arguments.{Written, scalars_in}
 use Rattle.segment_manager.specs.State.{IsStep, KeepsRefused, State, handle_answer}
-use Rattle.segment_manager.specs.Items.{TakesItems}
+use Rattle.segment_manager.specs.objects.Items.{TakesItems}
 use Rattle.segment_manager.proofs.CommandLaws.{array-refused, array-step, taken-front}
 use Rattle.segment_scripts.specs.Replies.{IsMeant}
 

@@ -1,5 +1,6 @@
 -- Commands on elements as a line writes them: which call is the step of the command, by the kind of the object.
-use Rattle.std.proofs.Common.{◌≡◌, refl, sym, ap, subst, ◌∙◌, ℕ, ℤ, Bool, true, false, ◌&&◌, Option, Some, None, Ok, Err, List, ◌∷◌, [], map, if◌then◌else◌}
+use Rattle.std.proofs.Common.{◌≡◌, refl, sym, ap, subst, ◌∙◌, ℕ, ℤ, Bool, true, false, ◌&&◌, Option, Some, None, Ok}
+use Rattle.std.proofs.Common.{Err, List, ◌∷◌, [], map, if◌then◌else◌}
 use Rattle.std.specs.Prelude.{IsTrue}
 use Rattle.std.specs.List.{list_all}
 use Rattle.best_fit.specs.Table.{Table}
@@ -12,14 +13,17 @@ use Rattle.seg_types.specs.Names.{Key}
 use Rattle.seg_types.specs.Commands as asked
 use Rattle.seg_types.specs.Commands.{Literal, literal_of}
 use Rattle.segment_manager.specs.declared.modes.Mode.{Mode}
-use Rattle.segment_manager.specs.declared.targets.Object.{Object as Located}
+use Rattle.segment_manager.specs.declared.objects.targets.Object.{Object as Located}
 use Rattle.segment_manager.specs.Answers.{Answer, Refused}
-use Rattle.segment_manager.specs.Directory.{Value, Numbers, Elements, Bytes, Pairs, Texts, Object, Directory, kind_of, live, object_at}
+use Rattle.segment_manager.specs.Directory.{Value, Numbers, Elements, Bytes, Pairs, Texts, Object, Directory, kind_of}
+use Rattle.segment_manager.specs.Directory.{live, object_at}
 use Rattle.segment_manager.specs.Plan.{Plan, Refuse, perform, with}
 use Rattle.segment_manager.specs.State.{IsStep, IsStepOfKind, State, StandsFor}
 use Rattle.segment_manager.specs.Step as step
 use Rattle.segment_manager.specs.Step.{effect, found_at, is_read_only, step_of_kind, text_among, text_of, values_of}
-use Rattle.segment_manager.proofs.ElementLaws.{IsOfKindAt, append-other, assign-plan, assign-refused, literals-read, of_kind-steps, same_plan-steps, text-plan, text-refused, with-found, with-not_found}
+use Rattle.segment_manager.proofs.ElementLaws.{IsOfKindAt, append-other, assign-plan, assign-refused, literals-read}
+use Rattle.segment_manager.proofs.ElementLaws.{of_kind-steps, same_plan-steps, text-plan, text-refused, with-found}
+use Rattle.segment_manager.proofs.ElementLaws.{with-not_found}
 use Rattle.segment_manager.proofs.CommandLaws.{IsElements, refuses, says-kind, told, vector-if}
 use Rattle.segment_scripts.specs.Changes.{IsChangeable, IsToChange}
 

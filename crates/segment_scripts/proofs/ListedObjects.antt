@@ -1,16 +1,17 @@
 -- The lines of objects in a listing.
-use Rattle.std.proofs.Common.{◌≡◌, ℕ, List, [], ◌∷◌, ◌++◌, length, Option, Some, None, Result, Ok, Err, refl, sym, ap, ◌∙◌}
+use Rattle.std.proofs.Common.{◌≡◌, ℕ, List, [], ◌∷◌, ◌++◌, length, Option, Some, None, Result, Ok, Err, refl, sym, ap}
+use Rattle.std.proofs.Common.{◌∙◌}
 use Rattle.seg_types.specs.declared.kinds.Kind.TheVariants.{Map}
 use Rattle.seg_types.specs.declared.kinds.ScalarKind.{ScalarKind}
 use Rattle.seg_types.specs.declared.refusals.Refusal.{Refusal}
 use Rattle.seg_types.specs.Names.{Key}
 use Rattle.segment_lang.specs.Texts.{kind_text, name_text, number_text}
-use Rattle.segment_manager.specs.declared.telling.Instance.{Instance}
+use Rattle.segment_manager.specs.declared.objects.telling.Instance.{Instance}
 use Rattle.segment_manager.specs.Answers.{Refused}
 use Rattle.segment_manager.specs.Directory.{Value, Numbers, Elements, Bytes, Pairs, Texts, Object, Directory, kind_of}
-use Rattle.segment_manager.specs.Instances.{IsInstance, IsMissing, SaysAt, SaysOf}
+use Rattle.segment_manager.specs.objects.Instances.{IsInstance, IsMissing, SaysAt, SaysOf}
 use Rattle.segment_manager.specs.State.{Answers, State, StandsFor}
-use Rattle.segment_manager.specs.Contents.{sizes_at, sizes_of}
+use Rattle.segment_manager.specs.containers.Contents.{sizes_at, sizes_of}
 use Rattle.segment_scripts.specs.Answer.{answer_text, class_words, entry_words, handle_text, line, measure_words}
 use Rattle.segment_scripts.specs.Replies.{told_at, told_of}
 use Rattle.segment_scripts.specs.Parts.{part_of, said_words}

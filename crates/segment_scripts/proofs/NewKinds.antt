@@ -14,7 +14,7 @@ use Rattle.seg_types.specs.Kinds.{code_of, kind_of_code, same_kind}
 use Rattle.seg_types.specs.Keys.{index_key_seen, new_key_seen}
 use Rattle.seg_types.specs.Commands as asked
 use Rattle.segment_lang.specs.Reading.{agrees}
-use Rattle.segment_manager.specs.NewObjects.{IsOfItsKind, IsOfKind}
+use Rattle.segment_manager.specs.objects.NewObjects.{IsOfItsKind, IsOfKind}
 use Rattle.segment_manager.proofs.Laws.{code-read}
 use Rattle.segment_scripts.specs.Replies.{IsContent, IsMeant}
 

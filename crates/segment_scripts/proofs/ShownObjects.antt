@@ -1,5 +1,6 @@
 -- What is shown of an object: its kind, and its numbers, texts or pairs one after another, or its bytes.
-use Rattle.std.proofs.Common.{◌≡◌, ℕ, ℤ, List, [], ◌∷◌, ◌++◌, length, map, Option, Some, None, Result, Ok, Err, slice_get, refl, sym, ap, subst, ◌∙◌, append_assoc}
+use Rattle.std.proofs.Common.{◌≡◌, ℕ, ℤ, List, [], ◌∷◌, ◌++◌, length, map, Option, Some, None, Result, Ok, Err}
+use Rattle.std.proofs.Common.{slice_get, refl, sym, ap, subst, ◌∙◌, append_assoc}
 use Rattle.std.specs.List.{flat_map}
 use Rattle.best_fit.specs.Table.{Table}
 use Rattle.seg_types.specs.declared.kinds.ScalarKind.{ScalarKind}
@@ -12,17 +13,18 @@ use Rattle.seg_types.specs.Names.{ByHandle, Key}
 use Rattle.seg_types.specs.Commands as asked
 use Rattle.segment_lang.specs.Texts.{kind_text, quoted_text, value_text}
 use Rattle.segment_manager.specs.declared.modes.Mode.{Mode}
-use Rattle.segment_manager.specs.declared.targets.Object.{Object as Located}
+use Rattle.segment_manager.specs.declared.objects.targets.Object.{Object as Located}
 use Rattle.segment_manager.specs.Answers.{Answer, Element, Refused, Shown, TextElement}
 use Rattle.segment_manager.specs.Calls.{HasScalars, elements_of}
-use Rattle.segment_manager.specs.Contents.{bytes_at, sizes_at, sizes_of, text_bytes}
-use Rattle.segment_manager.specs.Directory.{Value, Numbers, Elements, Bytes, Pairs, Texts, Object, Directory, count_of, kind_of, live, object_at}
-use Rattle.segment_manager.specs.Instances.{IsMissing}
-use Rattle.segment_manager.specs.Located.{IsLocated}
+use Rattle.segment_manager.specs.containers.Contents.{bytes_at, sizes_at, sizes_of, text_bytes}
+use Rattle.segment_manager.specs.Directory.{Value, Numbers, Elements, Bytes, Pairs, Texts, Object, Directory, count_of}
+use Rattle.segment_manager.specs.Directory.{kind_of, live, object_at}
+use Rattle.segment_manager.specs.objects.Instances.{IsMissing}
+use Rattle.segment_manager.specs.objects.Located.{IsLocated}
 use Rattle.segment_manager.specs.Plan.{Plan, Reply, perform, with}
 use Rattle.segment_manager.specs.State.{Answers, State, StandsFor}
 use Rattle.segment_manager.specs.Step.{get, step}
-use Rattle.segment_manager.specs.Walks.{pairs_at, pairs_of}
+use Rattle.segment_manager.specs.containers.Walks.{pairs_at, pairs_of}
 use Rattle.segment_manager.proofs.Laws.{said-at, same-object}
 use Rattle.segment_scripts.specs.Answer.{answer_text, line, pair_text, shown_words}
 use Rattle.segment_scripts.specs.Parts.{element_part, part_of, parts_until}

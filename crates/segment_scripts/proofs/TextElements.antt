@@ -1,8 +1,10 @@
 -- Commands on the texts of a vector of strings as a line writes them.
-use Rattle.std.proofs.Common.{◌≡◌, refl, sym, ap, subst, ◌∙◌, ℕ, ◌-◌, ◌≤◌, Bool, true, false, ◌&&◌, if◌then◌else◌, Option, Some, None, Result, Ok, Err, List, ◌∷◌, [], length, map, take, arith}
+use Rattle.std.proofs.Common.{◌≡◌, refl, sym, ap, subst, ◌∙◌, ℕ, ◌-◌, ◌≤◌, Bool, true, false, ◌&&◌, if◌then◌else◌}
+use Rattle.std.proofs.Common.{Option, Some, None, Result, Ok, Err, List, ◌∷◌, [], length, map, take, arith}
 use Rattle.std.specs.Prelude.{OnErr, slice_get}
 use Rattle.best_fit.specs.Table.{Table}
-use Rattle.seg_types.specs.declared.kinds.Kind.TheVariants.{Map as MapKind, Scalar, String, Strings as StringsKind, Vector}
+use Rattle.seg_types.specs.declared.kinds.Kind.TheVariants.{Map as MapKind, Scalar, String, Strings as StringsKind}
+use Rattle.seg_types.specs.declared.kinds.Kind.TheVariants.{Vector}
 use Rattle.seg_types.specs.declared.refusals.Refusal.{Refusal}
 use Rattle.seg_types.specs.declared.refusals.Refusal.TheVariants as refusal
 use Rattle.seg_types.specs.declared.refusals.Refusal.TheVariants.{NotFound, OutOfRange, WrongKind}
@@ -12,19 +14,22 @@ use Rattle.seg_types.specs.Commands as asked
 use Rattle.seg_types.specs.Commands.{Command, Literal, Quoted, Truth, Whole}
 use Rattle.seg_vector.specs.Vector.{OwnedText}
 use Rattle.segment_lang.specs.declared.literals.Literal.{Literal as CodeLiteral}
-use Rattle.segment_lang.specs.declared.literals.Literal.TheVariants.{Whole as CodeWhole, Truth as CodeTruth, Quoted as CodeQuoted}
+use Rattle.segment_lang.specs.declared.literals.Literal.TheVariants.{Whole as CodeWhole, Truth as CodeTruth}
+use Rattle.segment_lang.specs.declared.literals.Literal.TheVariants.{Quoted as CodeQuoted}
 use Rattle.segment_lang.specs.Seen.{literal_of}
 use Rattle.segment_manager.specs.declared.modes.Mode.{Mode}
-use Rattle.segment_manager.specs.declared.targets.Object.{Object as Located}
+use Rattle.segment_manager.specs.declared.objects.targets.Object.{Object as Located}
 use Rattle.segment_manager.specs.Answers.{Answer, Done, Refused, TextElement, is_untouched, refusal_of}
 use Rattle.segment_manager.specs.Calls.{kind_at}
-use Rattle.segment_manager.specs.Contents.{sizes_at, sizes_of}
-use Rattle.segment_manager.specs.Directory.{Value, Numbers, Elements, Bytes, Pairs, Texts, Object, Directory, kind_of, live, object_at}
-use Rattle.segment_manager.specs.Instances.{IsMissing}
+use Rattle.segment_manager.specs.containers.Contents.{sizes_at, sizes_of}
+use Rattle.segment_manager.specs.Directory.{Value, Numbers, Elements, Bytes, Pairs, Texts, Object, Directory, kind_of}
+use Rattle.segment_manager.specs.Directory.{live, object_at}
+use Rattle.segment_manager.specs.objects.Instances.{IsMissing}
 use Rattle.segment_manager.specs.Laws.{at_key}
-use Rattle.segment_manager.specs.Located.{IsLocated}
+use Rattle.segment_manager.specs.objects.Located.{IsLocated}
 use Rattle.segment_manager.specs.Plan.{Plan, Refuse, Reply, perform, with, with_owned_texts, with_storage}
-use Rattle.segment_manager.specs.State.{Answers, IsReplyOfKind, IsStep, IsStepOfKind, LeadsOn, State, StandsFor, refusal_in}
+use Rattle.segment_manager.specs.State.{Answers, IsReplyOfKind, IsStep, IsStepOfKind, LeadsOn, State, StandsFor}
+use Rattle.segment_manager.specs.State.{refusal_in}
 use Rattle.segment_manager.specs.Step as step
 use Rattle.segment_manager.specs.Step.{changed, effect, is_read_only, step_of_kind, texts_of}
 use Rattle.segment_manager.proofs.ElementLaws.{IsOfKindAt, of_kind-steps, with-found, with-not_found}
@@ -36,7 +41,8 @@ use Rattle.segment_scripts.specs.Replies.{answer_seen, bytes_taken, text_at, tex
 use Rattle.segment_scripts.specs.Writing.{WritesFor}
 use Rattle.raw_region.specs.Device.{Took, Writes}
 use Rattle.segment_scripts.specs.Shown.{length_in}
-use Rattle.segment_manager.proofs.CommandLaws.{IsTexts, NoText, answered-reads, open-writing, refuses, step-effect, texts-if, told}
+use Rattle.segment_manager.proofs.CommandLaws.{IsTexts, NoText, answered-reads, open-writing, refuses, step-effect}
+use Rattle.segment_manager.proofs.CommandLaws.{texts-if, told}
 use Rattle.segment_scripts.proofs.NewKinds.{kind-same}
 
 -- ---- literals that are texts

@@ -7,10 +7,10 @@ use Rattle.seg_types.specs.declared.refusals.Refusal.{Refusal}
 use Rattle.seg_types.specs.Kinds.{is_value}
 use Rattle.seg_types.specs.Names.{Key}
 use Rattle.seg_types.specs.Commands.{Command, Literal, Quoted}
-use Rattle.segment_manager.specs.declared.targets.Object.{Object}
+use Rattle.segment_manager.specs.declared.objects.targets.Object.{Object}
 use Rattle.segment_manager.specs.Answers.{is_untouched}
 use Rattle.segment_manager.specs.Directory.{Directory}
-use Rattle.segment_manager.specs.Located.{IsLocated}
+use Rattle.segment_manager.specs.objects.Located.{IsLocated}
 use Rattle.segment_manager.specs.State.{State, StandsFor, Stays}
 use Rattle.segment_scripts.specs.declared.changing.NewElement.{NewElement}
 use Rattle.segment_scripts.specs.declared.changing.NewElement.TheVariants.{Scalar as ScalarElement, Text as TextElement}

@@ -1,7 +1,7 @@
 -- A text of numbered parts, one behind another.
 use Rattle.std.specs.Prelude.{ℕ, List, [], ◌∷◌}
 use Rattle.segment_lang.specs.Texts.{kind_text, number_text, quoted_text, value_text}
-use Rattle.segment_manager.specs.declared.telling.Instance.{Instance}
+use Rattle.segment_manager.specs.declared.objects.telling.Instance.{Instance}
 use Rattle.segment_manager.specs.Answers.{Answer, Element, TextElement}
 use Rattle.segment_scripts.specs.Answer.{handle_text}
 -- the first n of them, and one of what there may be

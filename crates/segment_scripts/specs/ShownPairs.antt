@@ -6,7 +6,7 @@ use Rattle.seg_types.specs.Names.{Key}
 use Rattle.seg_map.specs.Numbers.{NumberPair}
 use Rattle.segment_lang.specs.Texts.{kind_text, value_text}
 use Rattle.segment_manager.specs.Directory.{Directory}
-use Rattle.segment_manager.specs.Walks.{Item, pairs_at}
+use Rattle.segment_manager.specs.containers.Walks.{Item, pairs_at}
 use Rattle.segment_scripts.specs.Answer.{pair_text}
 use Rattle.segment_scripts.specs.Parts.{part_of, parts_until}
 

@@ -1,12 +1,14 @@
 //! Vectors and strings that a line changes: the kind of the object says which call it is.
 ghost use Rattle.std.specs.Prelude.{◌≡◌, ◌≤◌, ◌∷◌, [], MatchResult, OnErr, length, map};
-ghost use Rattle.seg_types.specs.declared.kinds.Kind.TheVariants.{String as StringKind, Strings as StringsKind, Vector as VectorOf};
-ghost use Rattle.seg_types.specs.Commands.{Append, Assign, Clear, Erase, Insert, Literal as AskedLiteral, Push, Quoted as AskedQuoted, Reserve, Shrink, literal_of as literal_for};
+ghost use Rattle.seg_types.specs.declared.kinds.Kind.TheVariants.{String as StringKind, Strings as StringsKind};
+ghost use Rattle.seg_types.specs.declared.kinds.Kind.TheVariants.{Vector as VectorOf};
+ghost use Rattle.seg_types.specs.Commands.{Append, Assign, Clear, Erase, Insert, Literal as AskedLiteral, Push};
+ghost use Rattle.seg_types.specs.Commands.{Quoted as AskedQuoted, Reserve, Shrink, literal_of as literal_for};
 ghost use Rattle.seg_types.specs.Keys.{key_seen};
 ghost use Rattle.seg_types.specs.Names.{ByHandle};
 ghost use Rattle.seg_types.specs.Values.{kind_of_scalar, value_of_scalar};
 ghost use Rattle.segment_lang.specs.Seen.{literal_of};
-ghost use Rattle.segment_manager.specs.Located.{IsObject};
+ghost use Rattle.segment_manager.specs.objects.Located.{IsObject};
 ghost use Rattle.segment_manager.specs.State.{IsStep, IsStepOfKind, KeepsRefused, done_answer};
 ghost use Rattle.segment_scripts.specs.Changes.{IsChangeable, IsNew, IsNoElement, IsToChange, IsUnchangeable};
 ghost use Rattle.segment_scripts.specs.Replies.{bytes_taken};

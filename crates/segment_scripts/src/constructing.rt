@@ -6,7 +6,7 @@ ghost use Rattle.seg_types.specs.Commands.{Bytes, Construct, ConstructIt, Elemen
 ghost use Rattle.seg_types.specs.Keys.{index_key_seen, new_key_seen};
 ghost use Rattle.seg_types.specs.Kinds.{is_value};
 ghost use Rattle.segment_lang.specs.Seen.{content_of};
-ghost use Rattle.segment_manager.specs.Found.{pair_answer};
+ghost use Rattle.segment_manager.specs.objects.Found.{pair_answer};
 ghost use Rattle.segment_manager.specs.State.{IsStep, KeepsRefused, handle_answer};
 ghost use Rattle.segment_scripts.specs.Replies.{IsContent, IsMeant};
 

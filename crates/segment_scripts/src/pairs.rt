@@ -3,7 +3,7 @@ ghost use Rattle.std.specs.Prelude.{◌≡◌, OnErr};
 ghost use Rattle.seg_types.specs.Commands.{Lookup, Put, Remove};
 ghost use Rattle.seg_types.specs.Keys.{key_seen};
 ghost use Rattle.segment_lang.specs.Seen.{literal_of};
-ghost use Rattle.segment_manager.specs.Maps.{any_value_answer};
+ghost use Rattle.segment_manager.specs.containers.Maps.{any_value_answer};
 ghost use Rattle.segment_manager.specs.State.{IsReply, IsStep, truth_answer};
 ghost use Rattle.segment_manager.specs.Step.{pair_of};
 ghost use Rattle.segment_scripts.specs.Settings.{IsPairOf};

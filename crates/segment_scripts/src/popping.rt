@@ -4,7 +4,7 @@ ghost use Rattle.seg_types.specs.declared.kinds.Kind.TheVariants.{Strings as Str
 ghost use Rattle.seg_types.specs.Commands.{Pop};
 ghost use Rattle.seg_types.specs.Keys.{key_seen};
 ghost use Rattle.seg_types.specs.Names.{ByHandle};
-ghost use Rattle.segment_manager.specs.Located.{IsObject};
+ghost use Rattle.segment_manager.specs.objects.Located.{IsObject};
 ghost use Rattle.segment_manager.specs.State.{IsStepOfKind, StandsFor, scalar_answer};
 ghost use Rattle.segment_manager.specs.Step.{step};
 ghost use Rattle.segment_scripts.specs.Answer.{answer_text};

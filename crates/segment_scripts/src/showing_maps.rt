@@ -3,10 +3,10 @@ ghost use Rattle.std.specs.Prelude.{◌≡◌, ◌-◌, ◌^◌, ◌<◌, option
 ghost use Rattle.raw_region.specs.Device.{Writes};
 ghost use Rattle.seg_types.specs.Names.{ByHandle};
 ghost use Rattle.seg_types.specs.Values.{kind_of_scalar, value_of_scalar};
-ghost use Rattle.segment_manager.specs.Located.{IsObject};
-ghost use Rattle.segment_manager.specs.Maps.{pair_above};
+ghost use Rattle.segment_manager.specs.objects.Located.{IsObject};
+ghost use Rattle.segment_manager.specs.containers.Maps.{pair_above};
 ghost use Rattle.segment_manager.specs.State.{Answers, StandsFor};
-ghost use Rattle.segment_manager.specs.Walks.{IsMap, item_of_kinds, item_seen, pairs_at};
+ghost use Rattle.segment_manager.specs.containers.Walks.{IsMap, item_of_kinds, item_seen, pairs_at};
 ghost use Rattle.segment_scripts.specs.ShownPairs.{item_text, map_line, pairs_text};
 ghost use Rattle.segment_scripts.specs.Writing.{WritesFor};
 

@@ -7,7 +7,7 @@ ghost use Rattle.segment_lang.specs.Pieces.{piece_text};
 ghost use Rattle.segment_lang.specs.Texts.{name_text};
 ghost use Rattle.segment_manager.specs.Answers.{Kinds, Names};
 ghost use Rattle.segment_manager.specs.Directory.{Object, named_objects, unique_objects};
-ghost use Rattle.segment_manager.specs.Located.{IsObject};
+ghost use Rattle.segment_manager.specs.objects.Located.{IsObject};
 ghost use Rattle.segment_manager.specs.State.{StandsFor};
 ghost use Rattle.segment_scripts.specs.Answer.{answer_text, class_words, entry_words, line};
 ghost use Rattle.segment_scripts.specs.Parts.{said_words};

@@ -11,12 +11,12 @@ use Rattle.seg_types.specs.Names.{Key, ByHandle}
 use Rattle.seg_types.specs.Values.{value_of_scalar}
 use Rattle.seg_map.specs.Map.{pair_at}
 use Rattle.seg_map.specs.Numbers.{NumberPair}
-use Rattle.segment_manager.specs.declared.targets.Object.{Object as Located}
+use Rattle.segment_manager.specs.declared.objects.targets.Object.{Object as Located}
 use Rattle.segment_manager.specs.Directory.{Object, object_at}
 use Rattle.segment_manager.specs.Keeping.{KeepsWhere, LacksPair}
-use Rattle.segment_manager.specs.Located.{IsLocated}
+use Rattle.segment_manager.specs.objects.Located.{IsLocated}
 use Rattle.segment_manager.specs.State.{State}
-use Rattle.segment_manager.specs.Walks.{pairs_of}
+use Rattle.segment_manager.specs.containers.Walks.{pairs_of}
 use Rattle.segment_manager.proofs.Laws.{kind-by_key, same-object}
 use Rattle.segment_values.specs.Absent.{LacksLiteral}
 use Rattle.segment_values.specs.Literals.{IsValueOf}

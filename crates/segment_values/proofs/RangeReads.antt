@@ -1,5 +1,6 @@
 -- Elements that one call reads: what the readings of each come to.
-use Rattle.std.proofs.Common.{◌≡◌, refl, sym, ap, subst, ◌∙◌, ℕ, ◌+◌, ◌<◌, ◌≤◌, ℤ, true, false, Some, None, Option, Result, Ok, Err, List, length, map, set, take, if◌then◌else◌, arith}
+use Rattle.std.proofs.Common.{◌≡◌, refl, sym, ap, subst, ◌∙◌, ℕ, ◌+◌, ◌<◌, ◌≤◌, ℤ, true, false, Some, None, Option}
+use Rattle.std.proofs.Common.{Result, Ok, Err, List, length, map, set, take, if◌then◌else◌, arith}
 use Rattle.std.specs.Prelude.{Bool, drop, nat_le, slice_get}
 use Rattle.std.proofs.lemmas.Bool.{leb-true}
 use Rattle.std.proofs.lemmas.List.{take_all}
@@ -9,14 +10,16 @@ use Rattle.seg_types.specs.declared.refusals.Refusal.{Refusal}
 use Rattle.seg_types.specs.declared.refusals.Refusal.TheVariants.{NotFound, OutOfRange, WrongKind}
 use Rattle.seg_types.specs.Commands.{Get}
 use Rattle.seg_types.specs.Names.{Key, ByHandle}
-use Rattle.segment_manager.specs.declared.targets.Object.{Object as Located}
+use Rattle.segment_manager.specs.declared.objects.targets.Object.{Object as Located}
 use Rattle.segment_manager.specs.Answers.{Answer, Element}
 use Rattle.segment_manager.specs.Directory.{Object, Directory, kind_of}
-use Rattle.segment_manager.specs.ElementLists.{array_length_at, length_at_kind, list_at, number_or_none, numbers_in}
-use Rattle.segment_manager.specs.Instances.{IsMissing}
-use Rattle.segment_manager.specs.Located.{IsLocated}
+use Rattle.segment_manager.specs.objects.ElementLists.{array_length_at, length_at_kind, list_at, number_or_none}
+use Rattle.segment_manager.specs.objects.ElementLists.{numbers_in}
+use Rattle.segment_manager.specs.objects.Instances.{IsMissing}
+use Rattle.segment_manager.specs.objects.Located.{IsLocated}
 use Rattle.segment_manager.specs.State.{Answers, IsReplyOfKind, State, StandsFor, answer_of}
-use Rattle.segment_manager.proofs.Laws.{IsSaidAt, array-length, array-read, got, said-at, told-by_key, vector-length, vector-read}
+use Rattle.segment_manager.proofs.Laws.{IsSaidAt, array-length, array-read, got, said-at, told-by_key, vector-length}
+use Rattle.segment_manager.proofs.Laws.{vector-read}
 use Rattle.segment_values.specs.Ranges.{element_of, is_row, numbers_if, range_at, range_in, range_of, row_of}
 use Rattle.segment_values.proofs.RangeLists.{read-more, there-is}
 use Rattle.segment_values.proofs.RangeRows.{its-numbers}

@@ -1,5 +1,7 @@
 -- Elements that one call writes: what the steps of setting each come to.
-use Rattle.std.proofs.Common.{◌≡◌, refl, sym, ap, subst, ◌∙◌, ℕ, ◌+◌, ◌<◌, ◌≤◌, ℤ, Bool, true, false, Some, None, Option, Result, Ok, Err, List, [], ◌∷◌, ◌++◌, get_or, length, map, take, if◌then◌else◌, pos, arith}
+use Rattle.std.proofs.Common.{◌≡◌, refl, sym, ap, subst, ◌∙◌, ℕ, ◌+◌, ◌<◌, ◌≤◌, ℤ, Bool, true, false, Some, None}
+use Rattle.std.proofs.Common.{Option, Result, Ok, Err, List, [], ◌∷◌, ◌++◌, get_or, length, map, take, if◌then◌else◌}
+use Rattle.std.proofs.Common.{pos, arith}
 use Rattle.std.specs.Prelude.{drop, nat_le, slice_get, slice_set}
 use Rattle.std.proofs.lemmas.Option.{slice_get-get_or}
 use Rattle.best_fit.specs.Extents.{handle}
@@ -12,19 +14,21 @@ use Rattle.seg_types.specs.Commands.{Command, literal_of}
 use Rattle.seg_types.specs.Kinds.{is_value}
 use Rattle.seg_types.specs.Names.{Key, ByHandle}
 use Rattle.segment_manager.specs.declared.modes.Mode.{Mode}
-use Rattle.segment_manager.specs.declared.targets.Object.{Object as Located}
+use Rattle.segment_manager.specs.declared.objects.targets.Object.{Object as Located}
 use Rattle.segment_manager.specs.Answers.{Answer, Done, Refused}
 use Rattle.segment_manager.specs.Directory.{Value, Object, Directory, kind_of, live, object_at}
-use Rattle.segment_manager.specs.ElementLists.{list_at, numbers_in}
-use Rattle.segment_manager.specs.Located.{IsLocated}
+use Rattle.segment_manager.specs.objects.ElementLists.{list_at, numbers_in}
+use Rattle.segment_manager.specs.objects.Located.{IsLocated}
 use Rattle.segment_manager.specs.Plan.{Reply, perform, with}
 use Rattle.segment_manager.specs.State.{Answers, IsSegment, IsStepOfKind, State, StandsFor, Stays}
 use Rattle.segment_manager.specs.Step as step
 use Rattle.segment_manager.specs.Step.{changed, is_read_only, step_of_kind, with_items}
 use Rattle.segment_manager.proofs.ElementLaws.{literal-read, step_of_kind-step, with-found}
 use Rattle.segment_manager.proofs.Laws.{IsSaidAt, objects_stay, said-at, same-object}
-use Rattle.segment_values.specs.Ranges.{HasRange, WritesRange, numbers_if, range_at, range_in, range_of, replaced, with_range, written, written_if}
-use Rattle.segment_values.proofs.RangeLists.{many-mapped, replaced-length, replaced-more, taken-length, taken-more, value-at}
+use Rattle.segment_values.specs.Ranges.{HasRange, WritesRange, numbers_if, range_at, range_in, range_of, replaced}
+use Rattle.segment_values.specs.Ranges.{with_range, written, written_if}
+use Rattle.segment_values.proofs.RangeLists.{many-mapped, replaced-length, replaced-more, taken-length, taken-more}
+use Rattle.segment_values.proofs.RangeLists.{value-at}
 use Rattle.segment_values.proofs.RangeObjects.{found-replaced, itself-replaced, replaced-twice}
 use Rattle.segment_values.proofs.RangeRows.{IsRow, its-numbers, of-same}
 use Rattle.segment_manager.proofs.CommandLaws.{open-writing, step-effect}

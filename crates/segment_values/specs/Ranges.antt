@@ -9,11 +9,11 @@ use Rattle.seg_types.specs.declared.refusals.Refusal.TheVariants.{NotFound, OutO
 use Rattle.seg_types.specs.Kinds.{same_kind}
 use Rattle.seg_types.specs.Names.{Key, ByHandle}
 use Rattle.segment_manager.specs.declared.modes.Mode.{Mode}
-use Rattle.segment_manager.specs.declared.targets.Object.{Object as Located}
+use Rattle.segment_manager.specs.declared.objects.targets.Object.{Object as Located}
 use Rattle.segment_manager.specs.Answers.{Answer, Done, Refused}
 use Rattle.segment_manager.specs.Directory.{Directory, Value, kind_of, object_at}
-use Rattle.segment_manager.specs.ElementLists.{list_at, numbers_in}
-use Rattle.segment_manager.specs.Located.{IsObject}
+use Rattle.segment_manager.specs.objects.ElementLists.{list_at, numbers_in}
+use Rattle.segment_manager.specs.objects.Located.{IsObject}
 use Rattle.segment_manager.specs.State.{Moves, State, StandsFor, Stays}
 use Rattle.segment_manager.specs.Step.{changed, is_read_only, with_items}
 

@@ -4,7 +4,7 @@ ghost use Rattle.std.specs.Iterator.{YieldsFirst, item_count};
 ghost use Rattle.seg_types.specs.declared.kinds.Kind.TheVariants.{Scalar as ScalarOf};
 ghost use Rattle.seg_types.specs.Commands.{ConstructIt};
 ghost use Rattle.seg_types.specs.Keys.{new_key_seen};
-ghost use Rattle.segment_manager.specs.NewObjects.{IsOfKind};
+ghost use Rattle.segment_manager.specs.objects.NewObjects.{IsOfKind};
 ghost use Rattle.segment_manager.specs.State.{IsStep, KeepsRefused, handle_answer};
 
 use seg_types::{Handle, NewKey, Refusal, Scalar};

@@ -4,7 +4,7 @@ ghost use Rattle.seg_types.specs.Commands.{Set};
 ghost use Rattle.seg_types.specs.Keys.{key_seen};
 ghost use Rattle.seg_types.specs.Names.{ByHandle};
 ghost use Rattle.segment_manager.specs.Calls.{elements_at};
-ghost use Rattle.segment_manager.specs.Located.{IsObject};
+ghost use Rattle.segment_manager.specs.objects.Located.{IsObject};
 ghost use Rattle.segment_manager.specs.State.{Answers, IsStep, done_answer};
 ghost use Rattle.segment_manager.specs.Step.{is_read_only};
 ghost use Rattle.segment_values.specs.Literals.{literal_seen};

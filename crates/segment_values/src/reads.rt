@@ -4,8 +4,8 @@ ghost use Rattle.std.specs.Prelude.{true};
 ghost use Rattle.seg_types.specs.Keys.{key_seen};
 ghost use Rattle.seg_types.specs.Names.{ByHandle};
 ghost use Rattle.segment_manager.specs.Directory.{Directory};
-ghost use Rattle.segment_manager.specs.ElementLists.{number_or_none as number_of};
-ghost use Rattle.segment_manager.specs.Located.{IsLocated, IsObject};
+ghost use Rattle.segment_manager.specs.objects.ElementLists.{number_or_none as number_of};
+ghost use Rattle.segment_manager.specs.objects.Located.{IsLocated, IsObject};
 ghost use Rattle.segment_manager.specs.State.{Answers, StandsFor};
 ghost use Rattle.segment_values.specs.Ranges.{element_of, is_row, range_at, read_into, row_of};
 

@@ -5,7 +5,7 @@ ghost use Rattle.seg_types.specs.Commands.{Erase, Insert, Push, literal_of};
 ghost use Rattle.seg_types.specs.Keys.{key_seen};
 ghost use Rattle.seg_types.specs.Names.{ByHandle};
 ghost use Rattle.seg_types.specs.Values.{kind_of_scalar, value_of_scalar};
-ghost use Rattle.segment_manager.specs.Located.{IsObject};
+ghost use Rattle.segment_manager.specs.objects.Located.{IsObject};
 ghost use Rattle.segment_manager.specs.State.{IsStep, IsStepOfKind, done_answer};
 ghost use Rattle.segment_values.specs.Changes.{IsNew, IsNoElement};
 ghost use Rattle.segment_values.specs.Literals.{literal_seen};

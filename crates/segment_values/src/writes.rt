@@ -4,7 +4,7 @@ ghost use Rattle.seg_types.specs.Commands.{Set, literal_of};
 ghost use Rattle.seg_types.specs.Keys.{key_seen};
 ghost use Rattle.seg_types.specs.Names.{ByHandle};
 ghost use Rattle.segment_manager.specs.Directory.{Directory};
-ghost use Rattle.segment_manager.specs.Located.{IsLocated, IsObject};
+ghost use Rattle.segment_manager.specs.objects.Located.{IsLocated, IsObject};
 ghost use Rattle.segment_manager.specs.State.{IsStepOfKind, StandsFor, done_answer};
 ghost use Rattle.segment_manager.specs.Step.{is_read_only};
 ghost use Rattle.segment_values.specs.Ranges.{HasRange, WritesRange, is_row, row_of};

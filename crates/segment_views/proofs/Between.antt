@@ -1,6 +1,7 @@
 -- The pairs between two bounds of a list whose keys rise: the first of them and those behind it, the last and those
 -- before it.
-use Rattle.std.proofs.Common.{◌≡◌, refl, sym, ap, subst, ◌∙◌, ◌≤◌, ℤ, Bool, true, false, ◌&&◌, not, Option, Some, None, List, [], ◌∷◌, ◌++◌, filter, length, map, arith, if◌then◌else◌}
+use Rattle.std.proofs.Common.{◌≡◌, refl, sym, ap, subst, ◌∙◌, ◌≤◌, ℤ, Bool, true, false, ◌&&◌, not, Option, Some, None}
+use Rattle.std.proofs.Common.{List, [], ◌∷◌, ◌++◌, filter, length, map, arith, if◌then◌else◌}
 use Rattle.std.specs.Prelude.{find, int_le, int_lt, option_map, reverse, slice_get}
 use Rattle.std.proofs.lemmas.List.{reverse-append, reverse-reverse}
 use Rattle.std.proofs.lemmas.List.Elements.{filter-append}
@@ -11,8 +12,8 @@ use Rattle.std.specs.declared.ops.Bound.TheVariants.{Included, Excluded, Unbound
 use Rattle.seg_map.specs.Map.{is_rising}
 use Rattle.seg_map.specs.Numbers.{NumberPair}
 use Rattle.seg_map.specs.Places.{item_of}
-use Rattle.segment_manager.specs.Maps.{pair_above, pair_at_end, pair_below, pair_from, pair_up_to}
-use Rattle.segment_manager.specs.Walks.{first_of}
+use Rattle.segment_manager.specs.containers.Maps.{pair_above, pair_at_end, pair_below, pair_from, pair_up_to}
+use Rattle.segment_manager.specs.containers.Walks.{first_of}
 use Rattle.segment_views.specs.Ranged.{is_between, is_from, is_up_to, last_between, range_of}
 
 -- ---- truths

@@ -4,13 +4,13 @@ use Rattle.seg_types.specs.declared.refusals.Refusal.{Refusal}
 use Rattle.seg_types.specs.declared.kinds.Kind.{Kind}
 use Rattle.seg_types.specs.Names.{Key}
 use Rattle.seg_types.specs.Commands.{Command}
-use Rattle.segment_manager.specs.declared.targets.Object.{Object}
+use Rattle.segment_manager.specs.declared.objects.targets.Object.{Object}
 use Rattle.segment_manager.specs.Answers.{Answer}
-use Rattle.segment_manager.specs.Located.{IsObject}
+use Rattle.segment_manager.specs.objects.Located.{IsObject}
 use Rattle.segment_manager.specs.Staying.{is_elementwise}
 use Rattle.segment_manager.specs.State.{IsSegment, IsStepOfKind, State}
 use Rattle.segment_manager.proofs.Laws.{leads_on-stay, objects_stay}
-use Rattle.segment_manager.specs.TextLists.{LeadsOnOfKind}
+use Rattle.segment_manager.specs.containers.TextLists.{LeadsOnOfKind}
 
 -- behind a call that is a step of its kind
 pub stays_of_kind : (old new : State) (o : Object) (key : Key) (kind : Kind) (c : Command) (answer : Answer) (b : List ℕ) → b ≡ old.cut.bytes → IsSegment b → is_elementwise c ≡ true

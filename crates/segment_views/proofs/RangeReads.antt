@@ -1,5 +1,6 @@
 -- What is read of a map says of the pairs between two bounds.
-use Rattle.std.proofs.Common.{◌≡◌, refl, sym, ap, ◌∙◌, ℕ, ◌-◌, ◌≤◌, ℤ, Bool, true, false, Option, Some, None, Result, Ok, Err, List, [], ◌∷◌, ◌++◌, length, arith, if◌then◌else◌}
+use Rattle.std.proofs.Common.{◌≡◌, refl, sym, ap, ◌∙◌, ℕ, ◌-◌, ◌≤◌, ℤ, Bool, true, false, Option, Some, None, Result}
+use Rattle.std.proofs.Common.{Ok, Err, List, [], ◌∷◌, ◌++◌, length, arith, if◌then◌else◌}
 use Rattle.std.specs.Bool.{then_some}
 use Rattle.std.specs.Prelude.{MatchResult, option_map, slice_get}
 use Rattle.std.proofs.lemmas.List.{length-append}
@@ -13,13 +14,15 @@ use Rattle.seg_types.specs.Names.{Key}
 use Rattle.seg_map.specs.Numbers.{NumberPair}
 use Rattle.seg_map.specs.Places.{item_of}
 use Rattle.segment_manager.specs.Directory.{Directory}
-use Rattle.segment_manager.specs.ElementLists.{length_at_kind, number_or_none}
-use Rattle.segment_manager.specs.Maps.{numbers_in, pair_from, pair_result, told_of_map}
+use Rattle.segment_manager.specs.objects.ElementLists.{length_at_kind, number_or_none}
+use Rattle.segment_manager.specs.containers.Maps.{numbers_in, pair_from, pair_result, told_of_map}
 use Rattle.segment_manager.specs.State.{Answers, State, StandsFor}
-use Rattle.segment_manager.specs.Walks.{first_of, pairs_at_kinds}
+use Rattle.segment_manager.specs.containers.Walks.{first_of, pairs_at_kinds}
 use Rattle.segment_manager.proofs.Laws.{map-least, map-length, map-rises, map-told}
-use Rattle.segment_views.specs.Ranged.{GoesBackPairs, GoesOnPairs, PairWalk, is_from, is_up_to, last_between, pair_or_none, pairs_left, range_of}
-use Rattle.segment_views.proofs.Between.{admitted, last-within, range-begins, range-empty, range-ends, range-few, range-none, range-within}
+use Rattle.segment_views.specs.Ranged.{GoesBackPairs, GoesOnPairs, PairWalk, is_from, is_up_to, last_between}
+use Rattle.segment_views.specs.Ranged.{pair_or_none, pairs_left, range_of}
+use Rattle.segment_views.proofs.Between.{admitted, last-within, range-begins, range-empty, range-ends, range-few}
+use Rattle.segment_views.proofs.Between.{range-none, range-within}
 
 -- a pair is admitted where its key is
 pub admitted-then : {K V : Type 0} (kw : K → ℤ) (vw : V → ℤ) (far : ℤ → Bool) (b : Bool) (p : K × V) → b ≡ far (kw p.0) → admitted far (Some (kw p.0, vw p.1)) ≡ numbers_in kw vw (then_some b p)

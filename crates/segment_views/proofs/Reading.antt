@@ -2,14 +2,16 @@
 use Rattle.std.proofs.Common.{◌≡◌, refl, sym, subst, ◌∙◌, ℕ, ◌≤◌, ℤ, None, Result, Ok, Err, List, length}
 use Rattle.std.specs.Prelude.{slice_get}
 use Rattle.std.proofs.lemmas.Option.{slice_get_past}
-use Rattle.seg_types.specs.declared.kinds.Kind.TheVariants.{Scalar as ScalarOf, Vector as VectorOf, Strings as StringsKind}
+use Rattle.seg_types.specs.declared.kinds.Kind.TheVariants.{Scalar as ScalarOf, Vector as VectorOf}
+use Rattle.seg_types.specs.declared.kinds.Kind.TheVariants.{Strings as StringsKind}
 use Rattle.seg_types.specs.declared.kinds.ScalarKind.{ScalarKind}
 use Rattle.seg_types.specs.declared.refusals.Refusal.{Refusal}
 use Rattle.seg_types.specs.Commands.{Get}
 use Rattle.seg_types.specs.Names.{Key}
 use Rattle.segment_manager.specs.Answers.{Answer, Element, TextElement}
 use Rattle.segment_manager.specs.Directory.{Directory}
-use Rattle.segment_manager.specs.ElementLists.{array_at, array_length_at, length_at_kind, number_or_none, texts_at, vector_at}
+use Rattle.segment_manager.specs.objects.ElementLists.{array_at, array_length_at, length_at_kind, number_or_none}
+use Rattle.segment_manager.specs.objects.ElementLists.{texts_at, vector_at}
 use Rattle.segment_manager.specs.State.{Answers, IsReplyOfKind, State, answer_of}
 use Rattle.segment_views.specs.Walked.{element_of}
 use Rattle.segment_manager.proofs.Laws.{array-length, array-read, got, text-read, vector-length, vector-read}

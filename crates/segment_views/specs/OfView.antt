@@ -3,7 +3,7 @@ use Rattle.std.specs.Prelude.{◌≡◌}
 use Rattle.std.specs.Borrow.{GName, MutBor}
 use Rattle.seg_types.specs.Names.{Key, ByHandle}
 use Rattle.segment_manager.specs.State.{State}
-use Rattle.segment_manager.specs.declared.targets.Object.{Object as Located}
+use Rattle.segment_manager.specs.declared.objects.targets.Object.{Object as Located}
 use Rattle.segment_views.specs.declared.views.View.{View}
 
 -- the segment, as it is now

@@ -1,5 +1,6 @@
 -- The pairs of a map whose keys lie between two bounds, one after another, from both ends.
-use Rattle.std.specs.Prelude.{◌≡◌, ℕ, ◌≤◌, ℤ, int_le, int_lt, Bool, true, ◌&&◌, Option, Some, None, Result, Ok, Err, List, [], ◌∷◌, ◌++◌, filter, length, map, reverse, slice_get}
+use Rattle.std.specs.Prelude.{◌≡◌, ℕ, ◌≤◌, ℤ, int_le, int_lt, Bool, true, ◌&&◌, Option, Some, None, Result, Ok, Err}
+use Rattle.std.specs.Prelude.{List, [], ◌∷◌, ◌++◌, filter, length, map, reverse, slice_get}
 use Rattle.std.specs.declared.ops.Bound.{Bound}
 use Rattle.std.specs.declared.ops.Bound.TheVariants.{Included, Excluded, Unbounded}
 use Rattle.seg_types.specs.declared.kinds.ScalarKind.{ScalarKind}
@@ -7,11 +8,11 @@ use Rattle.seg_types.specs.declared.refusals.Refusal.{Refusal}
 use Rattle.seg_types.specs.Names.{Key}
 use Rattle.seg_map.specs.Numbers.{NumberPair}
 use Rattle.seg_map.specs.Places.{item_of}
-use Rattle.segment_manager.specs.declared.targets.Object.{Object as Located}
+use Rattle.segment_manager.specs.declared.objects.targets.Object.{Object as Located}
 use Rattle.segment_manager.specs.Directory.{Directory}
-use Rattle.segment_manager.specs.Located.{IsObject}
+use Rattle.segment_manager.specs.objects.Located.{IsObject}
 use Rattle.segment_manager.specs.State.{State, StandsFor}
-use Rattle.segment_manager.specs.Walks.{pairs_at_kinds}
+use Rattle.segment_manager.specs.containers.Walks.{pairs_at_kinds}
 
 -- ---- bounds
 

@@ -2,7 +2,7 @@
 ghost use Rattle.std.specs.Prelude.{map};
 ghost use Rattle.seg_types.specs.declared.kinds.Kind.TheVariants.{Scalar as ScalarOf};
 ghost use Rattle.seg_types.specs.Commands.{Set, literal_of};
-ghost use Rattle.segment_manager.specs.ElementLists.{array_at, array_length_at};
+ghost use Rattle.segment_manager.specs.objects.ElementLists.{array_at, array_length_at};
 ghost use Rattle.segment_manager.specs.Keeping.{ChangesElement};
 ghost use Rattle.segment_views.specs.Repeated.{StepsOn};
 

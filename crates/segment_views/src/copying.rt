@@ -2,7 +2,7 @@
 ghost use Rattle.std.specs.Prelude.{◌≤◌, get_or, length, map, take};
 ghost use Rattle.seg_types.specs.Names.{ByHandle};
 ghost use Rattle.segment_manager.specs.Directory.{Directory};
-ghost use Rattle.segment_manager.specs.Located.{IsObject};
+ghost use Rattle.segment_manager.specs.objects.Located.{IsObject};
 ghost use Rattle.segment_manager.specs.State.{Answers, StandsFor};
 
 use crate::rows::Storage;

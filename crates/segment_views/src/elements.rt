@@ -2,8 +2,8 @@
 ghost use Rattle.std.specs.Prelude.{◌≡◌, ◌-◌};
 ghost use Rattle.std.specs.Iterator.{at_most};
 ghost use Rattle.seg_types.specs.Names.{ByHandle};
-ghost use Rattle.segment_manager.specs.ElementLists.{number_or_none as number_of, texts_at};
-ghost use Rattle.segment_manager.specs.Located.{IsObject};
+ghost use Rattle.segment_manager.specs.objects.ElementLists.{number_or_none as number_of, texts_at};
+ghost use Rattle.segment_manager.specs.objects.Located.{IsObject};
 ghost use Rattle.segment_views.specs.Walked.{GoesOnElements};
 
 use crate::rows::Storage;
@@ -85,7 +85,7 @@ pub struct TextItems<'a> {
 
 impl<'a> Model for TextItems<'a> {
     ghost use Rattle.seg_types.specs.Names.{ByHandle};
-    ghost use Rattle.segment_manager.specs.ElementLists.{texts_at};
+    ghost use Rattle.segment_manager.specs.objects.ElementLists.{texts_at};
     ghost use Rattle.segment_views.specs.Walked.{ElementWalk, IsWalkOver};
 
     ghost Value = { ElementWalk };

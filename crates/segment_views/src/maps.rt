@@ -2,10 +2,11 @@
 ghost use Rattle.std.specs.Prelude.{◌≡◌, OnErr, option_map};
 ghost use Rattle.seg_types.specs.declared.kinds.Kind.TheVariants.{Map as MapOf};
 ghost use Rattle.seg_types.specs.Commands.{Lookup, Put, Remove, literal_of};
-ghost use Rattle.segment_manager.specs.ElementLists.{length_at_kind};
+ghost use Rattle.segment_manager.specs.objects.ElementLists.{length_at_kind};
 ghost use Rattle.segment_manager.specs.Keeping.{KeepsWhere, LacksPair};
-ghost use Rattle.segment_manager.specs.Maps.{pair_above, pair_at_end, pair_from, pair_result, told_of_map, value_answer};
-ghost use Rattle.segment_manager.specs.Walks.{first_of};
+ghost use Rattle.segment_manager.specs.containers.Maps.{pair_above, pair_at_end, pair_from, pair_result, told_of_map};
+ghost use Rattle.segment_manager.specs.containers.Maps.{value_answer};
+ghost use Rattle.segment_manager.specs.containers.Walks.{first_of};
 ghost use Rattle.seg_map.specs.Places.{item_of};
 ghost use Rattle.std.specs.Range.Bound.{bound_map};
 ghost use Rattle.std.specs.declared.ops.Bound.TheVariants.{Unbounded};

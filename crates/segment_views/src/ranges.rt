@@ -6,12 +6,14 @@ ghost use Rattle.std.specs.declared.ops.Bound.TheVariants.{Unbounded};
 ghost use Rattle.seg_types.specs.Kinds.{lowest as lowest_of};
 ghost use Rattle.seg_types.specs.Names.{ByHandle};
 ghost use Rattle.seg_types.specs.Values.{kind_of_scalar, value_of_scalar};
-ghost use Rattle.segment_manager.specs.Located.{IsObject};
-ghost use Rattle.segment_manager.specs.Maps.{numbers_in, pair_result, told_of_map};
+ghost use Rattle.segment_manager.specs.objects.Located.{IsObject};
+ghost use Rattle.segment_manager.specs.containers.Maps.{numbers_in, pair_result, told_of_map};
 ghost use Rattle.segment_manager.specs.State.{Answers};
-ghost use Rattle.segment_manager.specs.Walks.{first_of, pairs_at_kinds};
+ghost use Rattle.segment_manager.specs.containers.Walks.{first_of, pairs_at_kinds};
 ghost use Rattle.seg_map.specs.Places.{item_of};
-ghost use Rattle.segment_views.specs.Ranged.{GoesBackPairs, GoesOnPairs, is_from as is_from_start, is_up_to as is_up_to_end, last_between as last_of, pair_or_none as pair_of, range_of};
+ghost use Rattle.segment_views.specs.Ranged.{GoesBackPairs, GoesOnPairs, is_from as is_from_start};
+ghost use Rattle.segment_views.specs.Ranged.{is_up_to as is_up_to_end, last_between as last_of};
+ghost use Rattle.segment_views.specs.Ranged.{pair_or_none as pair_of, range_of};
 
 use crate::elements::number_or_none;
 use seg_types::theorems::scalar_is_number;

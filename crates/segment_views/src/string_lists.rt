@@ -3,9 +3,10 @@ ghost use Rattle.std.specs.Prelude.{◌≡◌, OnErr};
 ghost use Rattle.seg_types.specs.declared.kinds.Kind.TheVariants.{Strings as StringsKind};
 ghost use Rattle.seg_types.specs.Commands.{Erase, Get, Insert, Pop, Push, Quoted, Set};
 ghost use Rattle.segment_manager.specs.Answers.{TextElement};
-ghost use Rattle.segment_manager.specs.ElementLists.{length_at_kind};
-ghost use Rattle.segment_manager.specs.State.{Answers, IsReplyOfKind, IsStepOfKind, KeepsRefused, answer_of, done_answer, refusal_in};
-ghost use Rattle.segment_manager.specs.TextLists.{LeadsOnOfKind};
+ghost use Rattle.segment_manager.specs.objects.ElementLists.{length_at_kind};
+ghost use Rattle.segment_manager.specs.State.{Answers, IsReplyOfKind, IsStepOfKind, KeepsRefused, answer_of};
+ghost use Rattle.segment_manager.specs.State.{done_answer, refusal_in};
+ghost use Rattle.segment_manager.specs.containers.TextLists.{LeadsOnOfKind};
 
 use crate::elements::TextItems;
 use crate::views::{Content, View};

@@ -3,7 +3,7 @@ ghost use Rattle.std.specs.Prelude.{◌≡◌, Ok, Err, MatchResult, [], ◌∷�
 ghost use Rattle.seg_types.specs.declared.kinds.Kind.TheVariants.{String as StringKind};
 ghost use Rattle.seg_types.specs.declared.kinds.ScalarKind.TheVariants.{U8 as ByteKind};
 ghost use Rattle.seg_types.specs.Commands.{Append, Assign, Quoted, Set, literal_of};
-ghost use Rattle.segment_manager.specs.Contents.{bytes_at};
+ghost use Rattle.segment_manager.specs.containers.Contents.{bytes_at};
 ghost use Rattle.segment_manager.specs.State.{Answers, IsStepOfKind, done_answer};
 
 use crate::views::{Content, View};

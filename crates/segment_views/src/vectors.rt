@@ -3,8 +3,8 @@ ghost use Rattle.std.specs.Prelude.{◌≡◌, OnErr, map, ⊤};
 ghost use Rattle.seg_types.specs.declared.kinds.Kind.TheVariants.{Vector as VectorOf};
 ghost use Rattle.seg_types.specs.Commands.{Assign, Erase, Insert, Pop, Push, literal_of};
 ghost use Rattle.segment_manager.specs.Answers.{Element};
-ghost use Rattle.segment_manager.specs.Contents.{sizes_at};
-ghost use Rattle.segment_manager.specs.ElementLists.{length_at_kind, vector_at};
+ghost use Rattle.segment_manager.specs.containers.Contents.{sizes_at};
+ghost use Rattle.segment_manager.specs.objects.ElementLists.{length_at_kind, vector_at};
 ghost use Rattle.segment_manager.specs.State.{Answers, IsStepOfKind, answer_of, done_answer};
 ghost use Rattle.segment_views.specs.Repeated.{StepsOn};
 

@@ -4,7 +4,7 @@ use Rattle.seg_types.specs.Keys.{key_seen}
 use Rattle.segment_manager.specs.Calls.{kind_at}
 use Rattle.segment_manager.specs.State.{Answers}
 use Rattle.segment_manager.proofs.Laws.{kind-by_key}
-use Rattle.segment_manager.specs.Walks.{item_seen}
+use Rattle.segment_manager.specs.containers.Walks.{item_seen}
 use Rattle.segment_c.proofs.MapPairs.{first-missing, first-no_map, first-told}
 use Rattle.segment_c.proofs.maps.first.Goals as goal
 

@@ -5,8 +5,8 @@ use Rattle.seg_types.specs.Keys.{key_seen}
 use Rattle.segment_manager.specs.Calls.{kind_at}
 use Rattle.segment_manager.specs.State.{Answers}
 use Rattle.segment_manager.proofs.Laws.{kind-by_key}
-use Rattle.segment_manager.specs.Walks.{item_seen, pairs_at}
-use Rattle.segment_manager.specs.Maps.{pair_above}
+use Rattle.segment_manager.specs.containers.Walks.{item_seen, pairs_at}
+use Rattle.segment_manager.specs.containers.Maps.{pair_above}
 use Rattle.seg_types.specs.Values.{value_of_scalar}
 use Rattle.segment_values.specs.Literals.{literal_seen}
 use Rattle.segment_c.specs.Reads.{item_in}

@@ -1,7 +1,7 @@
 -- So many pairs have gone out, and the next one is that at the next place.
 use Rattle.segment_dump.proofs.Common.{◌≡◌, ◌<◌, slice_get, option_map, ByHandle, item_of, Directory, StandsFor}
 use Rattle.segment_dump.proofs.Common.{item_seen, pairs_at, pair_part, WritesOf, parts_until}
-use Rattle.segment_manager.specs.Walks.{item_of_kinds}
+use Rattle.segment_manager.specs.containers.Walks.{item_of_kinds}
 use Rattle.segment_dump.proofs.PartLines.{well}
 use Rattle.segment_dump.proofs.pairs.put_pairs.Given as goal
 

@@ -1,5 +1,5 @@
 -- The law, object by object.
-use Rattle.segment_manager.proofs.Heads.{entries_say_objects}
+use Rattle.segment_manager.proofs.objects.Heads.{entries_say_objects}
 use Rattle.segment_manager.proofs.theorems.entries_say_objects.Goals as goal
 
 pub returns : goal.returns

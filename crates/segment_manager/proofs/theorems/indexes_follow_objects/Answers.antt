@@ -1,5 +1,5 @@
 -- The law is the lemma.
-use Rattle.segment_manager.proofs.Entries.{follows}
+use Rattle.segment_manager.proofs.indexes.Entries.{follows}
 use Rattle.segment_manager.proofs.theorems.indexes_follow_objects.Goals as goal
 
 pub returns : goal.returns

@@ -6,8 +6,8 @@ use Rattle.seg_types.specs.Keys.{new_key_seen}
 use Rattle.seg_types.specs.Kinds.{is_value}
 use Rattle.seg_types.specs.Values.{kind_of_scalar, value_of_scalar}
 use Rattle.segment_lang.specs.Arguments.{scalars_in}
-use Rattle.segment_manager.specs.NewObjects.{IsOfItsKind}
-use Rattle.segment_manager.specs.Items.{TakesItems}
+use Rattle.segment_manager.specs.objects.NewObjects.{IsOfItsKind}
+use Rattle.segment_manager.specs.objects.Items.{TakesItems}
 use Rattle.segment_scripts.proofs.ArrayCalls.{all-refused, all-step, taken-kind}
 use Rattle.segment_scripts.proofs.NewKinds.{array_kind}
 use Rattle.segment_scripts.proofs.constructing.construct_it.Goals as goal

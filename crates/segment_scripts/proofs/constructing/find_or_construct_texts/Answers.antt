@@ -1,7 +1,7 @@
 use Rattle.std.proofs.Common.{◌∙◌, ap, map, subst}
 use Rattle.seg_types.specs.Commands.{FindOrConstruct, Strings}
 use Rattle.seg_types.specs.Keys.{index_key_seen}
-use Rattle.segment_manager.specs.Found.{pair_answer}
+use Rattle.segment_manager.specs.objects.Found.{pair_answer}
 use Rattle.segment_manager.specs.State.{IsStep}
 use Rattle.segment_scripts.proofs.NewKinds.{index_strings_kind}
 use Rattle.segment_scripts.proofs.constructing.find_or_construct_texts.Goals as goal

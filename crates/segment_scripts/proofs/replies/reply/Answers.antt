@@ -4,11 +4,12 @@ use Rattle.seg_types.specs.Commands.{AllDeallocated, Find, Free, Lookup, NumName
 use Rattle.seg_types.specs.Keys.{index_key_seen, key_seen}
 use Rattle.segment_lang.specs.Seen.{literal_of}
 use Rattle.segment_manager.specs.Answers.{Done, Made, Number, Truth}
-use Rattle.segment_manager.specs.Found.{found_answer, pair_found}
-use Rattle.segment_manager.specs.Maps.{any_value_answer}
+use Rattle.segment_manager.specs.objects.Found.{found_answer, pair_found}
+use Rattle.segment_manager.specs.containers.Maps.{any_value_answer}
 use Rattle.segment_manager.specs.State.{IsReply}
 use Rattle.segment_scripts.specs.declared.replies.Answer.TheVariants as said
-use Rattle.segment_scripts.proofs.Answering.{keeps-refused, replies-as, replies-blocks, replies-command, replies-info, replies-kinds, replies-names, replies-read, replies-show}
+use Rattle.segment_scripts.proofs.Answering.{keeps-refused, replies-as, replies-blocks, replies-command, replies-info}
+use Rattle.segment_scripts.proofs.Answering.{replies-kinds, replies-names, replies-read, replies-show}
 use Rattle.segment_scripts.proofs.replies.reply.Goals as goal
 
 pub returns-in-Construct : goal.returns-in-Construct

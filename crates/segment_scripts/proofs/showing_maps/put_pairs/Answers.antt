@@ -4,8 +4,9 @@ use Rattle.std.specs.Prelude.{option_map}
 use Rattle.std.proofs.lemmas.Bool.{lt-ltb}
 use Rattle.seg_types.specs.Names.{ByHandle}
 use Rattle.segment_manager.specs.State.{StandsFor}
-use Rattle.segment_manager.specs.Walks.{item_seen, pairs_at}
-use Rattle.segment_manager.proofs.NextPairs.{IsNext, map-of-key, next-behind, next-first, next-none, no-pair, none-text, pair-said}
+use Rattle.segment_manager.specs.containers.Walks.{item_seen, pairs_at}
+use Rattle.segment_manager.proofs.NextPairs.{IsNext, map-of-key, next-behind, next-first, next-none, no-pair, none-text}
+use Rattle.segment_manager.proofs.NextPairs.{pair-said}
 use Rattle.segment_manager.proofs.PartLaws.{well}
 use Rattle.segment_scripts.specs.Parts.{part_of}
 use Rattle.segment_scripts.specs.ShownPairs.{item_text, pair_part, pairs_text}

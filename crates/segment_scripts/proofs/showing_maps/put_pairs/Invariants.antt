@@ -5,7 +5,7 @@ use Rattle.seg_types.specs.Names.{ByHandle}
 use Rattle.seg_map.specs.Places.{item_of}
 use Rattle.segment_manager.specs.Directory.{Directory}
 use Rattle.segment_manager.specs.State.{StandsFor}
-use Rattle.segment_manager.specs.Walks.{item_of_kinds, item_seen, pairs_at}
+use Rattle.segment_manager.specs.containers.Walks.{item_of_kinds, item_seen, pairs_at}
 use Rattle.segment_manager.proofs.PartLaws.{well}
 use Rattle.segment_scripts.specs.ShownPairs.{pairs_text}
 use Rattle.segment_scripts.specs.Writing.{WritesFor}

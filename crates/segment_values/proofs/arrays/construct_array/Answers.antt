@@ -2,7 +2,7 @@
 use Rattle.std.proofs.Common.{◌≡◌, refl, ℕ, ◌≤◌, true, length}
 use Rattle.std.specs.Prelude.{nat_le}
 use Rattle.std.proofs.lemmas.Bool.{and_from, le-leb}
-use Rattle.segment_manager.specs.Counted.{is_count}
+use Rattle.segment_manager.specs.objects.Counted.{is_count}
 use Rattle.segment_manager.proofs.CommandLaws.{array-refused, array-step}
 use Rattle.segment_values.proofs.arrays.construct_array.Goals as goal
 

@@ -3,9 +3,9 @@ use Rattle.std.proofs.Common.{sym, ap, subst, ◌∙◌}
 use Rattle.std.specs.Prelude.{slice_get}
 use Rattle.std.specs.Range.Bound.{bound_map}
 use Rattle.seg_types.specs.Names.{ByHandle}
-use Rattle.segment_manager.specs.Maps.{numbers_in}
+use Rattle.segment_manager.specs.containers.Maps.{numbers_in}
 use Rattle.segment_manager.specs.State.{Answers}
-use Rattle.segment_manager.specs.Walks.{pairs_at_kinds}
+use Rattle.segment_manager.specs.containers.Walks.{pairs_at_kinds}
 use Rattle.segment_views.specs.Ranged.{is_up_to, pair_or_none, range_of}
 use Rattle.segment_views.proofs.Between.{admitted}
 use Rattle.segment_views.proofs.RangeReads.{admitted-then, reads-within}

@@ -5,9 +5,9 @@ use Rattle.std.specs.Range.Bound.{bound_map}
 use Rattle.std.specs.declared.ops.Bound.TheVariants.{Included, Excluded, Unbounded}
 use Rattle.seg_types.specs.Names.{ByHandle}
 use Rattle.seg_map.specs.Places.{item_of}
-use Rattle.segment_manager.specs.Maps.{numbers_in, pair_above, pair_from}
+use Rattle.segment_manager.specs.containers.Maps.{numbers_in, pair_above, pair_from}
 use Rattle.segment_manager.specs.State.{Answers}
-use Rattle.segment_manager.specs.Walks.{first_of, pairs_at_kinds}
+use Rattle.segment_manager.specs.containers.Walks.{first_of, pairs_at_kinds}
 use Rattle.segment_views.specs.Ranged.{pair_or_none, range_of}
 use Rattle.segment_views.proofs.Between.{above-ranged, all-ranged, from-ranged}
 use Rattle.segment_views.proofs.RangeReads.{reads-told}

@@ -1,7 +1,7 @@
 -- From the least key on the first pair comes.
 use Rattle.std.proofs.Common.{subst}
 use Rattle.seg_types.specs.Names.{ByHandle}
-use Rattle.segment_manager.specs.Maps.{pair_from, pair_result, told_of_map}
+use Rattle.segment_manager.specs.containers.Maps.{pair_from, pair_result, told_of_map}
 use Rattle.segment_manager.specs.State.{Answers}
 use Rattle.segment_views.proofs.RangeReads.{reads-least}
 use Rattle.segment_views.proofs.ranges.first_of_all.Goals as goal

@@ -3,9 +3,9 @@ use Rattle.std.proofs.Common.{refl, sym, subst}
 use Rattle.std.specs.Range.Bound.{bound_map}
 use Rattle.std.specs.declared.ops.Bound.TheVariants.{Included, Excluded, Unbounded}
 use Rattle.seg_types.specs.Names.{ByHandle}
-use Rattle.segment_manager.specs.Maps.{numbers_in, pair_at_end, pair_below, pair_up_to}
+use Rattle.segment_manager.specs.containers.Maps.{numbers_in, pair_at_end, pair_below, pair_up_to}
 use Rattle.segment_manager.specs.State.{Answers}
-use Rattle.segment_manager.specs.Walks.{pairs_at_kinds}
+use Rattle.segment_manager.specs.containers.Walks.{pairs_at_kinds}
 use Rattle.segment_views.specs.Ranged.{last_between, pair_or_none}
 use Rattle.segment_views.proofs.Between.{below-ranged, end-ranged, up_to-ranged}
 use Rattle.segment_views.proofs.RangeReads.{reads-told}

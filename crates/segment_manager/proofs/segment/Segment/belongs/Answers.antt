@@ -1,6 +1,6 @@
 -- The handle is an object's where a block in use has it that is for an object.
 use Rattle.segment_manager.proofs.Common.{subst, is_object_at, Answers}
-use Rattle.segment_manager.proofs.KeyCalls.{dead-answers, role-answers}
+use Rattle.segment_manager.proofs.objects.KeyCalls.{dead-answers, role-answers}
 use Rattle.segment_manager.proofs.segment.Segment.belongs.Goals as goal
 
 pub returns-then-is_live : goal.returns-then-is_live

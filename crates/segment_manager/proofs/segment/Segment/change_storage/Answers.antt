@@ -2,14 +2,16 @@
 use Rattle.segment_manager.proofs.Common.{exit-is, ◌≡◌, false, refl, subst, sym, ◌∙◌, Answers, ByHandle, Change, Err}
 use Rattle.segment_manager.proofs.Common.{IsStep, Key, Kind, Located, Refusal, Refused, State, StringsKind, command_of}
 use Rattle.segment_manager.proofs.Common.{container_at, ap, done_answer, has_storage, inl, inr, is_read_only}
-use Rattle.segment_manager.proofs.Locating.{enough-by_key, kind-by_key, located-changes}
-use Rattle.segment_manager.proofs.OneLength.{elements-changed, elements-kept, some-elements}
-use Rattle.segment_manager.proofs.{AnyStorage.change-other, AnyStorage.nowhere-steps, KeptContainers.texts-kept}
-use Rattle.segment_manager.proofs.{Refilled.finds-no_container, Released.has_storage-left, Steps.open-writing}
-use Rattle.segment_manager.proofs.{Safely.Answered, Safely.answered, Steps.refuses-read_only}
-use Rattle.segment_manager.proofs.{StorageSteps.change-changes, StorageSteps.change-nowhere}
-use Rattle.segment_manager.proofs.{TextListCalls.texts-changed, TextListCalls.texts-standing}
-use Rattle.segment_manager.specs.{Located.IsLocated, Stored.ChangesElements, Stored.IsElements, Stored.each_of}
+use Rattle.segment_manager.proofs.objects.Locating.{enough-by_key, kind-by_key, located-changes}
+use Rattle.segment_manager.proofs.containers.OneLength.{elements-changed, elements-kept, some-elements}
+use Rattle.segment_manager.proofs.{containers.AnyStorage.change-other, containers.AnyStorage.nowhere-steps}
+use Rattle.segment_manager.proofs.{containers.KeptContainers.texts-kept, containers.Refilled.finds-no_container}
+use Rattle.segment_manager.proofs.{containers.Released.has_storage-left, Steps.open-writing, containers.Safely.Answered}
+use Rattle.segment_manager.proofs.{containers.Safely.answered, Steps.refuses-read_only}
+use Rattle.segment_manager.proofs.{containers.StorageSteps.change-changes, containers.StorageSteps.change-nowhere}
+use Rattle.segment_manager.proofs.{containers.TextListCalls.texts-changed, containers.TextListCalls.texts-standing}
+use Rattle.segment_manager.specs.{objects.Located.IsLocated, containers.Stored.ChangesElements}
+use Rattle.segment_manager.specs.{containers.Stored.IsElements, containers.Stored.each_of}
 use Rattle.segment_manager.proofs.segment.Segment.change_storage.Goals.{After-change_elements, After-change_texts}
 use Rattle.segment_manager.proofs.segment.Segment.change_storage.Given.{Over}
 use Rattle.segment_manager.proofs.segment.Segment.change_storage.Goals as goal

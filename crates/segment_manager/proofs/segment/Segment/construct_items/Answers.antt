@@ -1,7 +1,9 @@
 -- The object is begun, filled and ended, or refused before.
 use Rattle.segment_manager.proofs.Common.{sym, ◌∙◌, new_key_seen, exit-is}
-use Rattle.segment_manager.proofs.ItemCalls.{items-ending, items-room, items-segment, items-taken, refused-items}
-use Rattle.segment_manager.proofs.{ItemCalls.refused-segment, ItemCalls.takes-nothing, Loose.begun-heap}
+use Rattle.segment_manager.proofs.objects.ItemCalls.{items-ending, items-room, items-segment, items-taken}
+use Rattle.segment_manager.proofs.objects.ItemCalls.{refused-items}
+use Rattle.segment_manager.proofs.{objects.ItemCalls.refused-segment, objects.ItemCalls.takes-nothing}
+use Rattle.segment_manager.proofs.{objects.Loose.begun-heap}
 use Rattle.segment_manager.proofs.segment.Segment.construct_items.Goals as goal
 
 pub returns-then-is_read_only : goal.returns-then-is_read_only

@@ -1,6 +1,6 @@
 -- The count of the index is that of the directory.
 use Rattle.segment_manager.proofs.Common.{subst, length, objects_of, Answers, State}
-use Rattle.segment_manager.proofs.KeyCalls.{index-counts}
+use Rattle.segment_manager.proofs.objects.KeyCalls.{index-counts}
 use Rattle.segment_manager.proofs.segment.Segment.count_of.Goals as goal
 
 pub returns-clause-count : goal.returns-clause-count

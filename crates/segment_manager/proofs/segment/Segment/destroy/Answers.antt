@@ -1,7 +1,7 @@
 -- The key says which index has the entry. It is removed with its object, or there is none.
 use Rattle.segment_manager.proofs.Common.{refl, sym, ◌∙◌}
-use Rattle.segment_manager.proofs.Destroys.{destroys-entered, destroys-none, found-entry}
-use Rattle.segment_manager.proofs.{HeldIndexes.denotes-keys, Keeping.keeps-found, Steps.refuses-read_only}
+use Rattle.segment_manager.proofs.objects.Destroys.{destroys-entered, destroys-none, found-entry}
+use Rattle.segment_manager.proofs.{indexes.HeldIndexes.denotes-keys, Keeping.keeps-found, Steps.refuses-read_only}
 use Rattle.seg_types.specs.{Commands.Destroy, Keys.index_key_seen}
 use Rattle.segment_manager.proofs.segment.Segment.destroy.Goals as goal
 

@@ -1,7 +1,7 @@
 -- The object at the entry is read.
 use Rattle.segment_manager.proofs.Common.{subst, current, objects_of, SaysAt, State}
-use Rattle.segment_manager.proofs.{Calling.denotes-heap, KeyCalls.below-count, KeyCalls.segment-index}
-use Rattle.segment_manager.proofs.KeyCalls.{entered-object, entered-says}
+use Rattle.segment_manager.proofs.{Calling.denotes-heap, objects.KeyCalls.below-count, objects.KeyCalls.segment-index}
+use Rattle.segment_manager.proofs.objects.KeyCalls.{entered-object, entered-says}
 use Rattle.segment_manager.proofs.segment.Segment.entered.Goals as goal
 
 pub at-handle-requires-clause-index : goal.at-handle-requires-clause-index

@@ -1,6 +1,7 @@
 -- The container of the object at the handle: the head says its kind, and how long the name is.
 use Rattle.segment_manager.proofs.Common.{◌∙◌, ap, ℕ, ◌+◌, padded, head_len}
-use Rattle.segment_manager.proofs.{Here.seen-object, Safely.contains, Safely.of-kind, Safely.other-kind}
+use Rattle.segment_manager.proofs.{objects.Here.seen-object, containers.Safely.contains, containers.Safely.of-kind}
+use Rattle.segment_manager.proofs.{containers.Safely.other-kind}
 use Rattle.segment_manager.proofs.segment.Segment.find_container.Goals as goal
 
 pub read_head-head-requires : goal.read_head-head-requires

@@ -1,7 +1,8 @@
 -- The place in the object at the handle.
 use Rattle.segment_manager.proofs.Common.{exit-is, subst, Ok, Err, Answers}
-use Rattle.segment_manager.proofs.{Here.seen-handle, Here.seen-object, Stored.places, Stored.placed}
-use Rattle.segment_manager.specs.Standing.{place_at}
+use Rattle.segment_manager.proofs.{objects.Here.seen-handle, objects.Here.seen-object, objects.Stored.places}
+use Rattle.segment_manager.proofs.{objects.Stored.placed}
+use Rattle.segment_manager.specs.objects.Standing.{place_at}
 use Rattle.segment_manager.proofs.segment.Segment.find_element.Goals as goal
 
 pub place_of-requires : goal.place_of-requires

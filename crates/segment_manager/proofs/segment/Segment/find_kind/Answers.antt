@@ -1,6 +1,6 @@
 -- The object that was found says its kind and its count.
-use Rattle.segment_manager.proofs.KeyCalls.{find-absent, find-there}
-use Rattle.segment_manager.proofs.{Common.exit-is, Common.key_seen, Here.seen-object}
+use Rattle.segment_manager.proofs.objects.KeyCalls.{find-absent, find-there}
+use Rattle.segment_manager.proofs.{Common.exit-is, Common.key_seen, objects.Here.seen-object}
 use Rattle.segment_manager.proofs.segment.Segment.find_kind.Goals as goal
 
 pub returns-in_default : goal.returns-in_default

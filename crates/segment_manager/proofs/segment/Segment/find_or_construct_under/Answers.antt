@@ -1,8 +1,8 @@
 -- The call on the heap, under the key that the object gets, as one on the segment.
 use Rattle.segment_manager.proofs.Common.{refl, sym, ap, subst, ◌∙◌, Key, FindsOrConstructs, IsOfKind, bare}
 use Rattle.segment_manager.proofs.Common.{index_key_seen, kind_of}
-use Rattle.segment_manager.proofs.FilledCalls.{made-segment}
-use Rattle.segment_manager.proofs.{KeptContainers.keeps-cut, Steps.refuses-read_only}
+use Rattle.segment_manager.proofs.objects.FilledCalls.{made-segment}
+use Rattle.segment_manager.proofs.{containers.KeptContainers.keeps-cut, Steps.refuses-read_only}
 use Rattle.segment_manager.specs.Keeping.{HasKey}
 use Rattle.segment_manager.proofs.segment.Segment.find_or_construct_under.{Goals.After-find_or_construct_entered}
 use Rattle.segment_manager.proofs.segment.Segment.find_or_construct_under.{Given.Over}

@@ -1,8 +1,9 @@
 -- The kind of the object that was located says which call it is.
 use Rattle.segment_manager.proofs.Common.{exit-is, refl, U8, ByHandle, Scalar, String, Vector, WrongKind, Get}
-use Rattle.segment_manager.proofs.AnyKind.{any-missing, located-replies, of_kind-none, other-elements}
-use Rattle.segment_manager.proofs.{Locating.kind-by_key, StorageSteps.no_container-reply, StorageSteps.seen-reply}
-use Rattle.segment_manager.proofs.TextAnswers.{text-got, text-standing, text_got-past}
+use Rattle.segment_manager.proofs.objects.AnyKind.{any-missing, located-replies, of_kind-none, other-elements}
+use Rattle.segment_manager.proofs.{objects.Locating.kind-by_key, containers.StorageSteps.no_container-reply}
+use Rattle.segment_manager.proofs.{containers.StorageSteps.seen-reply}
+use Rattle.segment_manager.proofs.containers.TextAnswers.{text-got, text-standing, text_got-past}
 use Rattle.segment_manager.proofs.segment.Segment.get_any.Goals as goal
 
 pub returns-in-Scalar : goal.returns-in-Scalar

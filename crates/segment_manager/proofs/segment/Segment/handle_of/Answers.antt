@@ -1,6 +1,6 @@
 -- Each form of key is looked for in its own way.
 use Rattle.segment_manager.proofs.Common.{sym, subst, None, key_seen, ByName, ByKind, ByHandle, handle_at, Answers}
-use Rattle.segment_manager.proofs.KeyCalls.{anonymous-answers, handle-answers}
+use Rattle.segment_manager.proofs.objects.KeyCalls.{anonymous-answers, handle-answers}
 use Rattle.segment_manager.proofs.segment.Segment.handle_of.Goals as goal
 
 pub returns-in-Name : goal.returns-in-Name

@@ -1,6 +1,6 @@
 -- The object of the key is read.
-use Rattle.segment_manager.proofs.{Common.subst, Common.current, Common.SaysOf, Calling.denotes-heap, Here.seen-handle}
-use Rattle.segment_manager.proofs.{Here.seen-object, KeyCalls.key-says}
+use Rattle.segment_manager.proofs.{Common.subst, Common.current, Common.SaysOf, Calling.denotes-heap}
+use Rattle.segment_manager.proofs.{objects.Here.seen-handle, objects.Here.seen-object, objects.KeyCalls.key-says}
 use Rattle.segment_manager.proofs.segment.Segment.instance.Goals as goal
 
 pub read_instance-requires-clause-heap : goal.read_instance-requires-clause-heap

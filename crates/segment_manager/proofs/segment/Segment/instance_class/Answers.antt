@@ -1,5 +1,5 @@
 -- The head says the class.
-use Rattle.segment_manager.proofs.{Common.key_seen, Here.seen-object, Here.seen-tells}
+use Rattle.segment_manager.proofs.{Common.key_seen, objects.Here.seen-object, objects.Here.seen-tells}
 use Rattle.segment_manager.proofs.segment.Segment.instance_class.Goals as goal
 
 pub read_head-requires : goal.read_head-requires

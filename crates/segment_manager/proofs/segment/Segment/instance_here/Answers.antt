@@ -1,7 +1,7 @@
 -- The object of the handle is read.
 use Rattle.segment_manager.proofs.Common.{sym, subst, true, current, ByHandle, is_object_at, SaysOf, Answers}
-use Rattle.segment_manager.proofs.{Calling.denotes-heap, OwnEntries.has-own_object, KeyCalls.key-says}
-use Rattle.segment_manager.proofs.{KeyCalls.handle-answers}
+use Rattle.segment_manager.proofs.{Calling.denotes-heap, objects.OwnEntries.has-own_object, objects.KeyCalls.key-says}
+use Rattle.segment_manager.proofs.{objects.KeyCalls.handle-answers}
 use Rattle.segment_manager.proofs.segment.Segment.instance_here.Goals as goal
 
 pub read_instance-requires-clause-heap : goal.read_instance-requires-clause-heap

@@ -1,5 +1,6 @@
 -- The head says the count.
-use Rattle.segment_manager.proofs.{Common.◌∙◌, Common.key_seen, Common.count_of, Here.seen-object, Here.seen-tells}
+use Rattle.segment_manager.proofs.{Common.◌∙◌, Common.key_seen, Common.count_of, objects.Here.seen-object}
+use Rattle.segment_manager.proofs.{objects.Here.seen-tells}
 use Rattle.segment_manager.proofs.segment.Segment.instance_length.Goals as goal
 
 pub read_head-requires : goal.read_head-requires

@@ -1,5 +1,5 @@
 -- The head says the class, and with it the key.
-use Rattle.segment_manager.proofs.OwnEntries.{has-own_object, listed-kind, listed-name, listed-none}
+use Rattle.segment_manager.proofs.objects.OwnEntries.{has-own_object, listed-kind, listed-name, listed-none}
 use Rattle.segment_manager.proofs.{Common.current, Calling.denotes-heap}
 use Rattle.seg_index.specs.declared.keys.Key.TheVariants as entry
 use Rattle.segment_manager.proofs.segment.Segment.listed.Goals as goal

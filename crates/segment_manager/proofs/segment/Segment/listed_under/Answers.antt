@@ -1,6 +1,6 @@
 -- An entry that an object has is found.
 use Rattle.segment_manager.proofs.Common.{sym, subst, Some, HasEntries, IsListed}
-use Rattle.segment_manager.proofs.{HeldIndexes.denotes-keys, OwnEntries.listed-found}
+use Rattle.segment_manager.proofs.{indexes.HeldIndexes.denotes-keys, objects.OwnEntries.listed-found}
 use Rattle.segment_manager.proofs.segment.Segment.listed_under.Goals as goal
 
 pub lookup-requires : goal.lookup-requires

@@ -1,7 +1,7 @@
 -- The index stands in the heap of the segment, and what is found there is the object of the key.
 use Rattle.segment_manager.proofs.Common.{subst, Some, None, handle_at, Answers}
-use Rattle.segment_manager.proofs.HeldIndexes.{denotes-keys}
-use Rattle.segment_manager.proofs.KeyCalls.{absent-answers, found-answers, place-below, segment-index}
+use Rattle.segment_manager.proofs.indexes.HeldIndexes.{denotes-keys}
+use Rattle.segment_manager.proofs.objects.KeyCalls.{absent-answers, found-answers, place-below, segment-index}
 use Rattle.segment_manager.proofs.segment.Segment.look_up.Goals as goal
 
 pub lookup-requires : goal.lookup-requires

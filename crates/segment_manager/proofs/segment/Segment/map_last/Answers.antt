@@ -1,6 +1,6 @@
 -- The pair is looked for in the map that is found.
-use Rattle.segment_manager.proofs.MapAnswers.{last-there, some-there}
-use Rattle.segment_manager.proofs.{ScalarTypes.of-map}
+use Rattle.segment_manager.proofs.containers.MapAnswers.{last-there, some-there}
+use Rattle.segment_manager.proofs.{containers.ScalarTypes.of-map}
 use Rattle.segment_manager.proofs.segment.Segment.map_last.Goals as goal
 
 pub last-requires : goal.last-requires

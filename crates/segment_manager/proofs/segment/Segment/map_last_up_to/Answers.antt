@@ -1,6 +1,6 @@
 -- The pair is looked for in the map that is found.
-use Rattle.segment_manager.proofs.{Common.true, MapAnswers.back-there}
-use Rattle.segment_manager.proofs.{MapAnswers.some-there, ScalarTypes.of-map}
+use Rattle.segment_manager.proofs.{Common.true, containers.MapAnswers.back-there}
+use Rattle.segment_manager.proofs.{containers.MapAnswers.some-there, containers.ScalarTypes.of-map}
 use Rattle.segment_manager.proofs.segment.Segment.map_last_up_to.Goals as goal
 
 pub last_up_to-requires : goal.last_up_to-requires

@@ -1,6 +1,6 @@
 -- The pair is looked for in the map that is found.
-use Rattle.segment_manager.proofs.{Common.false, MapAnswers.back-there}
-use Rattle.segment_manager.proofs.{MapAnswers.some-there, ScalarTypes.of-map}
+use Rattle.segment_manager.proofs.{Common.false, containers.MapAnswers.back-there}
+use Rattle.segment_manager.proofs.{containers.MapAnswers.some-there, containers.ScalarTypes.of-map}
 use Rattle.segment_manager.proofs.segment.Segment.map_previous_before.Goals as goal
 
 pub previous_before-requires : goal.previous_before-requires

@@ -1,9 +1,9 @@
 -- The pair is put into the map that is found.
 use Rattle.segment_manager.proofs.Common.{exit-is, ◌≡◌, refl, sym, ap, ◌∙◌, Command, Map, Put, literal_of, truth_answer}
-use Rattle.segment_manager.proofs.{MapAnswers.put-there, MapAnswers.some-there, MapCalls.finds-no_map}
-use Rattle.segment_manager.proofs.{MapCalls.put_result, Safely.Answered, Safely.told, ScalarTypes.of-map}
-use Rattle.segment_manager.proofs.{Steps.open-writing}
-use Rattle.segment_manager.proofs.{Steps.refuses_of_kind-read_only}
+use Rattle.segment_manager.proofs.{containers.MapAnswers.put-there, containers.MapAnswers.some-there}
+use Rattle.segment_manager.proofs.{containers.MapCalls.finds-no_map, containers.MapCalls.put_result}
+use Rattle.segment_manager.proofs.{containers.Safely.Answered, containers.Safely.told, containers.ScalarTypes.of-map}
+use Rattle.segment_manager.proofs.{Steps.open-writing, Steps.refuses_of_kind-read_only}
 use Rattle.segment_manager.proofs.segment.Segment.map_put.Goals as goal
 use Rattle.segment_manager.proofs.segment.Segment.map_put.{Goals.Joined-put, Goals.in-Err, Goals.in-Ok, Given.Over}
 

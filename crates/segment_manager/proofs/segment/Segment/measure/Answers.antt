@@ -1,6 +1,6 @@
 -- The kind of the object of the key says which call it is.
 use Rattle.segment_manager.proofs.Common.{refl}
-use Rattle.segment_manager.proofs.Locating.{located-measures}
+use Rattle.segment_manager.proofs.objects.Locating.{located-measures}
 use Rattle.segment_manager.proofs.segment.Segment.measure.Goals as goal
 
 pub returns-in_default : goal.returns-in_default

@@ -1,5 +1,5 @@
 -- The count of the index is that of the directory.
-use Rattle.segment_manager.proofs.{Common.subst, Common.Number, Common.IsReply, KeyCalls.num-replies}
+use Rattle.segment_manager.proofs.{Common.subst, Common.Number, Common.IsReply, objects.KeyCalls.num-replies}
 use Rattle.seg_types.specs.Commands.{NumNamed}
 use Rattle.seg_index.specs.declared.index.Index.TheVariants.{Named}
 use Rattle.segment_manager.proofs.segment.Segment.num_named.Goals as goal

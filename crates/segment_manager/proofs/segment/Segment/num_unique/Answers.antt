@@ -1,5 +1,5 @@
 -- The count of the index is that of the directory.
-use Rattle.segment_manager.proofs.{Common.subst, Common.Number, Common.IsReply, KeyCalls.num-replies}
+use Rattle.segment_manager.proofs.{Common.subst, Common.Number, Common.IsReply, objects.KeyCalls.num-replies}
 use Rattle.seg_types.specs.Commands.{NumUnique}
 use Rattle.seg_index.specs.declared.index.Index.TheVariants.{Unique}
 use Rattle.segment_manager.proofs.segment.Segment.num_unique.Goals as goal

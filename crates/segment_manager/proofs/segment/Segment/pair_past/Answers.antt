@@ -1,6 +1,6 @@
 -- The pair is looked for in the map that is found, by the call that the bound says.
-use Rattle.segment_manager.proofs.{Common.true, Common.false, MapAnswers.past-there}
-use Rattle.segment_manager.proofs.{MapAnswers.some-there, ScalarTypes.of-map}
+use Rattle.segment_manager.proofs.{Common.true, Common.false, containers.MapAnswers.past-there}
+use Rattle.segment_manager.proofs.{containers.MapAnswers.some-there, containers.ScalarTypes.of-map}
 use Rattle.segment_manager.proofs.segment.Segment.pair_past.Goals as goal
 
 pub next_after-requires : goal.next_after-requires

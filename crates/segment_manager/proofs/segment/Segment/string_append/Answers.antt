@@ -1,6 +1,6 @@
 -- The bytes are put behind the others of the string that is found.
-use Rattle.segment_manager.proofs.TextAnswers.{text-appended, text-standing}
-use Rattle.segment_manager.proofs.{Common.refl, Safely.told, ToChange.not-changed}
+use Rattle.segment_manager.proofs.containers.TextAnswers.{text-appended, text-standing}
+use Rattle.segment_manager.proofs.{Common.refl, containers.Safely.told, containers.ToChange.not-changed}
 use Rattle.segment_manager.proofs.segment.Segment.string_append.Goals as goal
 
 pub append-requires : goal.append-requires

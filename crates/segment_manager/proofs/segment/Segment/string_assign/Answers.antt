@@ -1,6 +1,6 @@
 -- The bytes are put in the place of those of the string that is found.
-use Rattle.segment_manager.proofs.TextAnswers.{text-assigned, text-standing}
-use Rattle.segment_manager.proofs.{Common.refl, Safely.told, ToChange.not-changed}
+use Rattle.segment_manager.proofs.containers.TextAnswers.{text-assigned, text-standing}
+use Rattle.segment_manager.proofs.{Common.refl, containers.Safely.told, containers.ToChange.not-changed}
 use Rattle.segment_manager.proofs.segment.Segment.string_assign.Goals as goal
 
 pub assign-requires : goal.assign-requires

@@ -1,7 +1,7 @@
 -- The bytes are those of the string that is found.
 use Rattle.segment_manager.proofs.Common.{subst, Ok, String, bytes_at, Answers, State}
-use Rattle.segment_manager.proofs.TextAnswers.{reads-bytes, text-standing}
-use Rattle.segment_manager.proofs.ToChange.{seen-found}
+use Rattle.segment_manager.proofs.containers.TextAnswers.{reads-bytes, text-standing}
+use Rattle.segment_manager.proofs.containers.ToChange.{seen-found}
 use Rattle.segment_manager.proofs.segment.Segment.string_bytes.Goals as goal
 
 pub as_bytes-requires : goal.as_bytes-requires

@@ -1,6 +1,7 @@
 -- The byte is written in the string that is found.
-use Rattle.segment_manager.proofs.{Common.lt-ltb, Common.refl, Safely.told, TextAnswers.byte-value}
-use Rattle.segment_manager.proofs.{TextAnswers.text-set, TextAnswers.text-standing, ToChange.not-changed}
+use Rattle.segment_manager.proofs.{Common.lt-ltb, Common.refl, containers.Safely.told}
+use Rattle.segment_manager.proofs.{containers.TextAnswers.byte-value, containers.TextAnswers.text-set}
+use Rattle.segment_manager.proofs.{containers.TextAnswers.text-standing, containers.ToChange.not-changed}
 use Rattle.segment_manager.proofs.segment.Segment.string_set.Goals as goal
 
 pub set-requires : goal.set-requires

@@ -1,6 +1,7 @@
 -- The texts are those of the vector of strings that is found.
-use Rattle.segment_manager.proofs.{Common.refl, TextListCalls.texts-assigned, TextListCalls.texts-standing}
-use Rattle.segment_manager.proofs.{TextMoves.kept-told, ToChange.not-changed}
+use Rattle.segment_manager.proofs.{Common.refl, containers.TextListCalls.texts-assigned}
+use Rattle.segment_manager.proofs.{containers.TextListCalls.texts-standing, containers.TextMoves.kept-told}
+use Rattle.segment_manager.proofs.{containers.ToChange.not-changed}
 use Rattle.segment_manager.proofs.segment.Segment.texts_assign.Goals as goal
 
 pub assign-requires : goal.assign-requires

@@ -1,6 +1,6 @@
 -- The text is left out of the vector of strings that is found.
-use Rattle.segment_manager.proofs.{Common.refl, Safely.told, TextListCalls.text-erased, TextListCalls.texts-standing}
-use Rattle.segment_manager.proofs.{ToChange.not-changed}
+use Rattle.segment_manager.proofs.{Common.refl, containers.Safely.told, containers.TextListCalls.text-erased}
+use Rattle.segment_manager.proofs.{containers.TextListCalls.texts-standing, containers.ToChange.not-changed}
 use Rattle.segment_manager.proofs.segment.Segment.texts_erase.Goals as goal
 
 pub erase-requires : goal.erase-requires

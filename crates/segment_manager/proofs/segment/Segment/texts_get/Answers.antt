@@ -1,6 +1,7 @@
 -- The text is that of the vector of strings that is found.
-use Rattle.segment_manager.proofs.{Common.exit-is, Common.refl, StorageSteps.no_container-reply}
-use Rattle.segment_manager.proofs.{StorageSteps.seen-reply, TextListCalls.text-got, TextListCalls.texts-standing}
+use Rattle.segment_manager.proofs.{Common.exit-is, Common.refl, containers.StorageSteps.no_container-reply}
+use Rattle.segment_manager.proofs.{containers.StorageSteps.seen-reply, containers.TextListCalls.text-got}
+use Rattle.segment_manager.proofs.{containers.TextListCalls.texts-standing}
 use Rattle.segment_manager.proofs.segment.Segment.texts_get.Goals as goal
 
 pub get-requires : goal.get-requires

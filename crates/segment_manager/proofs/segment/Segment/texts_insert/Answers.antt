@@ -1,6 +1,7 @@
 -- The text is put among those of the vector of strings that is found.
-use Rattle.segment_manager.proofs.{Common.refl, TextListCalls.text-inserted}
-use Rattle.segment_manager.proofs.{TextListCalls.texts-standing, TextMoves.kept-told, ToChange.not-changed}
+use Rattle.segment_manager.proofs.{Common.refl, containers.TextListCalls.text-inserted}
+use Rattle.segment_manager.proofs.{containers.TextListCalls.texts-standing, containers.TextMoves.kept-told}
+use Rattle.segment_manager.proofs.{containers.ToChange.not-changed}
 use Rattle.segment_manager.proofs.segment.Segment.texts_insert.Goals as goal
 
 pub insert-requires : goal.insert-requires

@@ -1,6 +1,6 @@
 -- The last text is taken out of the vector of strings that is found.
-use Rattle.segment_manager.proofs.TextListCalls.{text-popped, texts-standing}
-use Rattle.segment_manager.proofs.{Common.Pop, Common.exit-is, Common.refl, TextMoves.step-leads-on}
+use Rattle.segment_manager.proofs.containers.TextListCalls.{text-popped, texts-standing}
+use Rattle.segment_manager.proofs.{Common.Pop, Common.exit-is, Common.refl, containers.TextMoves.step-leads-on}
 use Rattle.segment_manager.proofs.segment.Segment.texts_pop.Goals as goal
 
 pub pop-requires : goal.pop-requires

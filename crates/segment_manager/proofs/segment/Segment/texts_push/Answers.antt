@@ -1,6 +1,7 @@
 -- The text is put behind the last of the vector of strings that is found.
-use Rattle.segment_manager.proofs.{Common.refl, TextListCalls.text-pushed}
-use Rattle.segment_manager.proofs.{TextListCalls.texts-standing, TextMoves.kept-told, ToChange.not-changed}
+use Rattle.segment_manager.proofs.{Common.refl, containers.TextListCalls.text-pushed}
+use Rattle.segment_manager.proofs.{containers.TextListCalls.texts-standing, containers.TextMoves.kept-told}
+use Rattle.segment_manager.proofs.{containers.ToChange.not-changed}
 use Rattle.segment_manager.proofs.segment.Segment.texts_push.Goals as goal
 
 pub push-requires : goal.push-requires

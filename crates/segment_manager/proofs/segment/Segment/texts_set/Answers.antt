@@ -1,6 +1,6 @@
 -- The text is put in the place of another in the vector of strings that is found.
-use Rattle.segment_manager.proofs.{Common.refl, Safely.told, TextListCalls.text-set}
-use Rattle.segment_manager.proofs.{TextListCalls.texts-standing, ToChange.not-changed}
+use Rattle.segment_manager.proofs.{Common.refl, containers.Safely.told, containers.TextListCalls.text-set}
+use Rattle.segment_manager.proofs.{containers.TextListCalls.texts-standing, containers.ToChange.not-changed}
 use Rattle.segment_manager.proofs.segment.Segment.texts_set.Goals as goal
 
 pub set-requires : goal.set-requires

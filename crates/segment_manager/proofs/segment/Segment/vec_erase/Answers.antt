@@ -1,6 +1,7 @@
 -- The value is left out of the vector that is found.
-use Rattle.segment_manager.proofs.{Common.Vector, Common.ap, Common.refl, Safely.told, ScalarTypes.of-vector}
-use Rattle.segment_manager.proofs.{ToChange.not-changed, VectorAnswers.some-vector, VectorAnswers.vector-erased}
+use Rattle.segment_manager.proofs.{Common.Vector, Common.ap, Common.refl, containers.Safely.told}
+use Rattle.segment_manager.proofs.{containers.ScalarTypes.of-vector, containers.ToChange.not-changed}
+use Rattle.segment_manager.proofs.{containers.VectorAnswers.some-vector, containers.VectorAnswers.vector-erased}
 use Rattle.segment_manager.proofs.segment.Segment.vec_erase.Goals as goal
 
 pub erase-requires : goal.erase-requires

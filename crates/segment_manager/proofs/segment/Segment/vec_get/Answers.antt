@@ -1,7 +1,8 @@
 -- The value is read from the vector that is found.
 use Rattle.segment_manager.proofs.Common.{exit-is, refl, subst, Err, Vector, Get, container_at, Answers}
-use Rattle.segment_manager.proofs.{ScalarTypes.of-vector, StorageSteps.no_container-reply, StorageSteps.seen-reply}
-use Rattle.segment_manager.proofs.VectorAnswers.{some-vector, vector-got}
+use Rattle.segment_manager.proofs.{containers.ScalarTypes.of-vector, containers.StorageSteps.no_container-reply}
+use Rattle.segment_manager.proofs.{containers.StorageSteps.seen-reply}
+use Rattle.segment_manager.proofs.containers.VectorAnswers.{some-vector, vector-got}
 use Rattle.segment_manager.proofs.segment.Segment.vec_get.Goals as goal
 
 pub get-requires : goal.get-requires

@@ -3,7 +3,7 @@ use Rattle.std.proofs.Common.{refl, subst, ◌+◌, Some, None, List, ℕ}
 use Rattle.std.specs.Prelude.{slice_get}
 use Rattle.std.specs.Borrow.{Bor}
 use Rattle.seg_types.specs.Names.{ByHandle}
-use Rattle.segment_manager.specs.ElementLists.{texts_at}
+use Rattle.segment_manager.specs.objects.ElementLists.{texts_at}
 use Rattle.segment_manager.specs.State.{Answers}
 use Rattle.segment_views.specs.Walked.{ElementWalk, GoesOnElements, element_of}
 use Rattle.segment_views.proofs.Reading.{text-item}

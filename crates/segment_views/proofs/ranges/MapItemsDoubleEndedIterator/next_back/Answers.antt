@@ -3,9 +3,9 @@ use Rattle.std.proofs.Common.{subst, None, Some, ◌-◌}
 use Rattle.std.specs.declared.ops.Bound.TheVariants.{Excluded}
 use Rattle.std.specs.Range.Bound.{bound_map}
 use Rattle.seg_types.specs.Names.{ByHandle}
-use Rattle.segment_manager.specs.Maps.{numbers_in}
+use Rattle.segment_manager.specs.containers.Maps.{numbers_in}
 use Rattle.segment_manager.specs.State.{Answers}
-use Rattle.segment_manager.specs.Walks.{pairs_at_kinds}
+use Rattle.segment_manager.specs.containers.Walks.{pairs_at_kinds}
 use Rattle.segment_views.specs.Ranged.{GoesBackPairs, PairWalk, last_between}
 use Rattle.segment_views.proofs.RangeReads.{fewer-back, finds-none-back, finds-one-back}
 use Rattle.segment_views.proofs.ranges.MapItemsDoubleEndedIterator.next_back.Goals as goal

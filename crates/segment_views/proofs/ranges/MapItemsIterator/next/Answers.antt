@@ -4,9 +4,9 @@ use Rattle.std.specs.declared.ops.Bound.TheVariants.{Excluded}
 use Rattle.std.specs.Prelude.{slice_get}
 use Rattle.std.specs.Range.Bound.{bound_map}
 use Rattle.seg_types.specs.Names.{ByHandle}
-use Rattle.segment_manager.specs.Maps.{numbers_in}
+use Rattle.segment_manager.specs.containers.Maps.{numbers_in}
 use Rattle.segment_manager.specs.State.{Answers}
-use Rattle.segment_manager.specs.Walks.{pairs_at_kinds}
+use Rattle.segment_manager.specs.containers.Walks.{pairs_at_kinds}
 use Rattle.segment_views.specs.Ranged.{GoesOnPairs, PairWalk, range_of}
 use Rattle.segment_views.proofs.RangeReads.{fewer, finds-none, finds-one}
 use Rattle.segment_views.proofs.ranges.MapItemsIterator.next.Goals as goal

@@ -5,7 +5,7 @@ use Rattle.seg_types.specs.Commands.{Push, literal_of}
 use Rattle.seg_types.specs.Names.{ByHandle}
 use Rattle.segment_manager.specs.Answers.{Done, Refused}
 use Rattle.segment_manager.specs.State.{IsStepOfKind}
-use Rattle.segment_manager.specs.declared.targets.Object.{Object as Located}
+use Rattle.segment_manager.specs.declared.objects.targets.Object.{Object as Located}
 use Rattle.segment_views.specs.OfView.{segment_of}
 use Rattle.segment_views.proofs.Repeating.{exit-is, steps-on, stops, value-at}
 use Rattle.segment_views.proofs.vectors.View+Row+T+Vector.extend.Goals as goal

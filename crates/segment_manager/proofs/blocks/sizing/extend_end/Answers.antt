@@ -1,0 +1,32 @@
+-- The heap's end moves, and the size is written.
+use Rattle.segment_manager.proofs.Common.{refl, sym, subst, ◌∙◌, ◌+◌, ◌≤◌, Directory, Resizes, grown, StandsFor, State}
+use Rattle.segment_manager.proofs.blocks.Resizes.{fits-small, grows, resized-segment}
+use Rattle.segment_manager.proofs.blocks.sizing.extend_end.Goals as goal
+use Rattle.segment_manager.proofs.blocks.sizing.extend_end.Goals.{After-set_header_word}
+
+pub extend_end-requires-clause-small : goal.extend_end-requires-clause-small
+extend_end-requires-clause-small c =
+    fits-small c.args.extra c.segment.invariant
+    (subst (λ (s : State). (d : Directory) → StandsFor s.cut.bytes d → d.size + c.args.extra ≤ 1073741824)
+    (sym c.segment.view_is) c.requires.small)
+
+-- the segment before and after
+abbrev before : After-set_header_word → State
+before c = record { cut = c.segment.inside.heap; mode = c.segment.inside.mode }
+
+abbrev after : After-set_header_word → State
+after c = record { cut = c.set_header_word.new.self; mode = c.segment.inside.mode }
+
+longer : (c : After-set_header_word) → Resizes (before c) (after c) (λ d. grown d c.args.extra)
+longer c =
+    grows c.args.extra refl c.extend_end.ensures.moved c.set_header_word.ensures.change
+    (c.set_header_word.ensures.word ∙ c.size-size.ensures)
+
+pub invariant_of-segment : goal.invariant_of-segment
+invariant_of-segment c =
+    let p = (goal.at.invariant_of-segment c).After-set_header_word in resized-segment (longer p) c.segment.invariant
+
+pub returns : goal.returns
+returns c =
+    let p = (goal.at.returns c).After-set_header_word in
+    subst (λ (s : State). Resizes s (after p) (λ d. grown d c.args.extra)) c.segment.view_is (longer p)

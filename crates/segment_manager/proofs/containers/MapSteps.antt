@@ -1,0 +1,229 @@
+-- A map as the value of an object: it stands at its place as the calls of seg_map see it, and what they do to it is
+-- what becomes of the object.
+use Rattle.segment_manager.proofs.Common.{◌≡◌, refl, sym, ap, subst, ◌∙◌, ℕ, ◌+◌, ◌≤◌, ◌≢◌, inl, ℤ, true, ◌&&◌, Some}
+use Rattle.segment_manager.proofs.Common.{None, List, [], ◌∷◌, length, map, arith, IsTrue, int_lt, AllByRecursion}
+use Rattle.segment_manager.proofs.Common.{list_all, and_from, current, Cut, Memory, Same, bytes_of, SameBlockBut}
+use Rattle.segment_manager.proofs.Common.{Extent, LiveSet, handle, Keeps, LaysOut, extent_at, live_of, lay_out_one, Map}
+use Rattle.segment_manager.proofs.Common.{ScalarKind, same_kind, IsBesideMap, IsErased, IsPut, IsPutAgain, is_rising}
+use Rattle.segment_manager.proofs.Common.{pair_at, put_pair, remove_pair, NumberPair, is_number_pair, HoldsMap}
+use Rattle.segment_manager.proofs.Common.{IsPairIn, nodes_of_pairs, Value, Pairs, Object, Directory, count_of}
+use Rattle.segment_manager.proofs.Common.{is_good_value, is_object, kind_of, live, padded, value_extents, value_len}
+use Rattle.segment_manager.proofs.Common.{Denotes, IsValueAt, head_len, numbers_of, StandsAt, changed, exchanged}
+use Rattle.segment_manager.proofs.containers.MapBlocks.{BlocksInUse, PartedNodes, no-node, nodes, one-by_handle}
+use Rattle.segment_manager.proofs.containers.MapBlocks.{put-parted}
+use Rattle.segment_manager.proofs.{Common.SameSpread, Calling.denotes-heap, Calling.denotes-live, Calling.object-at}
+use Rattle.segment_manager.proofs.{containers.Contained.start-place, containers.Contained.good-with}
+use Rattle.segment_manager.proofs.{Denoted.denotes-replaced, Faces.IsLike, Frame.IsRoomy, Frame.object-roomy, Live.IsIn}
+use Rattle.segment_manager.proofs.{Order.Apart, Order.Differs, Order.IsFoundIn, objects.Regrown.InPlace}
+use Rattle.segment_manager.proofs.{objects.Regrown.rest, objects.Rewritten.object-held, objects.Rewritten.value_start}
+use Rattle.segment_manager.proofs.{objects.Rewritten.with_value, objects.Standings.standing-room}
+use Rattle.segment_manager.proofs.{containers.ItemSteps.one-kind, Words.first, Words.second}
+use Rattle.segment_manager.proofs.{objects.Exchanged.all-but-beside, objects.Exchanged.Exchange}
+use Rattle.segment_manager.proofs.{objects.Exchanged.between, objects.Exchanged.live-exchanged}
+use Rattle.segment_manager.proofs.{objects.Exchanged.others-beside, containers.MapBlocks.removed-parted}
+use Rattle.seg_map.specs.declared.places.Place.{Place}
+use Rattle.best_fit.proofs.Laws.{spread-refl}
+
+-- ---- what is of the kind of a map
+
+map-if : (k v : ScalarKind) (w : Value) → Map k v ≡ kind_of w → (ps : List NumberPair) × (w ≡ Pairs k v ps)
+map-if k v (Pairs l m ps) e =
+    let keys : l ≡ k = cc in let values : m ≡ v = cc in (ps, λ i. Pairs (keys i) (values i) ps)
+map-if k v w e = absurd (cc)
+
+pub map-only : (k v : ScalarKind) (w : Value) → same_kind (Map k v) (kind_of w) ≡ true
+    → (ps : List NumberPair) × (w ≡ Pairs k v ps)
+map-only k v w e = map-if k v w (one-kind (Map k v) (kind_of w) e)
+
+-- where the map of an object stands
+abbrev pub map_place : Object → Place
+map_place o = record { handle = handle o.extent; at = head_len + padded (length o.name) }
+
+each-good : (k v : ScalarKind) (l : LiveSet) (h : ℕ) (ps : List NumberPair) → IsTrue (list_all (is_number_pair k v) ps)
+    → AllByRecursion (λ x. extent_at l (handle x) ≡ Some x) (nodes ps)
+    → AllByRecursion (λ (p : NumberPair). handle p.node ≢ h) ps
+    → AllByRecursion (IsPairIn (numbers_of k) (numbers_of v) l h) ps
+each-good k v l h [] g a n = tt
+each-good k v l h (p ∷ ps) g a n = (
+  record { good = first (is_number_pair k v p) (list_all (is_number_pair k v) ps) g; listed = a.0; apart = n.0 },
+  each-good k v l h ps (second (is_number_pair k v p) (list_all (is_number_pair k v) ps) g) a.1 n.1,
+)
+
+other-handles : (x : Extent) (ps : List NumberPair) → Differs x (nodes ps)
+    → AllByRecursion (λ (p : NumberPair). handle p.node ≢ handle x) ps
+other-handles x [] n = tt
+other-handles x (p ∷ ps) n = ((λ e. n.0 (omega (arith, e))), other-handles x ps n.1)
+
+all-good : (k v : ScalarKind) (l : LiveSet) (h : ℕ) (ps : List NumberPair)
+    → AllByRecursion (IsPairIn (numbers_of k) (numbers_of v) l h) ps → IsTrue (list_all (is_number_pair k v) ps)
+all-good k v l h [] a = refl
+all-good k v l h (p ∷ ps) a =
+    and_from (is_number_pair k v p) (list_all (is_number_pair k v) ps) a.0.good (all-good k v l h ps a.1)
+
+listed-nodes : (k v : ScalarKind) (l : LiveSet) (h : ℕ) (ps : List NumberPair)
+    → AllByRecursion (IsPairIn (numbers_of k) (numbers_of v) l h) ps → AllByRecursion (IsFoundIn l.extents) (nodes ps)
+listed-nodes k v l h [] a = tt
+listed-nodes k v l h (p ∷ ps) a = (a.0.listed, listed-nodes k v l h ps a.1)
+
+same-handles : (ps : List NumberPair) → map handle (nodes ps) ≡ nodes_of_pairs ps
+same-handles [] = refl
+same-handles (p ∷ ps) = ap (λ (ns : List ℕ). handle p.node ∷ ns) (same-handles ps)
+
+-- ---- an object that is a map
+
+-- it stands in its block, is found, and has these pairs
+pub record IsMapObject (b : List ℕ) (d : Directory) (o : Object) (k v : ScalarKind)
+    (ps : List NumberPair) : Type 0 where
+  pub stands : StandsAt b (handle o.extent) o
+  pub found : IsIn d o
+  pub value : o.value ≡ Pairs k v ps
+  pub in_use : BlocksInUse d o
+
+module _ {b : List ℕ} {d : Directory} {o : Object} {k v : ScalarKind} {ps : List NumberPair} (den : Denotes current b d)
+    (x : IsMapObject b d o k v ps) where
+  -- its map stands at its place
+  pub object-map : HoldsMap (numbers_of k) (numbers_of v) b (handle o.extent) (head_len + padded (length o.name)) ps
+  object-map =
+      let good : IsTrue (is_rising int_lt ps && list_all (is_number_pair k v) ps) =
+      subst (λ w. IsTrue (is_good_value w)) x.value (object-roomy current o x.stands.good).value in
+      let len : value_len o.value ≡ 24 = ap value_len x.value in
+      let l : live d ≡ live_of b = sym (denotes-live current b d den) in
+      record {
+        heap = denotes-heap current b d den;
+        map = subst (λ at. IsValueAt (bytes_of b) at (Pairs k v ps)) (start-place o)
+            (subst (λ w. IsValueAt (bytes_of b) (value_start o) w) x.value x.stands.said.value);
+        aligned = omega arith;
+        room = standing-room b (handle o.extent) (16 + padded (length o.name) + 24) o x.stands (omega (arith, len));
+        rising = first (is_rising int_lt ps) (list_all (is_number_pair k v) ps) good;
+        pairs =
+            each-good k v (live_of b) (handle o.extent) ps
+            (second (is_rising int_lt ps) (list_all (is_number_pair k v) ps) good)
+            (subst (λ (l : LiveSet). AllByRecursion (IsFoundIn l.extents) (nodes ps)) l
+            (subst (λ w. AllByRecursion (IsFoundIn (live d).extents) (value_extents w)) x.value x.in_use.value))
+            (other-handles o.extent ps (subst (λ w. Differs o.extent (value_extents w)) x.value x.in_use.own_apart));
+      }
+
+-- ---- what becomes of it
+
+module _ (old new : Cut) {d : Directory} {o : Object} {k v : ScalarKind} {ps : List NumberPair} (qs : List NumberPair)
+    (den : Denotes current old.bytes d) (x : IsMapObject old.bytes d o k v ps) where
+  abbrev next : Value
+  next = Pairs k v qs
+
+  in_place : InPlace d o (with_value o next)
+  in_place = record { found = x.found; extent = refl; proper = den.directory.proper }
+
+  next-good : HoldsMap (numbers_of k) (numbers_of v) new.bytes (handle o.extent) (head_len + padded (length o.name)) qs
+      → IsTrue (is_object current (with_value o next))
+  next-good s =
+      good-with current o next x.stands.good (sym (ap kind_of x.value)) (sym (ap value_len x.value))
+      (and_from (is_rising int_lt qs) (list_all (is_number_pair k v) qs) s.rising
+      (all-good k v (live_of new.bytes) (handle o.extent) qs s.pairs))
+
+  -- a block that is none of the pairs'
+  module _ (b : IsBesideMap old new (handle o.extent + (head_len + padded (length o.name))) (nodes_of_pairs ps)) where
+    stays-beside : (y : Extent) → IsFoundIn (live d).extents y → Differs y (value_extents o.value)
+        → SameBlockBut (bytes_of old.bytes) (bytes_of new.bytes) (value_start o) 24 y
+    stays-beside y f n =
+        subst (λ at. SameBlockBut (bytes_of old.bytes) (bytes_of new.bytes) at 24 y) (sym (start-place o))
+        (b.blocks y (ap (λ (l : LiveSet). extent_at l (handle y)) (denotes-live current old.bytes d den) ∙ f)
+        (no-node y ps (subst (λ w. Differs y (value_extents w)) x.value n)))
+
+    all-beside : (ys : List Extent) → AllByRecursion (IsFoundIn (live d).extents) ys → Apart ys (value_extents o.value)
+        → AllByRecursion (SameBlockBut (bytes_of old.bytes) (bytes_of new.bytes) (value_start o) 24) ys
+    all-beside [] f n = tt
+    all-beside (y ∷ ys) f n = (stays-beside y f.0 n.0, all-beside ys f.1 n.1)
+
+    -- the map has other pairs: blocks of theirs are gone, and others came
+    pub pairs-changed : HoldsMap (numbers_of k) (numbers_of v) new.bytes (handle o.extent)
+        (head_len + padded (length o.name)) qs
+        → (gone come : List Extent) → Exchange o (with_value o next) gone come
+        → LaysOut current new.bytes (exchanged (live_of old.bytes) gone come)
+        → Denotes current new.bytes (changed d o next)
+    pairs-changed s gone come e laid =
+        let m : Memory = bytes_of old.bytes in
+        let m' : Memory = bytes_of new.bytes in
+        let from : ℕ = value_start o in
+        let l : LaysOut current new.bytes (exchanged (live d) gone come) =
+        subst (λ (l : LiveSet). LaysOut current new.bytes (exchanged l gone come))
+        (denotes-live current old.bytes d den) laid in
+        let like : IsLike o (with_value o next) =
+        record { extent = refl; name = refl; class = refl; kind = sym (ap kind_of x.value) } in
+        let roomy : IsRoomy o = object-roomy current o x.stands.good in
+        let len : value_len o.value ≡ 24 = ap value_len x.value in
+        let fits : 16 + padded (length o.name) + value_len o.value + 16 ≤ o.extent.len = roomy.room in
+        let own : SameBlockBut m m' (value_start o) 24 o.extent =
+        stays-beside o.extent x.in_use.own x.in_use.own_apart in
+        let front : Same m m' (handle o.extent) (value_start o) =
+        record { at = λ i a c. own.payload i a (omega (arith, len)) (inl c) } in
+        let keeps : Keeps old new (rest d (with_value o next)) = record {
+          place = b.place;
+          front = b.front;
+          behind = b.behind;
+          blocks =
+              all-but-beside m m' from 24 o.extent (rest d o) (omega arith) (omega (arith, len))
+              (others-beside d o (with_value o next) in_place)
+              (all-beside (rest d o) x.in_use.beside x.in_use.beside_apart);
+        } in
+        denotes-replaced current old new d o (with_value o next) den x.found like (next-good s)
+        (subst (LaysOut current new.bytes)
+        (sym (live-exchanged d o (with_value o next) gone come in_place e l.proper)) l) keeps
+        (object-held m m' o next (object-at current old.bytes d (handle o.extent) o den x.found)
+        (sym (ap kind_of x.value)) (sym (ap count_of x.value)) front
+        (subst (λ at. IsValueAt m' at next) (sym (start-place o)) s.map))
+
+  -- the nodes of one are those of the other but one, which came or is gone
+  pub came : (n : Extent) → PartedNodes (nodes ps) (nodes qs) n → Exchange o (with_value o next) [] (n ∷ [])
+  came n r = between o (with_value o next) r.front [] (n ∷ []) r.back (ap value_extents x.value ∙ r.others) r.whole
+
+  pub went : (n : Extent) → PartedNodes (nodes qs) (nodes ps) n → Exchange o (with_value o next) (n ∷ []) []
+  went n r = between o (with_value o next) r.front (n ∷ []) [] r.back (ap value_extents x.value ∙ r.whole) r.others
+
+  -- or they are the same
+  pub all-same : nodes qs ≡ nodes ps → Exchange o (with_value o next) [] []
+  all-same e = record {
+    same = nodes ps;
+    was = subst (λ xs. SameSpread xs (nodes ps)) (sym (ap value_extents x.value)) (spread-refl (nodes ps));
+    is = subst (SameSpread (nodes ps)) (sym e) (spread-refl (nodes ps));
+  }
+
+-- ---- the calls of seg_map
+
+module _ (old new : Cut) {d : Directory} {o : Object} {k v : ScalarKind} {ps : List NumberPair}
+    (den : Denotes current old.bytes d) (x : IsMapObject old.bytes d o k v ps) where
+  -- a pair more
+  pub put-denotes : (key value : ℤ) → pair_at int_lt ps key ≡ None
+      → (r : IsPut (numbers_of k) (numbers_of v) old new (handle o.extent)
+      (head_len + padded (length o.name)) ps key value)
+      → Denotes current new.bytes
+      (changed d o (Pairs k v (put_pair int_lt (record { key = key; value = value; node = r.extent }) ps)))
+  put-denotes key value none r =
+      pairs-changed old new _ den x r.beside r.map [] (r.extent ∷ [])
+      (came old new _ den x r.extent (put-parted _ ps none)) r.live
+
+  -- another value in the block of a pair
+  pub again-denotes : (key value : ℤ) (p : NumberPair)
+      → IsPutAgain (numbers_of k) (numbers_of v) old new (handle o.extent)
+      (head_len + padded (length o.name)) ps p key value
+      → nodes_of_pairs (put_pair int_lt (record { key = key; value = value; node = p.node }) ps) ≡ nodes_of_pairs ps
+      → Denotes current new.bytes
+      (changed d o (Pairs k v (put_pair int_lt (record { key = key; value = value; node = p.node }) ps)))
+  again-denotes key value p r same =
+      let q : NumberPair = record { key = key; value = value; node = p.node } in
+      let qs : List NumberPair = put_pair int_lt q ps in
+      let l : live_of new.bytes ≡ live_of old.bytes = lay_out_one current new.bytes (live_of old.bytes) r.live in
+      let s = object-map den x in
+      let one : nodes qs ≡ nodes ps =
+      one-by_handle (live_of old.bytes).extents (nodes qs) (nodes ps) (same-handles qs ∙ same ∙ sym (same-handles ps))
+      (subst (λ (l : LiveSet). AllByRecursion (IsFoundIn l.extents) (nodes qs)) l
+      (listed-nodes k v (live_of new.bytes) (handle o.extent) qs r.map.pairs))
+      (listed-nodes k v (live_of old.bytes) (handle o.extent) ps s.pairs) in
+      pairs-changed old new _ den x r.beside r.map [] [] (all-same old new qs den x one) r.live
+
+  -- a pair less
+  pub erased-denotes : (key : ℤ) (p : NumberPair) → pair_at int_lt ps key ≡ Some p
+      → IsErased (numbers_of k) (numbers_of v) old new (handle o.extent) (head_len + padded (length o.name)) ps p key
+      → Denotes current new.bytes (changed d o (Pairs k v (remove_pair int_lt ps key)))
+  erased-denotes key p e r =
+      pairs-changed old new _ den x r.beside r.map (p.node ∷ []) []
+      (went old new _ den x p.node (removed-parted key p ps e)) r.live

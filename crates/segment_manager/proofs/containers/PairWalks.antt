@@ -1,0 +1,155 @@
+-- A walk over the pairs of the object of a key, of whatever kinds they are: what each call of it answers, and that none
+-- is left out.
+use Rattle.segment_manager.proofs.Common.{◌≡◌, refl, sym, ap, subst, ◌∙◌, ℕ, zero, suc, ◌+◌, ℤ, Bool, true, ◌&&◌}
+use Rattle.segment_manager.proofs.Common.{Option, Some, None, Result, Ok, List, [], ◌∷◌, ◌++◌, slice_get, arith, IsTrue}
+use Rattle.segment_manager.proofs.Common.{int_lt, option_map, list_all, eq-eqb, current, Node, ObjectRole, serves, Map}
+use Rattle.segment_manager.proofs.Common.{ScalarKind, Refusal, ScalarValue, code_of, is_kind_of, is_value, lowest}
+use Rattle.segment_manager.proofs.Common.{same_kind, size_of, Key, kind_of_scalar, value_of_scalar, is_rising, node_len}
+use Rattle.segment_manager.proofs.Common.{NumberPair, is_number_pair, item_of, Denotes, Value, Pairs, Object, Directory}
+use Rattle.segment_manager.proofs.Common.{has_good_name, is_good_value, is_object, kind_of, object_at, object_len}
+use Rattle.segment_manager.proofs.Common.{pair_above, pair_from, told_of, told_of_map, Answers, State, StandsFor, IsMap}
+use Rattle.segment_manager.proofs.Common.{first_of, item_of_kinds, item_seen, pairs_at, pairs_of}
+use Rattle.segment_manager.specs.containers.Walks.{AreOfKinds, numbers_read}
+use Rattle.segment_manager.proofs.{containers.AnyStorage.IsOfKindAt, containers.AnyStorage.kind-told}
+use Rattle.segment_manager.proofs.{objects.Here.standing, containers.MapSteps.map-only, containers.Refilled.told-some}
+use Rattle.segment_manager.proofs.{containers.MapWalks.walk-goes_on, containers.MapWalks.walk-starts, Words.first}
+use Rattle.segment_manager.proofs.{Words.second}
+
+-- ---- the pairs of a good value
+
+pub good-value : (o : Object) → IsTrue (is_object current o) → IsTrue (is_good_value o.value)
+good-value o h =
+    second (has_good_name current o && is_kind_of current (kind_of o.value)) (is_good_value o.value)
+    (first (has_good_name current o && is_kind_of current (kind_of o.value) && is_good_value o.value)
+    (serves o.extent ObjectRole (object_len o.name o.value)) h)
+
+pub rising-if : (v : Value) → IsTrue (is_good_value v) → is_rising int_lt (pairs_of v) ≡ true
+rising-if (Pairs k v ps) h = first (is_rising int_lt ps) (list_all (is_number_pair k v) ps) h
+rising-if v h = refl
+
+-- the keys are values of their kind
+keys-are : (k v : ScalarKind) (ps : List NumberPair) → IsTrue (list_all (is_number_pair k v) ps)
+    → IsTrue (list_all (λ (p : NumberPair). is_value k p.key) ps)
+keys-are k v [] h = refl
+keys-are k v (p ∷ ps) h =
+    let one : IsTrue (is_number_pair k v p) = first (is_number_pair k v p) (list_all (is_number_pair k v) ps) h in
+    let key : IsTrue (is_value k p.key) =
+    first (is_value k p.key) (is_value v p.value)
+    (first (is_value k p.key && is_value v p.value) (serves p.node Node (node_len (size_of k) (size_of v))) one) in
+    both (is_value k p.key) (list_all (λ (q : NumberPair). is_value k q.key) ps) key
+    (keys-are k v ps (second (is_number_pair k v p) (list_all (is_number_pair k v) ps) h))
+  where
+    both : (a b : Bool) → IsTrue a → IsTrue b → IsTrue (a && b)
+    both a b h g = grind arith
+
+-- ---- the pairs of the object of a key
+
+rises-if : (b : List ℕ) (d : Directory) (key : Key) (r : Option Object) → Denotes current b d → object_at d key ≡ r
+    → is_rising int_lt (elim r as (λ _. List NumberPair) [ None ↦ [] | Some o ↦ pairs_of o.value ]) ≡ true
+rises-if b d key None k e = refl
+rises-if b d key (Some o) k e = rising-if o.value (good-value o (standing b d key o k e).good)
+
+module _ (d : Directory) (key : Key) (k v : ScalarKind) (e : IsOfKindAt d key (Map k v)) where
+  same : same_kind (Map k v) (kind_of e.object.value) ≡ true
+  same = eq-eqb (code_of (Map k v)) (code_of (kind_of e.object.value)) (ap code_of (sym e.kind_is))
+
+  the-pairs : (ps : List NumberPair) × (e.object.value ≡ Pairs k v ps)
+  the-pairs = map-only k v e.object.value same
+
+  pairs-found : pairs_at d key ≡ the-pairs.0
+  pairs-found =
+      ap (λ (r : Option Object). elim r as (λ _. List NumberPair) [ None ↦ [] | Some o ↦ pairs_of o.value ]) e.is
+      ∙ ap pairs_of the-pairs.1
+
+  -- what is said of the map of the kinds is said of them
+  pub told-of-them : {A : Type 0} (say : List NumberPair → A) → told_of_map d key k v say ≡ Ok (say (pairs_at d key))
+  told-of-them {A} say =
+      told-some d key (Map k v) (λ o. told_of say o.value) e.object true e.is same ∙ ap (told_of say) the-pairs.1
+      ∙ sym (ap (λ (ps : List NumberPair). let r : Result A Refusal = Ok (say ps) in r) pairs-found)
+
+  -- from the least value of their kind on the first of them comes
+  pub starts : (b : List ℕ) → Denotes current b d
+      → pair_from (lowest k) (pairs_at d key) ≡ option_map item_of (first_of (pairs_at d key))
+  starts b den =
+      let good : IsTrue (is_good_value (Pairs k v the-pairs.0)) =
+      subst (λ (w : Value). IsTrue (is_good_value w)) the-pairs.1
+      (good-value e.object (standing b d key e.object den e.is).good) in
+      subst (λ (ps : List NumberPair). pair_from (lowest k) ps ≡ option_map item_of (first_of ps)) (sym pairs-found)
+      (walk-starts k the-pairs.0
+      (keys-are k v the-pairs.0
+      (second (is_rising int_lt the-pairs.0) (list_all (is_number_pair k v) the-pairs.0) good)))
+
+-- ---- what the calls answer
+
+seen-if : (k v : ScalarKind) (o : Option (ScalarValue × ScalarValue)) (q : Option (ℤ × ℤ)) → AreOfKinds k v (Ok o)
+    → numbers_read value_of_scalar value_of_scalar (Ok o) ≡ Ok q
+    → option_map item_seen o ≡ option_map (item_of_kinds k v) q
+seen-if k v None q h e = let is : None ≡ q = cc in ap (option_map (item_of_kinds k v)) is
+seen-if k v (Some (x, y)) q h e =
+    let is : Some (value_of_scalar x, value_of_scalar y) ≡ q = cc in
+    (λ i. Some ((h.0 i, value_of_scalar x), (h.1 i, value_of_scalar y))) ∙ ap (option_map (item_of_kinds k v)) is
+
+module _ (s : State) (key : Key) (k v : ScalarKind) (is : IsMap s key k v) where
+  map-known : (d : Directory) → StandsFor s.cut.bytes d → IsOfKindAt d key (Map k v)
+  map-known d l = kind-told d key (Map k v) (is.answers d l)
+
+  pub first-seen : (o : Option (ScalarValue × ScalarValue)) → AreOfKinds k v (Ok o)
+      → Answers s (λ d. told_of_map d key k v (pair_from (lowest k)))
+      (numbers_read value_of_scalar value_of_scalar (Ok o))
+      → Answers s (λ d. option_map (item_of_kinds k v) (option_map item_of (first_of (pairs_at d key))))
+      (option_map item_seen o)
+  first-seen o h a = record {
+    answers = λ d l.
+        seen-if k v o (pair_from (lowest k) (pairs_at d key)) h
+        (a.answers d l ∙ told-of-them d key k v (map-known d l) (pair_from (lowest k)))
+        ∙ ap (option_map (item_of_kinds k v)) (starts d key k v (map-known d l) s.cut.bytes l.denotes);
+  }
+
+-- the same by the least value, whose kind is that of the keys
+module _ (x : ScalarValue) (k : ScalarKind) (e : kind_of_scalar x ≡ k) where
+  pub least-kinds : (v : ScalarKind) (o : Option (ScalarValue × ScalarValue)) → AreOfKinds (kind_of_scalar x) v (Ok o)
+      → AreOfKinds k v (Ok o)
+  least-kinds v o h = subst (λ j. AreOfKinds j v (Ok o)) e h
+
+  pub least-told : value_of_scalar x ≡ lowest k → (s : State) (key : Key) (v : ScalarKind)
+      (r : Result (Option (ℤ × ℤ)) Refusal)
+      → Answers s (λ d. told_of_map d key (kind_of_scalar x) v (pair_from (value_of_scalar x))) r
+      → Answers s (λ d. told_of_map d key k v (pair_from (lowest k))) r
+  least-told f s key v r a =
+      subst (λ z. Answers s (λ d. told_of_map d key k v (pair_from z)) r) f
+      (subst (λ j. Answers s (λ d. told_of_map d key j v (pair_from (value_of_scalar x))) r) e a)
+
+-- ---- the places of the pairs
+
+-- the first stands at the first place
+pub first-at : (ps : List NumberPair) → slice_get ps 0 ≡ first_of ps
+first-at [] = refl
+first-at (p ∷ ps) = refl
+
+-- the pair at a place, and those behind it
+record IsSplitAt (ps : List NumberPair) (i : ℕ) (p : NumberPair) : Type 0 where
+  front : List NumberPair
+  back : List NumberPair
+  is : ps ≡ front ++ p ∷ back
+  next : slice_get ps (suc i) ≡ first_of back
+
+split-at : (ps : List NumberPair) (i : ℕ) (p : NumberPair) → slice_get ps i ≡ Some p → IsSplitAt ps i p
+split-at [] i p e = absurd (cc)
+split-at (q ∷ qs) zero p e =
+    let one : q ≡ p = cc in
+    record { front = []; back = qs; is = ap (λ (r : NumberPair). r ∷ qs) one; next = first-at qs }
+split-at (q ∷ qs) (suc i) p e =
+    let s = split-at qs i p e in
+    record { front = q ∷ s.front; back = s.back; is = ap (λ (ps : List NumberPair). q ∷ ps) s.is; next = s.next }
+
+-- above the key of the pair at a place comes the pair at the next
+pub walk-next : (b : List ℕ) (d : Directory) (key : Key) (i : ℕ) (p : NumberPair) → Denotes current b d
+    → slice_get (pairs_at d key) i ≡ Some p
+    → pair_above p.key (pairs_at d key) ≡ option_map item_of (slice_get (pairs_at d key) (i + 1))
+walk-next b d key i p k e =
+    let s = split-at (pairs_at d key) i p e in
+    let rises : is_rising int_lt (s.front ++ p ∷ s.back) ≡ true =
+    subst (λ (ps : List NumberPair). is_rising int_lt ps ≡ true) s.is (rises-if b d key (object_at d key) k refl) in
+    let more : suc i ≡ i + 1 = omega arith in
+    ap (pair_above p.key) s.is ∙ walk-goes_on s.front p s.back rises ∙ ap (option_map item_of) (sym s.next)
+    ∙ ap (λ (m : ℕ). option_map item_of (slice_get (pairs_at d key) m)) more

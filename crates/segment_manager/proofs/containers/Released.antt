@@ -1,0 +1,193 @@
+-- What becomes of an object whose contents are released, for each kind of value.
+use Rattle.segment_manager.proofs.Common.{◌≡◌, refl, sym, ap, subst, ◌∙◌, append-nil, ℕ, ◌+◌, Some, Ok, List, []}
+use Rattle.segment_manager.proofs.Common.{length, IsTrue, eq-eqb, same_Some, current, Cut, bytes_of, IsExchanged}
+use Rattle.segment_manager.proofs.Common.{Extent, handle, no_table, Kind, Scalar, Map, StringsKind, ScalarKind, code_of}
+use Rattle.segment_manager.proofs.Common.{ByHandle, Key, MapPlace, Place, place_at, IsSomeTexts, IsTextsNow, Head}
+use Rattle.segment_manager.proofs.Common.{container_at, container_place, Denotes, IsValueAt, Becomes, Empties}
+use Rattle.segment_manager.proofs.Common.{HoldsObject, emptied, Value, Pairs, Texts, Object, Directory, has_key}
+use Rattle.segment_manager.proofs.Common.{is_object, kind_of, object_at, padded, value_extents, value_len, head_len}
+use Rattle.segment_manager.proofs.Common.{HasPairs, ReleasesPairs, numbers_of, HasObject, IsHeadOf, StandsAt, StandsFor}
+use Rattle.segment_manager.proofs.Common.{changed, true}
+use Rattle.segment_manager.proofs.containers.Contained.{good-with, start-place, Shape, contents-shape, value-said}
+use Rattle.segment_manager.proofs.containers.Emptied.{IsEmptied, changed-itself, emptied-is, emptied-numbers}
+use Rattle.segment_manager.proofs.objects.Exchanged.{Exchange, between, denotes-container}
+use Rattle.segment_manager.proofs.containers.MapCalls.{HoldsPairs, as_map, holds-pairs}
+use Rattle.segment_manager.proofs.objects.ObjectLists.{all-found, each-true, found-handle, key-found}
+use Rattle.segment_manager.proofs.containers.OneLength.{HoldsElements, holds-elements, nothing-left}
+use Rattle.segment_manager.proofs.{Frame.object-roomy, objects.Here.IsReadAt, objects.Here.standing, Live.IsIn}
+use Rattle.segment_manager.proofs.{objects.Rewritten.value_start, objects.Rewritten.with_value}
+use Rattle.segment_manager.proofs.{containers.TextsHeld.HoldsTexts, containers.TextsHeld.holds-texts}
+use Rattle.segment_manager.proofs.containers.Refilled.{placed, told-some}
+use Rattle.seg_map.specs.Changing.{IsGivenUp}
+use Rattle.seg_vector.specs.{Elements.GivesBack, Elements.IsGivenBack, Standing.IsStanding, TextsCalls.ReleasesTexts}
+use Rattle.segment_manager.specs.{containers.Contents.has_storage, containers.Stored.each_of}
+
+-- ---- the object of a handle
+
+pub held-stands : (b : List ℕ) (h : ℕ) (d : Directory) (o : Object) → StandsFor b d → object_at d (ByHandle h) ≡ Some o
+    → StandsAt b h o
+held-stands b h d o k e =
+    subst (λ g. StandsAt b g o) (sym (found-handle h d.objects o (record { is = e })))
+    (standing b d (ByHandle h) o k.denotes e)
+
+pub held-object : (b : List ℕ) (h : ℕ) → HoldsObject b h → HasObject b h
+held-object b h x = (x.object, held-stands b h x.directory x.object x.stands x.is)
+
+-- where its container stands, as its head says
+abbrev pub place_behind : ℕ → ℕ → Place
+place_behind h at = record { handle = h; at = at }
+
+abbrev pub map_behind : ℕ → ℕ → MapPlace
+map_behind h at = record { handle = h; at = at }
+
+-- the same place, as the calls of seg_map name it
+pub as_map-place : (h at : ℕ) (p : Place) (q : MapPlace) → p ≡ place_behind h at → q.handle ≡ p.handle → q.at ≡ p.at
+    → map_behind h at ≡ q
+as_map-place h at p q e f g =
+    let same : map_behind h at ≡ map_behind p.handle p.at = λ i. map_behind (sym e i).handle (sym e i).at in
+    same ∙ (λ i. record { handle = sym f i; at = sym g i })
+
+pub behind-head : (b : List ℕ) (h at : ℕ) (o : Object) (head : Head) → StandsAt b h o → IsHeadOf o head
+    → at ≡ head_len + padded head.name_len → container_place o ≡ place_behind h at
+behind-head b h at o head s said e =
+    let there : at ≡ head_len + padded (length o.name) = e ∙ ap (λ (n : ℕ). head_len + padded n) said.name_len in
+    λ i. record { handle = sym s.at i; at = sym there i }
+
+found-container : (d : Directory) (key : Key) (kind : Kind) (o : Object) (p : Place) → object_at d key ≡ Some o
+    → kind_of o.value ≡ kind → container_place o ≡ p → Ok p ≡ container_at d key kind
+found-container d key kind o p e f g =
+    ap Ok (sym g)
+    ∙ sym
+    (told-some d key kind placed o true e (eq-eqb (code_of kind) (code_of (kind_of o.value)) (ap code_of (sym f))))
+
+-- ---- what the head says
+
+-- it says that elements of one length stand behind it, a vector of texts, or a map
+module _ {b : List ℕ} {h at : ℕ} {head : Head} (said : IsReadAt b h head)
+    (behind : at ≡ head_len + padded head.name_len) {d : Directory} {o : Object} (s : StandsFor b d)
+    (e : object_at d (ByHandle h) ≡ Some o) where
+  read-place : (kind : Kind) → head.kind ≡ kind → Ok (place_behind h at) ≡ container_at d (ByHandle h) kind
+  read-place kind is =
+      let there : StandsAt b h o = held-stands b h d o s e in
+      found-container d (ByHandle h) kind o (place_behind h at) e (sym (said o there).kind ∙ is)
+      (behind-head b h at o head there (said o there) behind)
+
+  read-elements : has_storage head.kind ≡ true → (head.kind ≡ StringsKind → ⊥)
+      → HoldsElements b d (ByHandle h) head.kind (place_behind h at)
+  read-elements stored no_texts =
+      holds-elements b d (ByHandle h) head.kind (place_behind h at) s.denotes
+      (read-place head.kind refl) stored no_texts
+
+  read-texts : head.kind ≡ StringsKind → HoldsTexts b d (ByHandle h) (place_behind h at)
+  read-texts is = holds-texts b d (ByHandle h) (place_behind h at) s.denotes (read-place StringsKind is)
+
+  read-pairs : (k l : ScalarKind) → head.kind ≡ Map k l → HoldsPairs b d (ByHandle h) k l (map_behind h at)
+  read-pairs k l is = holds-pairs b d (ByHandle h) k l (map_behind h at) s.denotes (ap as_map (read-place (Map k l) is))
+
+module _ (b : List ℕ) (h at : ℕ) (head : Head) (x : HoldsObject b h) (said : IsReadAt b h head)
+    (behind : at ≡ head_len + padded head.name_len) where
+  pub some-elements : has_storage head.kind ≡ true → (head.kind ≡ StringsKind → ⊥)
+      → IsStanding b (place_behind h at) (each_of head.kind)
+  some-elements stored no_texts =
+      let e = read-elements said behind x.stands x.is stored no_texts in (e.len, (e.table, (e.bytes, e.stands)))
+
+  pub some-texts : head.kind ≡ StringsKind → IsSomeTexts b (place_behind h at)
+  some-texts is = let t = read-texts said behind x.stands x.is is in (t.texts, (t.table, t.stand))
+
+  pub some-pairs : (k l : ScalarKind) (p : MapPlace) → map_behind h at ≡ p → head.kind ≡ Map k l → HasPairs k l b p
+  some-pairs k l p there is =
+      let m = read-pairs said behind x.stands x.is k l is in subst (HasPairs k l b) there (m.pairs, m.map)
+
+-- ---- what becomes of the object
+
+-- numbers have no block to give back
+pub number-contents : (old : Cut) (h : ℕ) (head : Head) → IsReadAt old.bytes h head → (k : ScalarKind)
+    → head.kind ≡ Scalar k → Empties old old h
+number-contents old h head said k is d o s e =
+    let kind : kind_of o.value ≡ Scalar k = sym (said o (held-stands old.bytes h d o s e)).kind ∙ is in
+    let f : IsIn d o = key-found current d (ByHandle h) o s.denotes.directory e in
+    record {
+      place = record { before = refl; after = refl };
+      denotes = subst (Denotes current old.bytes)
+          (sym (changed-itself d o f (emptied o.value) (emptied-numbers k o.value kind))) s.denotes;
+    }
+
+-- All blocks of the value of a container are gone and none came, and its 24 bytes say that nothing is in it, as a call
+-- says it of the container at a place: all that is to be known of a call that releases a kind of value.
+container-released : (old new : Cut) (d : Directory) (key : Key) (o : Object) (p : Place) (v : Value)
+    → Denotes current old.bytes d → object_at d key ≡ Some o → o.value ≡ v → container_place o ≡ p
+    → value_len v ≡ 24 → IsExchanged current old new (place_at p) 24 (value_extents v) []
+    → IsValueAt (bytes_of new.bytes) (place_at p) (emptied v) → Becomes old new (changed d o (emptied o.value))
+container-released old new d key o p v k e is at len change said =
+    let start : place_at p ≡ value_start o = sym (ap place_at at) ∙ sym (start-place o) in
+    let f : IsIn d o = key-found current d key o k.directory e in
+    let empty : IsEmptied o.value = emptied-is o.value in
+    let was : IsTrue (is_object current o) =
+    all-found (λ p. IsTrue (is_object current p)) (has_key (ByHandle (handle o.extent))) d.objects o
+    (each-true (is_object current) d.objects k.directory.objects) f.is in
+    let good : IsTrue (is_object current (with_value o (emptied o.value))) =
+    good-with current o (emptied o.value) was empty.kind empty.len (empty.good (object-roomy current o was).value) in
+    let gone : List Extent = value_extents o.value in
+    let x : Exchange o (with_value o (emptied o.value)) gone [] =
+    between o (with_value o (emptied o.value)) [] gone [] [] (sym (append-nil gone)) empty.alone in
+    record {
+      place = change.place;
+      denotes = denotes-container current old new d o (emptied o.value) gone [] k f x empty.kind empty.count
+          (ap value_len is ∙ len) was good
+          (subst (λ from. IsExchanged current old new from 24 gone []) start
+          (subst (λ w. IsExchanged current old new (place_at p) 24 (value_extents w) []) (sym is) change))
+          (subst (λ from. IsValueAt (bytes_of new.bytes) from (emptied o.value)) start
+          (subst (λ w. IsValueAt (bytes_of new.bytes) (place_at p) (emptied w)) (sym is) said));
+    }
+
+-- so it is of elements of one length, of a vector of texts, and of a map
+module _ (old new : Cut) (h at : ℕ) (head : Head) (said : IsReadAt old.bytes h head)
+    (behind : at ≡ head_len + padded head.name_len) where
+  pub elements-contents : has_storage head.kind ≡ true → (head.kind ≡ StringsKind → ⊥)
+      → GivesBack old new (place_behind h at) (each_of head.kind) → Empties old new h
+  elements-contents stored no_texts released d o s e =
+      let x = read-elements said behind s e stored no_texts in
+      let p : Object = x.found.object in
+      let same : p ≡ o = same_Some p o (sym x.found.is ∙ e) in
+      let now : IsGivenBack old new (place_behind h at) (each_of head.kind) x.table =
+      released x.len x.table x.bytes x.stands in
+      let shape : Shape p.value _ = contents-shape p.value _ x.held in
+      subst (λ p. Becomes old new (changed d p (emptied p.value))) same
+      (container-released old new d (ByHandle h) p
+      (place_behind h at) p.value s.denotes x.found.is refl x.found.at shape.len
+      (subst (λ (gone : List Extent). IsExchanged current old new (place_at (place_behind h at)) 24 gone [])
+      (sym shape.extents) now.change)
+      (value-said (bytes_of new.bytes) (place_at (place_behind h at)) (emptied p.value) _
+      (nothing-left p.value _ x.held) now.stands.words))
+
+  pub texts-contents : head.kind ≡ StringsKind → ReleasesTexts old new (place_behind h at) → Empties old new h
+  texts-contents is released d o s e =
+      let x = read-texts said behind s e is in
+      let same : x.object ≡ o = same_Some x.object o (sym x.is ∙ e) in
+      let now : IsTextsNow old new (place_behind h at) (value_extents (Texts x.texts x.table)) [] [] no_table =
+      released x.texts x.table x.stand in
+      subst (λ p. Becomes old new (changed d p (emptied p.value))) same
+      (container-released old new d (ByHandle h) x.object (place_behind h at)
+      (Texts x.texts x.table) s.denotes x.is x.value x.at refl now.change now.texts.words)
+
+  pub pairs-contents : (k l : ScalarKind) (p : MapPlace) → map_behind h at ≡ p → head.kind ≡ Map k l
+      → ReleasesPairs k l old new p → Empties old new h
+  pairs-contents k l p there is released d o s e =
+      let x = read-pairs said behind s e k l is in
+      let same : x.object ≡ o = same_Some x.object o (sym x.is ∙ e) in
+      let now : IsGivenUp (numbers_of k) (numbers_of l) old new h at x.pairs =
+      (subst (ReleasesPairs k l old new) (sym there) released).each x.pairs x.map in
+      let place : container_place x.object ≡ place_behind h at =
+      ap (λ (q : MapPlace). place_behind q.handle q.at) x.at in
+      subst (λ p. Becomes old new (changed d p (emptied p.value))) same
+      (container-released old new d (ByHandle h) x.object (place_behind h at)
+      (Pairs k l x.pairs) s.denotes x.is x.known.value place refl now.change now.empty.map)
+
+-- ---- the kinds that are left
+
+-- no numbers, and no map
+pub has_storage-left : (kind : Kind) → ((k : ScalarKind) → kind ≡ Scalar k → ⊥)
+    → ((k v : ScalarKind) → kind ≡ Map k v → ⊥) → has_storage kind ≡ true
+has_storage-left (Scalar k) n m = absurd (n k refl)
+has_storage-left (Map k v) n m = absurd (m k v refl)
+has_storage-left kind n m = refl

@@ -1,0 +1,54 @@
+-- The calls on whatever has storage where they are refused, reserve, shrink and clear; and calls that read.
+use Rattle.segment_manager.proofs.Common.{Err, None, Some, false, refl, subst, true, ◌≡◌, Command, is_changing, Key}
+use Rattle.segment_manager.proofs.Common.{Kind, Refusal, NotFound, WrongKind, Answer, Refused, container_at, Directory}
+use Rattle.segment_manager.proofs.Common.{Numbers, Object, Pairs, Value, kind_of, object_at, Refuse, Answers}
+use Rattle.segment_manager.proofs.Common.{IsReplyOfKind, IsStepOfKind, State, effect, storage_of, command_of}
+use Rattle.segment_manager.proofs.Common.{has_storage, Change, Clear, Reserve, Shrink}
+use Rattle.segment_manager.proofs.containers.ContentPlans.{clear-plan, reserve-plan, shrink-plan}
+use Rattle.segment_manager.proofs.{containers.Refilled.finds-no_container, Steps.open-reading, Steps.with-not_found}
+
+-- ---- refusals
+
+pub no-storage : (v : Value) → has_storage (kind_of v) ≡ false → storage_of v ≡ Err WrongKind
+no-storage (Numbers k zs) h = refl
+no-storage (Pairs k v ps) h = refl
+no-storage v h = absurd (cc)
+
+pub change-refused : (change : Change) (d : Directory) (key : Key) (o : Object) → object_at d key ≡ Some o
+    → storage_of o.value ≡ Err WrongKind
+    → effect d (command_of change key) ≡ Refuse WrongKind
+change-refused (Reserve n) d key o e f = reserve-plan d key o e (Err WrongKind) f n
+change-refused Shrink d key o e f = shrink-plan d key o e (Err WrongKind) f
+change-refused Clear d key o e f = clear-plan d key o e (Err WrongKind) f
+
+-- no object has the key
+pub change-nowhere : (change : Change) (d : Directory) (key : Key) → object_at d key ≡ None
+    → effect d (command_of change key) ≡ Refuse NotFound
+change-nowhere (Reserve n) d key e = with-not_found d key _ e
+change-nowhere Shrink d key e = with-not_found d key _ e
+change-nowhere Clear d key e = with-not_found d key _ e
+
+-- a segment that is open for reading refuses each
+pub change-changes : (change : Change) (key : Key) → is_changing (command_of change key) ≡ true
+change-changes (Reserve n) key = refl
+change-changes Shrink key = refl
+change-changes Clear key = refl
+
+-- ---- calls that read
+
+-- a step that leaves the segment is the machine's answer
+pub step_of_kind-reply : (s : State) (key : Key) (kind : Kind) (c : Command) (answer : Answer)
+    → IsStepOfKind s s key kind c answer → IsReplyOfKind s key kind c answer
+step_of_kind-reply s key kind c answer r = record { answers = r.answers }
+
+-- the same in the segment, as its view before the call is named
+pub seen-reply : (s t : State) (view : s ≡ t) (key : Key) (kind : Kind) (c : Command) (answer : Answer)
+    → IsStepOfKind s s key kind c answer → IsReplyOfKind t key kind c answer
+seen-reply s t view key kind c answer r =
+    subst (λ (u : State). IsReplyOfKind u key kind c answer) view (step_of_kind-reply s key kind c answer r)
+
+-- there is no such container
+pub no_container-reply : (s : State) (key : Key) (kind : Kind) (c : Command) (why : Refusal) → is_changing c ≡ false
+    → Answers s (λ d. container_at d key kind) (Err why) → IsReplyOfKind s key kind c (Refused why)
+no_container-reply s key kind c why reads a =
+    step_of_kind-reply s key kind c (Refused why) (finds-no_container s key kind c why (open-reading s.mode c reads) a)

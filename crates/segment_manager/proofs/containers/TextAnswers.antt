@@ -1,0 +1,182 @@
+-- What the calls of seg_vector ensure of the text at the place that was found, as the steps of the calls on the
+-- object's string.
+use Rattle.segment_manager.proofs.Common.{◌++◌, ◌<◌, Err, IsTrue, List, None, Ok, Option, Result, Some, [], ap, arith}
+use Rattle.segment_manager.proofs.Common.{false, get_or, length, map, nat_abs, nat_le, nat_lt, pos, refl, slice_get}
+use Rattle.segment_manager.proofs.Common.{subst, suc, sym, true, zero, ℕ, ◌∙◌, ◌∷◌, ◌≡◌, and_from, le-leb, lt-ltb}
+use Rattle.segment_manager.proofs.Common.{slice_get-get_or, slice_get-map, slice_get_past, option_map, slice_set, Cut}
+use Rattle.segment_manager.proofs.Common.{Table, Append, Assign, Get, Quoted, Set, literal_of, is_value, Key, String}
+use Rattle.segment_manager.proofs.Common.{U8, Refusal, NotFound, OutOfRange, AssignsText, IsSomeText, IsTextGrown}
+use Rattle.segment_manager.proofs.Common.{IsTextNow, capacity_for_text, Place, Done, Element, Refused, are_bytes}
+use Rattle.segment_manager.proofs.Common.{bytes_at, container_at, Bytes, Object, Value, kind_of, live, Reply, perform}
+use Rattle.segment_manager.proofs.Common.{Answers, IsSegment, IsStepOfKind, State, changed, is_read_only, Command}
+use Rattle.segment_manager.proofs.containers.ContentPlans.{append-plan, byte-plan, set_byte-plan, text-plan}
+use Rattle.segment_manager.proofs.containers.ItemSteps.{HoldsItems, ListedGrown, ListedNow, Listing, changes-safely}
+use Rattle.segment_manager.proofs.containers.ItemSteps.{grows-safely, holds-items, items-stay, one-kind, so-too}
+use Rattle.segment_manager.proofs.containers.ItemSteps.{some-items}
+use Rattle.segment_manager.proofs.{Common.StepsSafely, Common.done_answer, Steps.open-reading}
+use Rattle.segment_manager.proofs.{containers.Safely.Answered, containers.Safely.answered, objects.Stored.literal-read}
+use Rattle.segment_manager.proofs.{containers.ToChange.seen-found, Words.first, Words.second}
+use Rattle.std.proofs.Common.{Fits, w8}
+use Rattle.seg_vector.specs.TextCalls.{AppendsText, GetsByte, ReadsText, SetsByte}
+use Rattle.segment_manager.specs.{containers.Contents.text_bytes, containers.ToChange.IsToChange}
+
+-- ---- bytes
+
+-- numbers that are below 256 each
+pub fits-bytes : (bs : List ℕ) → ((k : ℕ) → Fits w8 (get_or bs k 0)) → IsTrue (are_bytes bs)
+fits-bytes [] h = refl
+fits-bytes (b ∷ bs) h =
+    and_from (nat_lt b 256) (are_bytes bs) (lt-ltb b 256 (omega (arith, h 0))) (fits-bytes bs (λ k. h (suc k)))
+
+are_bytes-append : (bs cs : List ℕ) → IsTrue (are_bytes bs) → IsTrue (are_bytes cs) → IsTrue (are_bytes (bs ++ cs))
+are_bytes-append [] cs h g = g
+are_bytes-append (b ∷ bs) cs h g =
+    and_from (nat_lt b 256) (are_bytes (bs ++ cs)) (first (nat_lt b 256) (are_bytes bs) h)
+    (are_bytes-append bs cs (second (nat_lt b 256) (are_bytes bs) h) g)
+
+are_bytes-set : (bs : List ℕ) (i x : ℕ) → IsTrue (are_bytes bs) → IsTrue (nat_lt x 256)
+    → IsTrue (are_bytes (slice_set bs i x))
+are_bytes-set [] i x h g = refl
+are_bytes-set (b ∷ bs) zero x h g = and_from (nat_lt x 256) (are_bytes bs) g (second (nat_lt b 256) (are_bytes bs) h)
+are_bytes-set (b ∷ bs) (suc i) x h g =
+    and_from (nat_lt b 256) (are_bytes (slice_set bs i x)) (first (nat_lt b 256) (are_bytes bs) h)
+    (are_bytes-set bs i x (second (nat_lt b 256) (are_bytes bs) h) g)
+
+-- one is a value of its kind
+pub byte-value : (x : ℕ) → x < 256 → is_value U8 (pos x) ≡ true
+byte-value x h = and_from (nat_le 0 x) (nat_le x 255) (le-leb 0 x (omega arith)) (le-leb x 255 (omega arith))
+
+-- bytes as numbers, with another among them
+bytes-set : (bs : List ℕ) (i x : ℕ) → map nat_abs (slice_set (map pos bs) i (pos x)) ≡ slice_set bs i x
+bytes-set [] i x = refl
+bytes-set (b ∷ bs) zero x = ap (λ ys. x ∷ ys) (bytes-back bs)
+  where
+    bytes-back : (bs : List ℕ) → map nat_abs (map pos bs) ≡ bs
+    bytes-back [] = refl
+    bytes-back (b ∷ bs) = ap (λ ys. b ∷ ys) (bytes-back bs)
+bytes-set (b ∷ bs) (suc i) x = ap (λ ys. b ∷ ys) (bytes-set bs i x)
+
+byte-got : (bs : List ℕ) (i : ℕ) (r : Option ℕ) → slice_get bs i ≡ r → slice_get (map pos bs) i ≡ option_map pos r
+byte-got bs i r e = slice_get-map pos bs i ∙ ap (option_map pos) e
+
+-- ---- texts
+
+pub text-if : (v : Value) → String ≡ kind_of v → (bs : List ℕ) × ((t : Table) × (v ≡ Bytes bs t))
+text-if (Bytes bs t) e = (bs, (t, refl))
+text-if v e = absurd (cc)
+
+abbrev pub texts : Listing ℕ
+texts = record {
+  kind = String;
+  each = 1;
+  spell = λ bs. bs;
+  good = are_bytes;
+  value = λ bs t. Bytes bs t;
+  only = λ v e g. text-if v (one-kind String (kind_of v) e);
+  of_kind = λ bs t. refl;
+  held = λ bs t. refl;
+  values = λ bs t. refl;
+}
+
+-- what became of a text, with its bytes below 256
+bytes-now : {old new : Cut} {p : Place} {t u : Table} {bs : List ℕ} → IsTrue (are_bytes bs) → IsTextNow old new p t bs u
+    → ListedNow texts old new p t bs u
+bytes-now small r = record { change = r.change; stands = r.text; values = small }
+
+bytes-grown : {old new : Cut} {p : Place} {t : Table} {n : ℕ} {bs : List ℕ} → IsTrue (are_bytes bs)
+    → IsTextGrown old new p t n bs → ListedGrown texts old new p t n bs
+bytes-grown small r = record { table = r.table; grown = r.grown; now = bytes-now small r.now }
+
+-- ---- the calls
+
+-- what is read there are the bytes of the key's text
+pub reads-bytes : (s : State) (key : Key) (p : Place) (out : List ℕ) → Answers s (λ d. container_at d key String) (Ok p)
+    → ReadsText s.cut.bytes p out → Answers s (λ d. bytes_at d key) (Ok out)
+reads-bytes s key p out found reads = record {
+  answers = λ d l.
+      let h : HoldsItems texts s.cut.bytes d key p =
+      holds-items texts s.cut.bytes d key p l.denotes (found.answers d l) in
+      ap Ok (reads h.items h.table h.stands) ∙ sym (ap text_bytes h.value)
+      ∙ sym
+      (ap
+      (λ (r : Option Object). elim r as (λ _. Result (List ℕ) Refusal)
+      [ None ↦ Err NotFound | Some o ↦ text_bytes o.value ]) h.is);
+}
+
+-- as the view before the call names the segment
+module _ {s t : State} (view : s ≡ t) (key : Key) (p : Place) (b : IsSegment s.cut.bytes)
+    (there : Answers t (λ d. container_at d key String) (Ok p)) where
+  there-too : Answers s (λ d. container_at d key String) (Ok p)
+  there-too = seen-found s t view key String p there
+
+  abbrev some : HoldsItems texts s.cut.bytes b.0 key p
+  some = some-items texts s key p b there-too
+
+  -- some bytes stand there
+  pub text-standing : IsSomeText s.cut.bytes p
+  text-standing = (some.items, (some.table, some.stands))
+
+  -- one of them
+  pub text-got : (i x : ℕ) → GetsByte s.cut p i (Ok x) → IsStepOfKind s s key String (Get key i) (Element U8 (pos x))
+  text-got i x a =
+      items-stay texts s key p b there-too (Get key i) (Element U8 (pos x)) (open-reading s.mode (Get key i) refl)
+      (λ d den h. ap (perform d (live d))
+      (byte-plan d key h.object h.items h.table h.is h.value i (Some (pos x))
+      (byte-got h.items i (Some x) (a h.items h.table h.stands))))
+
+  pub text_got-past : (i : ℕ) (e : Refusal) → GetsByte s.cut p i (Err e)
+      → IsStepOfKind s s key String (Get key i) (Refused e)
+  text_got-past i e a =
+      subst (λ (r : Refusal). IsStepOfKind s s key String (Get key i) (Refused r))
+      (sym (a some.items some.table some.stands).refusal)
+      (items-stay texts s key p b there-too (Get key i) (Refused OutOfRange) (open-reading s.mode (Get key i) refl)
+      (λ d den h.
+      ap (perform d (live d))
+      (byte-plan d key h.object h.items h.table h.is h.value i None
+      (byte-got h.items i None (slice_get_past h.items i (a h.items h.table h.stands).outside)))))
+
+-- the same, where it may be changed
+module _ {s t : State} (view : s ≡ t) (b : IsSegment s.cut.bytes) {key : Key} {p : Place} (to : IsToChange t key String p)
+    (new : Cut) where
+  found : Answers s (λ d. container_at d key String) (Ok p)
+  found = seen-found s t view key String p to.at
+
+  writing : is_read_only s.mode ≡ false
+  writing = subst (λ (u : State). is_read_only u.mode ≡ false) (sym view) to.writing
+
+  seen : {c : Command} {r : Result (Unit {0}) Refusal} → StepsSafely s new key String c r
+      → Answered done_answer s t new key String c r
+  seen done = answered s t view b new key String _ _ done
+
+  pub text-appended : (more : List ℕ) (r : Result (Unit {0}) Refusal) → ((k : ℕ) → Fits w8 (get_or more k 0))
+      → AppendsText s.cut new p more r → Answered done_answer s t new key String (Append key more) r
+  text-appended more r small a =
+      seen (grows-safely texts s key p b found new writing (Append key more)
+      (λ bs t. capacity_for_text (length (bs ++ more)) t.capacity) (λ bs. bs ++ more) r
+      (λ d h. append-plan d key h.object h.items h.table h.is h.value more)
+      (λ d h. so-too _ _ _ r (a h.items h.table h.stands)
+      (λ g. bytes-grown (are_bytes-append h.items more h.values (fits-bytes more small)) g)))
+
+  pub text-assigned : (bytes : List ℕ) (r : Result (Unit {0}) Refusal) → ((k : ℕ) → Fits w8 (get_or bytes k 0))
+      → AssignsText s.cut new p bytes r → Answered done_answer s t new key String (Assign key (Quoted bytes ∷ [])) r
+  text-assigned bytes r small a =
+      seen (grows-safely texts s key p b found new writing (Assign key (Quoted bytes ∷ [])) (λ bs t. length bytes)
+      (λ bs. bytes) r
+      (λ d h. text-plan d key h.object h.items h.table h.is h.value (Quoted bytes ∷ []) bytes refl)
+      (λ d h. so-too _ _ _ r (a h.items h.table h.stands) (λ g. bytes-grown (fits-bytes bytes small) g)))
+
+  pub text-set : (i x : ℕ) (r : Result (Unit {0}) Refusal) → IsTrue (nat_lt x 256) → is_value U8 (pos x) ≡ true
+      → SetsByte s.cut new p i x r → Answered done_answer s t new key String (Set key i (literal_of U8 (pos x))) r
+  text-set i x r small v a =
+      seen (changes-safely texts s key p b found new writing (Set key i (literal_of U8 (pos x))) i
+      (λ bs. slice_set bs i x) r
+      (λ d h within.
+      set_byte-plan d key h.object h.items h.table h.is h.value i (literal_of U8 (pos x)) (pos x)
+      (Some (pos (get_or h.items i 0))) (literal-read U8 (pos x) v)
+      (byte-got h.items i (Some (get_or h.items i 0)) (slice_get-get_or h.items i 0 within))
+      ∙ ap (λ bs. Reply Done (changed d h.object (Bytes bs h.table))) (bytes-set h.items i x))
+      (λ d h past.
+      set_byte-plan d key h.object h.items h.table h.is h.value i (literal_of U8 (pos x)) (pos x) None
+      (literal-read U8 (pos x) v) (byte-got h.items i None (slice_get_past h.items i past)))
+      (λ d h. so-too _ _ _ r (a h.items h.table h.stands)
+      (λ q. (q.0, bytes-now (are_bytes-set h.items i x h.values small) q.1))))

@@ -1,7 +1,0 @@
--- No pair is there.
-use Rattle.segment_manager.proofs.NewNumbers.{map-made}
-use Rattle.segment_manager.proofs.fillings.NewMapFilling.fill.Goals as goal
-
-pub returns : goal.returns
-returns c =
-    map-made c.args.self.now.keys c.args.self.now.values _ _ c.args.heap.now c.new.new.heap c.args.place c.map_place.result c.map_place.ensures.handle c.map_place.ensures.at c.new.ensures.map

@@ -1,0 +1,39 @@
+-- Each index follows its objects.
+use Rattle.segment_manager.proofs.Common.{◌∙◌, sym, ℕ, handle, ByHandle, Object, Directory, IsDirectory, object_at}
+use Rattle.segment_manager.proofs.Faces.{IsLike, ordered-with, ordered-without, ordered-changed, by_name-face}
+use Rattle.segment_manager.proofs.indexes.Indexes.{named-more, one-less, unique-more, one-removed, by_name-strict}
+use Rattle.segment_manager.proofs.indexes.Indexes.{by_kind-strict}
+use Rattle.segment_manager.proofs.{Common.by_name, Common.by_kind, Faces.by_kind-face, Live.IsFound, Live.IsIn}
+use Rattle.segment_manager.specs.indexes.Entries.{IndexesFollowObjects, KeepsEntries, RemovesOneEntry}
+use Rattle.seg_types.specs.declared.kinds.Class.TheVariants.{Named, Unique}
+
+removes-entry : {format : ℕ} {d : Directory} {o : Object} → IsDirectory format d → IsIn d o → RemovesOneEntry d o
+removes-entry {d} {o} is f = record {
+  named = λ e. one-removed Named by_name by_name-strict d o f e is.by_offset d.named is.named;
+  named_again = λ e. sym (one-less Named by_name by_name-strict d o f e d.named is.named);
+  not_named = ordered-without Named by_name d o f;
+  unique = λ e. one-removed Unique by_kind by_kind-strict d o f e is.by_offset d.unique is.unique;
+  unique_again = λ e. sym (one-less Unique by_kind by_kind-strict d o f e d.unique is.unique);
+  not_unique = ordered-without Unique by_kind d o f;
+}
+
+keeps-entries : {d : Directory} (o : Object) {p : Object} → IsFound (handle p.extent) d.objects o → IsLike o p
+    → KeepsEntries d p
+keeps-entries {d} o {p} f like =
+    record {
+      named = (ordered-changed Named by_name by_name-face d o p f like).entries;
+      unique = (ordered-changed Unique by_kind by_kind-face d o p f like).entries;
+    }
+
+pub follows : IndexesFollowObjects
+follows = record {
+  puts = λ d o. record {
+    named = named-more d o;
+    not_named = ordered-with Named by_name d o;
+    unique = unique-more d o;
+    not_unique = ordered-with Unique by_kind d o;
+  };
+  removes = λ format d o is e. removes-entry is (record { is = e });
+  changes = λ d o p e h. keeps-entries o (record { is = (λ i. object_at d (ByHandle (handle (h.extent i)))) ∙ e })
+      (record { extent = h.extent; name = h.name; class = h.class; kind = h.kind });
+}

@@ -1,0 +1,151 @@
+-- What the bytes denote after an index has an entry more or less, or another capacity.
+use Rattle.segment_manager.proofs.Common.{◌≡◌, refl, sym, ap, subst, ◌∙◌, ℕ, ◌+◌, ◌≤◌, Some, None, Option, List, arith}
+use Rattle.segment_manager.proofs.Common.{IsTrue, flat_map, insert, AllByRecursion, Cut, Same, SamePlace, bytes_of}
+use Rattle.segment_manager.proofs.Common.{current, Same-part, Same-trans, IndexRole, Extent, LiveSet, handle, is_proper}
+use Rattle.segment_manager.proofs.Common.{added, others, IsAllocated, Keeps, LaysOut, SameBlock, extent_at, live_of}
+use Rattle.segment_manager.proofs.Common.{Table, no_table, allocated-live, blocks-trans, Index, AddKeeps, Adds}
+use Rattle.segment_manager.proofs.Common.{beside_table, unlinked, without_link, IsIndexOf, place_of, grown_capacity}
+use Rattle.segment_manager.proofs.Common.{Object, Directory, extents_of, is_object, live, object_at, with_object}
+use Rattle.segment_manager.proofs.Common.{Denotes, IsObjectAt, class_of_index, entries_of, table_of, with_table_of}
+use Rattle.segment_manager.proofs.Common.{place}
+use Rattle.segment_manager.proofs.Denoted.{KeepsFront, denotes-put}
+use Rattle.segment_manager.proofs.objects.Taking.{IsMade, allocated-found, taken-found, taken-live}
+use Rattle.segment_manager.proofs.Order.{all_of-inserted, inserted, live-rises}
+use Rattle.segment_manager.proofs.indexes.Entered.{HasOne, OfRest, entered-other, entered-own, has_both, key_in, of_all}
+use Rattle.segment_manager.proofs.indexes.Entered.{of_rest, other, other-stays, other-words}
+use Rattle.segment_manager.proofs.indexes.Tables.{index-left_out, last-table, left_out, live-moved_index, same-table}
+use Rattle.segment_manager.proofs.indexes.Tables.{table-of}
+use Rattle.segment_manager.proofs.Frame.{any_object-same}
+use Rattle.segment_manager.proofs.Live.{adding}
+use Rattle.segment_manager.proofs.{Calling.denotes-live}
+use Rattle.seg_index.proofs.Laws.{place_behind}
+use Rattle.seg_index.specs.declared.index.Index.TheVariants as index
+
+-- ---- the bytes once the entry is there
+
+-- An index has another table, and the entries with the object's. Its old block is no longer in use. Of an object that
+-- was made before, and of all that the directory had, nothing changed.
+pub record IsEntered (i : Index) (old new : Cut) (d : Directory) (t : Table) (o : Object) : Type 0 where
+  pub laid : LaysOut current new.bytes (adding (live (with_table_of i d t)) (extents_of o))
+  pub blocks : AllByRecursion (SameBlock (bytes_of old.bytes) (bytes_of new.bytes))
+      (inserted (extents_of o) (live (with_table_of i d no_table)).extents)
+  pub place : SamePlace old new
+  pub front : Same (bytes_of old.bytes) (bytes_of new.bytes) 0 24
+  pub before : Same (bytes_of old.bytes) (bytes_of new.bytes) 32 (place_of i)
+  pub behind : Same (bytes_of old.bytes) (bytes_of new.bytes) (place_of i + 24) 128
+  pub stands : IsIndexOf new (place_of i) t (entries_of i (with_object d o))
+
+pub same-size : (i : Index) (d : Directory) (t : Table) → (with_table_of i d t).size ≡ d.size
+same-size index.Named d t = refl
+same-size index.Unique d t = refl
+
+pub same-objects : (i : Index) (d : Directory) (t : Table) → (with_table_of i d t).objects ≡ d.objects
+same-objects index.Named d t = refl
+same-objects index.Unique d t = refl
+
+pub has-one : (i : Index) {b : List ℕ} {d : Directory} → Denotes current b d → HasOne i (bytes_of b) d
+has-one index.Named k = record { is = k.directory.named; at = k.named }
+has-one index.Unique k = record { is = k.directory.unique; at = k.unique }
+
+pub place-high : (i : Index) → place_of i + 24 ≤ 80
+place-high index.Named = omega arith
+place-high index.Unique = omega arith
+
+-- the directory with the object is what the new bytes denote
+pub entered-denotes : {i : Index} (a : Cut) {b c : Cut} {d : Directory} {t : Table} {o : Object}
+    → Denotes current a.bytes d → Keeps a b (live d).extents → IsTrue (is_object current o)
+    → IsObjectAt (bytes_of b.bytes) o → o.class ≡ class_of_index i → object_at d (key_in i o) ≡ None
+    → IsEntered i b c d t o → Denotes current c.bytes (with_object (with_table_of i d t) o)
+entered-denotes {i} a {b} {c} {d} {t} {o} k keeps good at class none e =
+    let A = bytes_of a.bytes in
+    let B = bytes_of b.bytes in
+    let C = bytes_of c.bytes in
+    let low = place_behind i in
+    let high = place-high i in
+    let before = of_all i (SameBlock A B) keeps.blocks in
+    let parts = all_of-inserted (SameBlock B C) (extents_of o) (live (with_table_of i d no_table)).extents e.blocks in
+    let after = of_rest i (SameBlock B C) parts.1 in
+    let all : OfRest i (SameBlock A C) d = record {
+      objects = blocks-trans A B C (flat_map extents_of d.objects) before.objects after.objects;
+      other_table = blocks-trans A B C _ before.other_table after.other_table;
+    } in
+    let one = other-stays i (has-one (other i) k) (other-words i (Same-trans A B C 32 (place_of i)
+    (Same-part A B 32 128 32 (place_of i) keeps.behind (omega arith) (omega arith)) e.before)
+    (Same-trans A B C (place_of i + 24) 128
+    (Same-part A B 32 128 (place_of i + 24) 128 keeps.behind (omega arith) (omega arith)) e.behind)) all.other_table in
+    let front : KeepsFront A C = record {
+      front = Same-trans A B C 0 24 keeps.front e.front;
+      zeros = Same-trans A B C 80 128 (Same-part A B 32 128 80 128 keeps.behind (omega arith) (omega arith))
+          (Same-part B C (place_of i + 24) 128 80 128 e.behind (omega arith) (omega arith));
+    } in
+    denotes-put (with_table_of i d t) k (same-size i d t) (same-objects i d t) good e.laid front all.objects
+    (has_both i (entered-own d o class none (has-one i k).is e.stands.places e.stands.few e.stands.stands)
+    (entered-other i t o class one)) (any_object-same current good parts.0 at)
+
+-- ---- after `prepare`, the making of an object, and `add`
+
+-- the index had a place left
+pub entered-none : {i : Index} (a : Cut) {b : Cut} {c : Cut} {d : Directory} {o : Object} (at : ℕ)
+    → Denotes current a.bytes d → IsMade a b o → IsIndexOf b (place_of i) (table_of i d) (entries_of i d)
+    → insert (entries_of i d) at (handle o.extent) ≡ entries_of i (with_object d o)
+    → Adds b c (place_of i) (table_of i d) (insert (entries_of i d) at (handle o.extent)) None
+    → LaysOut current c.bytes (live_of b.bytes) → AddKeeps b c (place_of i) (table_of i d) None
+    → IsEntered i b c d (table_of i d) o
+entered-none {i} a {b} {c} {d} {o} at k m x e adds laid keeps =
+    let ys = extents_of o in
+    let same = taken-live a b (extents_of o) m.taken ∙ ap (λ l. adding l ys) (denotes-live current a.bytes d k) in
+    let laid' : LaysOut current c.bytes (adding (live d) ys) = subst (LaysOut current c.bytes) same laid in
+    let gone = ap (λ (l : LiveSet). beside_table (table_of i d) l.extents) same
+    ∙ index-left_out i d ys (live-rises (adding (live d) ys) laid'.proper) in
+    record {
+      laid = subst (λ e. LaysOut current c.bytes (adding (live e) ys)) (sym (same-table i)) laid';
+      blocks = subst (AllByRecursion (SameBlock (bytes_of b.bytes) (bytes_of c.bytes))) gone keeps.blocks;
+      place = keeps.place;
+      front = keeps.front;
+      before = keeps.before;
+      behind = keeps.behind;
+      stands = subst (IsIndexOf c (place_of i) (table_of i d)) e adds;
+    }
+
+-- the table of an index that has grown into a block
+abbrev pub grown_into : Index → Directory → Extent → Table
+grown_into i d x = record { capacity = grown_capacity (table_of i d).capacity; extent = Some x }
+
+-- the index grew into a new block
+pub entered-some : {i : Index} {a m b : Cut} {c : Cut} {d : Directory} {o : Object} (at : ℕ) {n h : ℕ}
+    → Denotes current a.bytes d → (g : IsAllocated current a m n IndexRole h) → IsMade m b o
+    → IsIndexOf b (place_of i) (table_of i d) (entries_of i d)
+    → insert (entries_of i d) at (handle o.extent) ≡ entries_of i (with_object d o)
+    → Adds b c (place_of i) (table_of i d) (insert (entries_of i d) at (handle o.extent)) (Some h)
+    → LaysOut current c.bytes (unlinked b (place_of i)) → AddKeeps b c (place_of i) (table_of i d) (Some h)
+    → IsEntered i b c d (grown_into i d g.extent) o
+entered-some {i} {a} {m} {b} {c} {d} {o} at {n} {h} k g made x e adds laid keeps =
+    let ys = extents_of o in
+    let t = grown_into i d g.extent in
+    let mid =
+    allocated-live current a m n IndexRole h g ∙ ap (λ l. added l g.extent) (denotes-live current a.bytes d k) in
+    let left : unlinked b (place_of i) ≡ adding (live (with_table_of i d t)) ys =
+    (λ j. without_link ((taken-live m b (extents_of o) made.taken ∙ ap (λ l. adding l ys) mid) j) (x.stands.link j))
+    ∙ live-moved_index i d t g.extent ys refl
+    (subst (λ l. IsTrue (is_proper (adding l ys))) mid made.taken.live.proper) in
+    let laid' : LaysOut current c.bytes (adding (live (with_table_of i d t)) ys) =
+    subst (LaysOut current c.bytes) left laid in
+    let all : others h (unlinked b (place_of i)).extents ≡ inserted ys (live (with_table_of i d no_table)).extents =
+    (λ j. others (g.at j) (left j).extents)
+    ∙ (ap (λ (u : Table). left_out u.extent (inserted ys (live (with_table_of i d t)).extents)) (sym (table-of i d))
+    ∙ index-left_out i (with_table_of i d t) ys (live-rises (adding (live (with_table_of i d t)) ys) laid'.proper)
+    ∙ ap (λ e. inserted ys (live e).extents) (last-table i d t no_table)) in
+    let found = taken-found m b (extents_of o) h made.taken (allocated-found g) in
+    record {
+      laid = laid';
+      blocks = subst (AllByRecursion (SameBlock (bytes_of b.bytes) (bytes_of c.bytes))) all keeps.blocks;
+      place = keeps.place;
+      front = keeps.front;
+      before = keeps.before;
+      behind = keeps.behind;
+      stands = subst (IsIndexOf c (place_of i) t) e (subst (λ (y : Option Extent). IsIndexOf c (place_of i)
+          (record { capacity = grown_capacity (table_of i d).capacity; extent = y })
+          (insert (entries_of i d) at (handle o.extent))) found (subst (λ (n : ℕ). IsIndexOf c (place_of i)
+          (record { capacity = grown_capacity n; extent = extent_at (live_of b.bytes) h })
+          (insert (entries_of i d) at (handle o.extent))) x.stands.capacity adds));
+    }

@@ -1,0 +1,227 @@
+-- Calls on elements whose kind is what the object says: then the step of the kind is the command's own.
+use Rattle.segment_manager.proofs.Common.{◌≡◌, refl, sym, ap, subst, ◌∙◌, ℕ, ℤ, pos, true, false, Option, Some, None}
+use Rattle.segment_manager.proofs.Common.{Result, Ok, Err, List, map, slice_set, eq-eqb, same_Some, Kind, ScalarOf}
+use Rattle.segment_manager.proofs.Common.{StringKind, VectorKind, StringsKind, ScalarKind, U8, Refusal, NotFound}
+use Rattle.segment_manager.proofs.Common.{WrongKind, code_of, is_value, Key, ByHandle, Command, Literal, literal_of}
+use Rattle.segment_manager.proofs.Common.{value_of_literal, Mode, Located, Answer, Done, Refused, elements_at}
+use Rattle.segment_manager.proofs.Common.{elements_of, kind_at, Value, Numbers, Elements, Bytes, Pairs, Texts, Object}
+use Rattle.segment_manager.proofs.Common.{Directory, kind_of, live, object_at, IsMissing, IsLocated, Plan, Refuse}
+use Rattle.segment_manager.proofs.Common.{Reply, perform, with, Answers, IsReply, IsReplyOfKind, IsStep, State}
+use Rattle.segment_manager.proofs.Common.{StandsFor, changed, effect, element_at, get, is_read_only, set, step}
+use Rattle.segment_manager.proofs.objects.Locating.{kind-by_key, reply_of_kind-by_key}
+use Rattle.segment_manager.proofs.containers.Refilled.{refused-steps, same_plan-steps}
+use Rattle.segment_manager.proofs.Steps.{open-reading, step-refuse, step_of_kind-step, with-found, with-not_found}
+use Rattle.segment_manager.proofs.{Common.with_items, containers.AnyStorage.IsOfKindAt, containers.AnyStorage.kind-told}
+use Rattle.segment_manager.proofs.{objects.Stored.literal-read}
+use Rattle.segment_manager.specs.Calls.{scalar_reply}
+use Rattle.seg_types.specs.Commands as asked
+
+-- ---- what an object says of its elements
+
+abbrev elements_in : Option Object → Result ScalarKind Refusal
+elements_in r =
+    elim r as (λ _. Result ScalarKind Refusal) [ None ↦ Err NotFound | Some o ↦ elements_of (kind_of o.value) ]
+
+-- the object of a key has elements of a kind
+pub record HasElements (d : Directory) (key : Key) (k : ScalarKind) : Type 0 where
+  pub object : Object
+  pub is : object_at d key ≡ Some object
+  pub elements : elements_of (kind_of object.value) ≡ Ok k
+
+has-if : {d : Directory} {key : Key} {k : ScalarKind} (r : Option Object) → object_at d key ≡ r → Ok k ≡ elements_in r
+    → HasElements d key k
+has-if None e f = absurd (cc)
+has-if (Some o) e f = record { object = o; is = e; elements = sym f }
+
+pub has-elements : (d : Directory) (key : Key) {k : ScalarKind} → Ok k ≡ elements_at d key → HasElements d key k
+has-elements d key e = has-if (object_at d key) refl e
+
+-- or there are none: no object has the key, or its elements are no scalars
+data HasNone (d : Directory) (key : Key) (r : Refusal) : Type 0 where
+  Nowhere : object_at d key ≡ None → NotFound ≡ r → HasNone d key r
+  Other : (o : Object) → object_at d key ≡ Some o → elements_of (kind_of o.value) ≡ Err r → HasNone d key r
+
+none-if : {d : Directory} {key : Key} {r : Refusal} (p : Option Object) → object_at d key ≡ p → Err r ≡ elements_in p
+    → HasNone d key r
+none-if {r} None e f = let same : NotFound ≡ r = cc in Nowhere e same
+none-if (Some o) e f = Other o e (sym f)
+
+-- the object is of a kind
+elements-told : (d : Directory) (key : Key) (kind : Kind) → IsOfKindAt d key kind → elements_at d key ≡ elements_of kind
+elements-told d key kind e = ap elements_in e.is ∙ ap elements_of e.kind_is
+
+-- ---- reading
+
+-- of an object whose elements are no scalars none is read
+not_read : (d : Directory) (v : Value) (i : ℕ) {r : Refusal} → elements_of (kind_of v) ≡ Err r
+    → (kind_of v ≡ StringsKind → ⊥) → get d v i ≡ Refuse r
+not_read d (Pairs k v ps) i {r} e n = let why : WrongKind ≡ r = cc in ap Refuse why
+not_read d (Texts ps t) i e n = absurd (n refl)
+not_read d v i e n = absurd (cc)
+
+step-not_read : (mode : Mode) {d : Directory} {key : Key} (i : ℕ) {r : Refusal}
+    → ((o : Object) → object_at d key ≡ Some o → kind_of o.value ≡ StringsKind → ⊥) → HasNone d key r
+    → step mode d (asked.Get key i) ≡ (Refused r, d)
+step-not_read mode {d} {key} i n (Nowhere e f) =
+    step-refuse mode d (asked.Get key i) NotFound (open-reading mode (asked.Get key i) refl)
+    (with-not_found d key (λ o. get d o.value i) e) ∙ (λ j. (Refused (f j), d))
+step-not_read mode {d} {key} i {r} n (Other o e f) =
+    step-refuse mode d (asked.Get key i) r (open-reading mode (asked.Get key i) refl)
+    (with-found d key o (λ o. get d o.value i) e ∙ not_read d o.value i f (n o e))
+
+abbrev reply_of : Mode → Directory → Command → Result ScalarKind Refusal → Answer
+reply_of mode d c q = elim q as (λ _. Answer) [ Err r ↦ Refused r | Ok k ↦ (step mode d c).0 ]
+
+machine-if : (mode : Mode) (d : Directory) (key : Key) (i : ℕ) (q : Result ScalarKind Refusal)
+    → ((o : Object) → object_at d key ≡ Some o → kind_of o.value ≡ StringsKind → ⊥) → elements_at d key ≡ q
+    → reply_of mode d (asked.Get key i) q ≡ (step mode d (asked.Get key i)).0
+machine-if mode d key i (Ok k) n e = refl
+machine-if mode d key i (Err r) n e =
+    sym (ap (λ (x : Answer × Directory). x.0) (step-not_read mode i n (none-if (object_at d key) refl (sym e))))
+
+-- the object of a key is no vector of texts
+abbrev pub HasNoTexts : State → Key → Type 0
+HasNoTexts s key =
+    (d : Directory) → StandsFor s.cut.bytes d → (o : Object) → object_at d key ≡ Some o
+    → kind_of o.value ≡ StringsKind → ⊥
+
+-- a call that reads scalars alone answers as the machine where there are no texts
+pub scalars-replies : (s : State) (key : Key) (i : ℕ) (answer : Answer) → HasNoTexts s key
+    → Answers s (λ d. scalar_reply s.mode d key (asked.Get key i)) answer → IsReply s (asked.Get key i) answer
+scalars-replies s key i answer n r = record {
+  answers = λ d l. r.answers d l ∙ machine-if s.mode d key i (elements_at d key) (n d l) refl;
+}
+
+-- and where there are scalars
+pub any-replies : (s : State) (key : Key) (k : ScalarKind) (c : Command) (answer : Answer)
+    → Answers s (λ d. elements_at d key) (Ok k) → Answers s (λ d. scalar_reply s.mode d key c) answer
+    → IsReply s c answer
+any-replies s key k c answer a r = record {
+  answers = λ d l. r.answers d l ∙ ap (reply_of s.mode d c) (sym (a.answers d l));
+}
+
+-- the object of the key says its kind: the answer of that kind is it
+pub of_kind-replies : {s : State} (key : Key) {kind : Kind} {k : ScalarKind} (c : Command) {answer : Answer}
+    → Answers s (λ d. kind_at d key) (Ok kind) → elements_of kind ≡ Ok k → IsReplyOfKind s key kind c answer
+    → Answers s (λ d. scalar_reply s.mode d key c) answer
+of_kind-replies {s} key {kind} c a f r = record {
+  answers = λ d l.
+      let e = kind-told d key kind (a.answers d l) in
+      r.answers d l ∙ ap (λ (x : Answer × Directory). x.0) (step_of_kind-step s.mode d key kind c e.object e.is
+      (eq-eqb (code_of kind) (code_of (kind_of e.object.value)) (ap code_of (sym e.kind_is))))
+      ∙ sym (ap (reply_of s.mode d c) (elements-told d key kind e ∙ f));
+}
+
+-- it has no scalars
+pub of_kind-none : (s : State) (key : Key) (kind : Kind) (r : Refusal) (c : Command)
+    → Answers s (λ d. kind_at d key) (Ok kind) → elements_of kind ≡ Err r
+    → Answers s (λ d. scalar_reply s.mode d key c) (Refused r)
+of_kind-none s key kind r c a f = record {
+  answers = λ d l.
+      sym (ap (reply_of s.mode d c) (elements-told d key kind (kind-told d key kind (a.answers d l)) ∙ f));
+}
+
+-- neither scalars nor a vector of them nor a string
+pub other-elements : (kind : Kind) → ((k : ScalarKind) → kind ≡ ScalarOf k → ⊥)
+    → ((k : ScalarKind) → kind ≡ VectorKind k → ⊥) → (kind ≡ StringKind → ⊥) → elements_of kind ≡ Err WrongKind
+other-elements (ScalarOf k) n v t = absurd (n k refl)
+other-elements StringKind n v t = absurd (t refl)
+other-elements (VectorKind k) n v t = absurd (v k refl)
+other-elements w n v t = refl
+
+-- an object that was located is of a kind that has scalars
+pub located-replies : (s : State) (key : Key) (o : Located) (l : IsLocated s key o) (kind : Kind) (k : ScalarKind)
+    (i : ℕ) (answer : Answer) → o.kind ≡ kind → elements_of kind ≡ Ok k
+    → IsReplyOfKind s (ByHandle o.handle) kind (asked.Get (ByHandle o.handle) i) answer
+    → Answers s (λ d. scalar_reply s.mode d key (asked.Get key i)) answer
+located-replies s key o l kind k i answer is f r =
+    of_kind-replies key (asked.Get key i)
+    (subst (λ (n : Kind). Answers s (λ d. kind_at d key) (Ok n)) is (kind-by_key s key o l)) f
+    (reply_of_kind-by_key s key o l kind (asked.Get key i) answer r)
+
+-- no object has the key
+pub any-missing : (s : State) (key : Key) (c : Command) (why : Refusal) → IsMissing s key why
+    → Answers s (λ d. scalar_reply s.mode d key c) (Refused why)
+any-missing s key c why m = record {
+  answers = λ d l. ap Refused m.is ∙ sym (ap (reply_of s.mode d c) (ap elements_in (m.missing d l)));
+}
+
+-- ---- writing: the kind of the object
+
+-- a vector of which it is known what its elements are
+pub vector-kind : (s : State) (key : Key) (l k : ScalarKind) → Answers s (λ d. kind_at d key) (Ok (VectorKind l))
+    → Answers s (λ d. elements_at d key) (Ok k) → Answers s (λ d. kind_at d key) (Ok (VectorKind k))
+vector-kind s key l k a b = record {
+  answers = λ d w.
+      let both = b.answers d w ∙ elements-told d key (VectorKind l) (kind-told d key (VectorKind l) (a.answers d w)) in
+      let same : k ≡ l = cc in
+      ap (λ n. Ok (VectorKind n)) same ∙ a.answers d w;
+}
+
+left-kind : (kind : Kind) {k : ScalarKind} → Ok k ≡ elements_of kind → (kind ≡ StringKind → ⊥)
+    → ((l : ScalarKind) → kind ≡ VectorKind l → ⊥) → ScalarOf k ≡ kind
+left-kind (ScalarOf j) {k} e t v = let same : k ≡ j = cc in ap ScalarOf same
+left-kind StringKind e t v = absurd (t refl)
+left-kind (VectorKind j) e t v = absurd (v j refl)
+left-kind kind e t v = absurd (cc)
+
+-- neither a text nor a vector: scalars
+pub scalar-kind : (s : State) (key : Key) (kind : Kind) (k : ScalarKind) → Answers s (λ d. kind_at d key) (Ok kind)
+    → Answers s (λ d. elements_at d key) (Ok k) → (kind ≡ StringKind → ⊥) → ((l : ScalarKind) → kind ≡ VectorKind l → ⊥)
+    → Answers s (λ d. kind_at d key) (Ok (ScalarOf k))
+scalar-kind s key kind k a b t v = record {
+  answers = λ d w. ap Ok (left-kind kind
+      (b.answers d w ∙ elements-told d key kind (kind-told d key kind (a.answers d w))) t v) ∙ a.answers d w;
+}
+
+-- ---- writing: the literal
+
+-- the plan goes by what the literal is read as
+abbrev set_with : Directory → Object → Value → ℕ → List ℤ → Result ℤ Refusal → Plan
+set_with d o v i zs r =
+    with r (λ z. with (element_at zs i) (λ old. Reply Done (changed d o (with_items v (slice_set zs i z)))))
+
+set-plan : (d : Directory) (o : Object) (v : Value) (i : ℕ) {k : ScalarKind} → elements_of (kind_of v) ≡ Ok k
+    → (zs : List ℤ) × ((l : Literal) → set d o v i l ≡ set_with d o v i zs (value_of_literal k l))
+set-plan d o (Numbers j zs) i {k} e =
+    let same : j ≡ k = cc in (zs, λ l. ap (λ n. set_with d o (Numbers j zs) i zs (value_of_literal n l)) same)
+set-plan d o (Elements j zs t) i {k} e =
+    let same : j ≡ k = cc in (zs, λ l. ap (λ n. set_with d o (Elements j zs t) i zs (value_of_literal n l)) same)
+set-plan d o (Bytes bs t) i {k} e =
+    let same : U8 ≡ k = cc in
+    (map pos bs, λ l. ap (λ n. set_with d o (Bytes bs t) i (map pos bs) (value_of_literal n l)) same)
+set-plan d o v i e = absurd (cc)
+
+set-effect : {d : Directory} {key : Key} {k : ScalarKind} (i : ℕ) (l : Literal) {r : Result ℤ Refusal}
+    (e : HasElements d key k) → value_of_literal k l ≡ r
+    → effect d (asked.Set key i l) ≡ set_with d e.object e.object.value i
+    (set-plan d e.object e.object.value i e.elements).0 r
+set-effect {d} {key} i l e f =
+    let p = set-plan d e.object e.object.value i e.elements in
+    with-found d key e.object (λ o. set d o o.value i l) e.is ∙ p.1 l ∙ ap (set_with d e.object e.object.value i p.0) f
+
+-- a literal that is read as the value is as good as the value's own
+pub any-literal : {old : State} {new : State} (key : Key) {k : ScalarKind} (i : ℕ) (l : Literal) {z : ℤ}
+    {answer : Answer} → Answers old (λ d. elements_at d key) (Ok k) → value_of_literal k l ≡ Ok z → is_value k z ≡ true
+    → IsStep old new (asked.Set key i (literal_of k z)) answer → IsStep old new (asked.Set key i l) answer
+any-literal {old} {new} key {k} i l {z} {answer} a f v r =
+    same_plan-steps old new (asked.Set key i l) (asked.Set key i (literal_of k z)) answer refl (λ d w.
+    let e = has-elements d key (a.answers d w) in
+    set-effect i l e f ∙ sym (set-effect i (literal_of k z) e (literal-read k z v))) r
+
+-- one that is no value of the kind is refused
+pub any-no_value : (s : State) (key : Key) (k : ScalarKind) (i : ℕ) (l : Literal) (r : Refusal)
+    → Answers s (λ d. elements_at d key) (Ok k) → is_read_only s.mode ≡ false → value_of_literal k l ≡ Err r
+    → IsStep s s (asked.Set key i l) (Refused r)
+any-no_value s key k i l r a writing f =
+    refused-steps s (asked.Set key i l) r writing
+    (λ d w. ap (perform d (live d)) (set-effect i l (has-elements d key (a.answers d w)) f))
+
+-- ---- objects of other kinds than texts
+
+-- the object of the key says another kind
+pub kind-no_texts : (s : State) (key : Key) (kind : Kind) → Answers s (λ d. kind_at d key) (Ok kind)
+    → (kind ≡ StringsKind → ⊥) → HasNoTexts s key
+kind-no_texts s key kind a n d l o e =
+    let k = kind-told d key kind (a.answers d l) in
+    λ f. n (sym (ap (λ (p : Object). kind_of p.value) (sym (same_Some k.object o (sym k.is ∙ e))) ∙ k.kind_is) ∙ f)

@@ -1,0 +1,264 @@
+-- Commands on elements by literals: which call is the step of the command, by the kind of the object.
+use Rattle.segment_manager.proofs.Common.{◌≡◌, refl, sym, ap, subst, ◌∙◌, ◌⊎◌, inl, inr, ℕ, ℤ, true, false, Option}
+use Rattle.segment_manager.proofs.Common.{Some, None, Result, Ok, Err, List, length, nat_lt, Table, Kind, MapKind}
+use Rattle.segment_manager.proofs.Common.{Scalar, StringsKind, Vector, ScalarKind, Refusal, NotFound, WrongKind}
+use Rattle.segment_manager.proofs.Common.{ScalarValue, is_value, Key, ByHandle, Literal, Quoted, literal_of}
+use Rattle.segment_manager.proofs.Common.{value_of_literal, kind_of_scalar, value_of_scalar, OwnedText, Located, Answer}
+use Rattle.segment_manager.proofs.Common.{Refused, elements_at, elements_of, kind_at, IsChangeable, IsToChange}
+use Rattle.segment_manager.proofs.Common.{IsUnchangeable, IsValueOf, Value, Elements, Pairs, Texts, Object, Directory}
+use Rattle.segment_manager.proofs.Common.{kind_of, IsLocated, Refuse, Answers, IsStep, IsStepOfKind, State, StandsFor}
+use Rattle.segment_manager.proofs.containers.AnyStorage.{IsOfKindAt, kind-told, of_kind-steps}
+use Rattle.segment_manager.proofs.containers.ContentPlans.{erase-other, insert-other, insert-plan, is_no_vector}
+use Rattle.segment_manager.proofs.containers.ContentPlans.{pop-other, push-other, push-plan}
+use Rattle.segment_manager.proofs.{Common.is_read_only, objects.AnyKind.any-literal}
+use Rattle.segment_manager.proofs.{objects.Locating.step_of_kind-by_key, Steps.with-found, Steps.with-not_found}
+use Rattle.segment_manager.proofs.{objects.Stored.literal-read, ElementLaws.same_plan-steps}
+use Rattle.segment_manager.proofs.{containers.Changeable.refuses, containers.Changeable.says-kind}
+use Rattle.segment_manager.specs.containers.Changeable.{IsElement, IsNoElement}
+use Rattle.seg_types.specs.Commands as asked
+use Rattle.segment_manager.specs.Step as step
+
+-- ---- values by their kinds
+
+-- a vector of numbers of a kind
+pub record IsElements (k : ScalarKind) (v : Value) : Type 0 where
+  pub numbers : List ℤ
+  pub table : Table
+  pub is : v ≡ Elements k numbers table
+
+pub vector-if : (k : ScalarKind) (v : Value) → kind_of v ≡ Vector k → IsElements k v
+vector-if k (Elements l zs t) e =
+    let same : l ≡ k = cc in record { numbers = zs; table = t; is = λ i. Elements (same i) zs t }
+vector-if k v e = absurd (cc)
+
+-- or of texts
+pub record IsTexts (v : Value) : Type 0 where
+  pub texts : List OwnedText
+  pub table : Table
+  pub is : v ≡ Texts texts table
+
+pub texts-if : (v : Value) → kind_of v ≡ StringsKind → IsTexts v
+texts-if (Texts ps t) e = record { texts = ps; table = t; is = refl }
+texts-if v e = absurd (cc)
+
+-- or of neither
+no_vector-if : (v : Value) → ((k : ScalarKind) → kind_of v ≡ Vector k → ⊥) → (kind_of v ≡ StringsKind → ⊥)
+    → is_no_vector v ≡ true
+no_vector-if (Elements k zs t) n m = absurd (n k refl)
+no_vector-if (Texts ps t) n m = absurd (m refl)
+no_vector-if v n m = refl
+
+-- ---- no object that may be changed has the key
+
+module _ {s : State} {key : Key} {why : Refusal} (h : IsUnchangeable s key why) where
+  pub unchangeable-element : (l : Literal) → IsNoElement s key l why
+  unchangeable-element l = record {
+    push = h.refuses (asked.Push key l) refl (λ d n. with-not_found d key (λ o. step.push d o o.value l) n);
+    insert = λ i. h.refuses (asked.Insert key i l) refl
+        (λ d n. with-not_found d key (λ o. step.insert_at d o o.value i l) n);
+  }
+
+  pub pop-unchangeable : IsStep s s (asked.Pop key) (Refused why)
+  pop-unchangeable = h.refuses (asked.Pop key) refl (λ d n. with-not_found d key (λ o. step.pop d o o.value) n)
+
+  pub erase-unchangeable : (i : ℕ) → IsStep s s (asked.Erase key i) (Refused why)
+  erase-unchangeable i =
+      h.refuses (asked.Erase key i) refl (λ d n. with-not_found d key (λ o. step.erase d o o.value i) n)
+
+  pub assign-unchangeable : (ls : List Literal) → IsStep s s (asked.Assign key ls) (Refused why)
+  assign-unchangeable ls =
+      h.refuses (asked.Assign key ls) refl (λ d n. with-not_found d key (λ o. step.assign d o o.value ls) n)
+
+  pub set-unchangeable : (i : ℕ) (l : Literal) → IsStep s s (asked.Set key i l) (Refused why)
+  set-unchangeable i l =
+      h.refuses (asked.Set key i l) refl (λ d n. with-not_found d key (λ o. step.set d o o.value i l) n)
+
+-- ---- the object of the key is no vector
+
+pub told : {s : State} {key : Key} {kind : Kind} → Answers s (λ d. kind_at d key) (Ok kind) → (d : Directory)
+    → StandsFor s.cut.bytes d → IsOfKindAt d key kind
+told {s} {key} {kind} a d st = kind-told d key kind (a.answers d st)
+
+module _ {s : State} {key : Key} {o : Located} (h : IsToChange s key o)
+    (other : (k : ScalarKind) → o.kind ≡ Vector k → ⊥) (no_texts : o.kind ≡ StringsKind → ⊥) where
+  there : {d : Directory} → StandsFor s.cut.bytes d → IsOfKindAt d key o.kind
+  there {d} st = told (says-kind h.located refl) d st
+
+  none : {d : Directory} (st : StandsFor s.cut.bytes d) → is_no_vector (there st).object.value ≡ true
+  none st =
+      no_vector-if (there st).object.value (λ k e. other k (sym (there st).kind_is ∙ e))
+      (λ e. no_texts (sym (there st).kind_is ∙ e))
+
+  pub no_vector-element : (l : Literal) → IsNoElement s key l WrongKind
+  no_vector-element l = record {
+    push = refuses s (asked.Push key l) WrongKind h.writing
+        (λ d st. push-other d key (there st).object (there st).is (none st) l);
+    insert = λ i. refuses s (asked.Insert key i l) WrongKind h.writing
+        (λ d st. insert-other d key (there st).object (there st).is (none st) i l);
+  }
+
+  pub pop-no_vector : IsStep s s (asked.Pop key) (Refused WrongKind)
+  pop-no_vector =
+      refuses s (asked.Pop key) WrongKind h.writing (λ d st. pop-other d key (there st).object (there st).is (none st))
+
+  pub erase-no_vector : (i : ℕ) → IsStep s s (asked.Erase key i) (Refused WrongKind)
+  erase-no_vector i =
+      refuses s (asked.Erase key i) WrongKind h.writing
+      (λ d st. erase-other d key (there st).object (there st).is (none st) i)
+
+-- ---- it is a vector
+
+module _ {s : State} (key : Key) (k : ScalarKind) (a : Answers s (λ d. kind_at d key) (Ok (Vector k))) where
+  held : {d : Directory} (st : StandsFor s.cut.bytes d) → IsElements k (told a d st).object.value
+  held {d} st = vector-if k (told a d st).object.value (told a d st).kind_is
+
+  -- a literal that is read as a value of the kind is as good as the value's own
+  push-read : {new : State} (l : Literal) {z : ℤ} {answer : Answer} → value_of_literal k l ≡ Ok z → is_value k z ≡ true
+      → IsStepOfKind s new key (Vector k) (asked.Push key (literal_of k z)) answer
+      → IsStep s new (asked.Push key l) answer
+  push-read {new} l {z} {answer} e v r =
+      same_plan-steps s new (asked.Push key l) (asked.Push key (literal_of k z)) answer refl (λ d st.
+      let f = told a d st in
+      let h = held st in
+      push-plan d key f.object k h.numbers h.table f.is h.is l (Ok z) e
+      ∙ sym (push-plan d key f.object k h.numbers h.table f.is h.is (literal_of k z) (Ok z) (literal-read k z v)))
+      (of_kind-steps s new key (Vector k) (asked.Push key (literal_of k z)) answer a r)
+
+  insert-read : {new : State} (i : ℕ) (l : Literal) {z : ℤ} {answer : Answer} → value_of_literal k l ≡ Ok z
+      → is_value k z ≡ true → IsStepOfKind s new key (Vector k) (asked.Insert key i (literal_of k z)) answer
+      → IsStep s new (asked.Insert key i l) answer
+  insert-read {new} i l {z} {answer} e v r =
+      same_plan-steps s new (asked.Insert key i l) (asked.Insert key i (literal_of k z)) answer refl (λ d st.
+      let f = told a d st in
+      let h = held st in
+      let outside = nat_lt (length h.numbers) i in
+      insert-plan d key f.object k h.numbers h.table f.is h.is i l (Ok z) outside e refl
+      ∙ sym (insert-plan d key f.object k h.numbers h.table f.is h.is i (literal_of k z) (Ok z) outside
+      (literal-read k z v) refl)) (of_kind-steps s new key (Vector k) (asked.Insert key i (literal_of k z)) answer a r)
+
+  -- one that is no value of the kind is refused
+  refused-element : {l : Literal} {why : Refusal} → is_read_only s.mode ≡ false → value_of_literal k l ≡ Err why
+      → IsNoElement s key l why
+  refused-element {l} {why} writing e = record {
+    push = refuses s (asked.Push key l) why writing
+        (λ d st. push-plan d key (told a d st).object k (held st).numbers (held st).table (told a d st).is
+        (held st).is l (Err why) e);
+    insert = λ i. refuses s (asked.Insert key i l) why writing
+        (λ d st. insert-plan d key (told a d st).object k (held st).numbers (held st).table (told a d st).is
+        (held st).is i l (Err why) (nat_lt (length (held st).numbers) i) e refl);
+  }
+
+-- what the literal is for it
+module _ {s : State} {key : Key} {o : Located} (h : IsToChange s key o) {k : ScalarKind} (is : o.kind ≡ Vector k) where
+  pub element-read : {l : Literal} (v : ScalarValue) → IsValueOf k (value_of_literal k l) (Ok v) → IsElement s key l v
+  element-read {l} v (same, value, range) = record {
+    is = says-kind h.located (is ∙ ap Vector (sym same));
+    value = subst (λ j. value_of_literal j l ≡ Ok (value_of_scalar v)) (sym same) value;
+    range = subst (λ j. is_value j (value_of_scalar v) ≡ true) (sym same) range;
+  }
+
+  pub no_value-element : {l : Literal} {why : Refusal} → value_of_literal k l ≡ Err why → IsNoElement s key l why
+  no_value-element {l} {why} e = refused-element key k (says-kind h.located is) h.writing e
+
+abbrev own : ScalarValue → Literal
+own v = literal_of (kind_of_scalar v) (value_of_scalar v)
+
+-- a new element, put there under the handle of the vector
+module _ {s : State} {key : Key} {o : Located} (located : IsLocated s key o) {l : Literal} {v : ScalarValue}
+    (e : IsElement s key l v) {new : State} {answer : Answer} where
+  pub push-element : IsStepOfKind s new (ByHandle o.handle) (Vector (kind_of_scalar v))
+      (asked.Push (ByHandle o.handle) (own v)) answer → IsStep s new (asked.Push key l) answer
+  push-element r =
+      push-read key (kind_of_scalar v) e.is l e.value e.range
+      (step_of_kind-by_key s key o located new (Vector (kind_of_scalar v)) (asked.Push key (own v)) answer r)
+
+  pub insert-element : (i : ℕ)
+      → IsStepOfKind s new (ByHandle o.handle) (Vector (kind_of_scalar v)) (asked.Insert (ByHandle o.handle) i (own v))
+      answer → IsStep s new (asked.Insert key i l) answer
+  insert-element i r =
+      insert-read key (kind_of_scalar v) e.is i l e.value e.range
+      (step_of_kind-by_key s key o located new (Vector (kind_of_scalar v)) (asked.Insert key i (own v)) answer r)
+
+-- ---- it is a vector of strings, and the literal no text
+
+abbrev pub NoText : Literal → Type 0
+NoText l = (bs : List ℕ) → l ≡ Quoted bs → ⊥
+
+module _ (d : Directory) (o : Object) (ps : List OwnedText) (t : Table) where
+  not_pushed : (l : Literal) → NoText l → step.push d o (Texts ps t) l ≡ Refuse WrongKind
+  not_pushed (Quoted bs) n = absurd (n bs refl)
+  not_pushed l n = refl
+
+  not_inserted : (i : ℕ) (l : Literal) → NoText l → step.insert_at d o (Texts ps t) i l ≡ Refuse WrongKind
+  not_inserted i (Quoted bs) n = absurd (n bs refl)
+  not_inserted i l n = refl
+
+  not_set : (i : ℕ) (l : Literal) → NoText l → step.set d o (Texts ps t) i l ≡ Refuse WrongKind
+  not_set i (Quoted bs) n = absurd (n bs refl)
+  not_set i l n = refl
+
+module _ {s : State} {key : Key} (h : IsChangeable s key StringsKind) {l : Literal} (n : NoText l) where
+  found : {d : Directory} → StandsFor s.cut.bytes d → IsOfKindAt d key StringsKind
+  found {d} st = told h.is d st
+
+  owned : {d : Directory} (st : StandsFor s.cut.bytes d) → IsTexts (found st).object.value
+  owned st = texts-if (found st).object.value (found st).kind_is
+
+  pub set-no_text : (i : ℕ) → IsStep s s (asked.Set key i l) (Refused WrongKind)
+  set-no_text i =
+      refuses s (asked.Set key i l) WrongKind h.writing (λ d st.
+      let o : Object = (found st).object in
+      with-found d key o (λ o. step.set d o o.value i l) (found st).is ∙ ap (λ v. step.set d o v i l) (owned st).is
+      ∙ not_set d o (owned st).texts (owned st).table i l n)
+
+  pub no_text-element : IsNoElement s key l WrongKind
+  no_text-element = record {
+    push = refuses s (asked.Push key l) WrongKind h.writing (λ d st.
+        let o : Object = (found st).object in
+        with-found d key o (λ o. step.push d o o.value l) (found st).is ∙ ap (λ v. step.push d o v l) (owned st).is
+        ∙ not_pushed d o (owned st).texts (owned st).table l n);
+    insert = λ i. refuses s (asked.Insert key i l) WrongKind h.writing (λ d st.
+        let o : Object = (found st).object in
+        with-found d key o (λ o. step.insert_at d o o.value i l) (found st).is
+        ∙ ap (λ v. step.insert_at d o v i l) (owned st).is ∙ not_inserted d o (owned st).texts (owned st).table i l n);
+  }
+
+-- ---- an element of scalars that is set
+
+abbrev elements_of_object : Option Object → Result ScalarKind Refusal
+elements_of_object r =
+    elim r as (λ _. Result ScalarKind Refusal) [ None ↦ Err NotFound | Some o ↦ elements_of (kind_of o.value) ]
+
+pub elements-told : {s : State} {key : Key} {kind : Kind} {k : ScalarKind} → IsChangeable s key kind
+    → elements_of kind ≡ Ok k → Answers s (λ d. elements_at d key) (Ok k)
+elements-told h e = record {
+  answers = λ d st. let f = told h.is d st in sym (ap elements_of_object f.is ∙ ap elements_of f.kind_is ∙ e);
+}
+
+-- of scalars, or of a vector of them
+pub elements-either : {s : State} {key : Key} {kind : Kind} {k : ScalarKind} → IsChangeable s key kind
+    → (kind ≡ Scalar k) ⊎ (kind ≡ Vector k) → Answers s (λ d. elements_at d key) (Ok k)
+elements-either h (inl e) = elements-told h (ap elements_of e)
+elements-either h (inr e) = elements-told h (ap elements_of e)
+
+-- a value of the kind that they have
+pub set-step : {old new : State} (key : Key) {k : ScalarKind} (i : ℕ) (l : Literal) (v : ScalarValue) {answer : Answer}
+    → Answers old (λ d. elements_at d key) (Ok k) → IsValueOf k (value_of_literal k l) (Ok v)
+    → IsStep old new (asked.Set key i (literal_of (kind_of_scalar v) (value_of_scalar v))) answer
+    → IsStep old new (asked.Set key i l) answer
+set-step {old} {new} key {k} i l v {answer} a (same, value, range) h =
+    any-literal key i l a value range
+    (subst (λ j. IsStep old new (asked.Set key i (literal_of j (value_of_scalar v))) answer) same h)
+
+-- a map has none
+no_map_set : (d : Directory) (o : Object) (v : Value) (i : ℕ) (l : Literal) (k m : ScalarKind) → kind_of v ≡ MapKind k m
+    → step.set d o v i l ≡ Refuse WrongKind
+no_map_set d o (Pairs j n ps) i l k m e = refl
+no_map_set d o v i l k m e = absurd (cc)
+
+pub set-map : {s : State} {key : Key} {k m : ScalarKind} (i : ℕ) (l : Literal) → IsChangeable s key (MapKind k m)
+    → IsStep s s (asked.Set key i l) (Refused WrongKind)
+set-map {s} {key} {k} {m} i l h =
+    refuses s (asked.Set key i l) WrongKind h.writing (λ d st. let f = told h.is d st in
+    with-found d key f.object (λ o. step.set d o o.value i l) f.is
+    ∙ no_map_set d f.object f.object.value i l k m f.kind_is)

@@ -1,0 +1,224 @@
+-- The elements of the object of a key, one after another: what a reading of one says of the list, and how long it is.
+use Rattle.segment_manager.proofs.Common.{◌≡◌, refl, sym, ap, ◌∙◌, ℕ, zero, suc, ℤ, Bool, true, false, Option, Some}
+use Rattle.segment_manager.proofs.Common.{None, Result, Ok, Err, List, [], ◌∷◌, length, map, if◌then◌else◌, option_map}
+use Rattle.segment_manager.proofs.Common.{slice_get, Kind, ScalarOf, StringsKind, ScalarKind, Refusal, NotFound}
+use Rattle.segment_manager.proofs.Common.{OutOfRange, WrongKind, same_kind, Key, OwnedText, Mode, Answer, Element}
+use Rattle.segment_manager.proofs.Common.{Refused, TextElement, sizes_of, sizes_of_kind, Value, Object, Directory}
+use Rattle.segment_manager.proofs.Common.{count_of, kind_of, live, object_at, first_size, length_at_kind}
+use Rattle.segment_manager.proofs.Common.{number_or_none, Reply, perform, with, answer_of, get, step_of_kind}
+use Rattle.segment_manager.proofs.Steps.{open-reading, step_of_kind-found, step_of_kind-not_found, step_of_kind-other}
+use Rattle.segment_manager.proofs.{Codes.numbers-only, containers.TextsHeld.texts-only}
+use Rattle.segment_manager.proofs.{containers.ItemSteps.vector-only, containers.ContentPlans.of_slice}
+use Rattle.segment_manager.proofs.{containers.TextPlans.text_in, Steps.with-found}
+use Rattle.seg_types.specs.declared.kinds.Kind.TheVariants.{Vector as VectorOf}
+use Rattle.segment_manager.specs.objects.ElementLists.{array_at, array_length_at, list_at, numbers_in, texts_at}
+use Rattle.segment_manager.specs.objects.ElementLists.{texts_in, vector_at}
+use Rattle.seg_types.specs.Commands as asked
+
+-- what was read, if it was
+abbrev pub got : {A : Type 0} → Result A Refusal → Option A
+got (Ok a) = Some a
+got (Err why) = None
+
+-- ---- where there is no such object, nothing is listed
+
+pub none-listed : {A : Type 0} (items : Value → List A) (d : Directory) (key : Key) (kind : Kind)
+    → object_at d key ≡ None → list_at items d key kind ≡ []
+none-listed {A} items d key kind e =
+    ap (λ (r : Option Object).
+    elim r as (λ _. List A) [ None ↦ [] | Some o ↦ if same_kind kind (kind_of o.value) then items o.value else [] ]) e
+
+pub list-of : {A : Type 0} (items : Value → List A) (d : Directory) (key : Key) (kind : Kind) (o : Object) (b : Bool)
+    → object_at d key ≡ Some o → same_kind kind (kind_of o.value) ≡ b
+    → list_at items d key kind ≡ (if b then items o.value else [])
+list-of {A} items d key kind o b e f =
+    ap (λ (r : Option Object).
+    elim r as (λ _. List A) [ None ↦ [] | Some o ↦ if same_kind kind (kind_of o.value) then items o.value else [] ]) e
+    ∙ ap (λ b. if b then items o.value else []) f
+
+-- ---- one element
+
+-- what is answered for an element, or where there is none
+abbrev told : {A : Type 0} → (A → Answer) → Option A → Answer
+told says p = elim p as (λ _. Answer) [ None ↦ Refused OutOfRange | Some a ↦ says a ]
+
+-- an object of the kind is read so, where an answer is no refusal and says which element it is of
+module _ {A : Type 0} (says : A → Answer) (one : (a b : A) → says a ≡ says b → a ≡ b)
+    (some : (a : A) (why : Refusal) → says a ≡ Refused why → ⊥) (items : Value → List A) where
+  not-got : (r : Result A Refusal) (why : Refusal) → answer_of says r ≡ Refused why → got r ≡ None
+  not-got (Ok a) why e = absurd (some a why e)
+  not-got (Err other) why e = refl
+
+  got-as : (r : Result A Refusal) (p : Option A) → answer_of says r ≡ told says p → got r ≡ p
+  got-as r None e = not-got r OutOfRange e
+  got-as (Ok a) (Some b) e = ap Some (one a b e)
+  got-as (Err why) (Some b) e = absurd (some b why (sym e))
+
+  module _ (mode : Mode) (d : Directory) (key : Key) (kind : Kind) (i : ℕ)
+      (gets : (v : Value) → same_kind kind (kind_of v) ≡ true
+      → (perform d (live d) (get d v i)).0 ≡ told says (slice_get (items v) i)) (r : Result A Refusal) where
+    item-of : {o : Object} (b : Bool) → object_at d key ≡ Some o → same_kind kind (kind_of o.value) ≡ b
+        → answer_of says r ≡ (step_of_kind mode d key kind (asked.Get key i)).0
+        → got r ≡ slice_get (list_at items d key kind) i
+    item-of {o} false e g f =
+        not-got r WrongKind (f ∙ ap (λ (n : Answer × Directory). n.0)
+        (step_of_kind-other mode d key kind (asked.Get key i) o (open-reading mode (asked.Get key i) refl) e g))
+        ∙ sym (ap (λ zs. slice_get zs i) (list-of items d key kind o false e g))
+    item-of {o} true e g f =
+        got-as r (slice_get (items o.value) i) (f ∙ ap (λ (n : Answer × Directory). n.0)
+        (step_of_kind-found mode d key kind (asked.Get key i) o (open-reading mode (asked.Get key i) refl) e g)
+        ∙ ap (λ p. (perform d (live d) p).0) (with-found d key o (λ o. get d o.value i) e) ∙ gets o.value g)
+        ∙ sym (ap (λ zs. slice_get zs i) (list-of items d key kind o true e g))
+
+    item-at : (p : Option Object) → object_at d key ≡ p
+        → answer_of says r ≡ (step_of_kind mode d key kind (asked.Get key i)).0
+        → got r ≡ slice_get (list_at items d key kind) i
+    item-at None e f =
+        not-got r NotFound (f ∙ ap (λ (n : Answer × Directory). n.0)
+        (step_of_kind-not_found mode d key kind (asked.Get key i) (open-reading mode (asked.Get key i) refl) e))
+        ∙ sym (ap (λ zs. slice_get zs i) (none-listed items d key kind e))
+    item-at (Some o) e f = item-of (same_kind kind (kind_of o.value)) e refl f
+
+-- numbers
+number-one : (k : ScalarKind) (a b : ℤ) → Element k a ≡ Element k b → a ≡ b
+number-one k a b e = cc
+
+number-some : (k : ScalarKind) (a : ℤ) (why : Refusal) → Element k a ≡ Refused why → ⊥
+number-some k a why e = absurd (cc)
+
+number-told : (d : Directory) (k : ScalarKind) (p : Option ℤ)
+    → (perform d (live d) (with (of_slice p) (λ z. Reply (Element k z) d))).0 ≡ told (Element k) p
+number-told d k None = refl
+number-told d k (Some z) = refl
+
+vector-gets : (d : Directory) (k : ScalarKind) (i : ℕ) (v : Value) → same_kind (VectorOf k) (kind_of v) ≡ true
+    → (perform d (live d) (get d v i)).0 ≡ told (Element k) (slice_get (numbers_in v) i)
+vector-gets d k i v e =
+    let is = vector-only k v e in
+    ap (λ w. (perform d (live d) (get d w i)).0) is.1.1 ∙ number-told d k (slice_get is.0 i)
+    ∙ sym (ap (λ w. told (Element k) (slice_get (numbers_in w) i)) is.1.1)
+
+array-gets : (d : Directory) (k : ScalarKind) (i : ℕ) (v : Value) → same_kind (ScalarOf k) (kind_of v) ≡ true
+    → (perform d (live d) (get d v i)).0 ≡ told (Element k) (slice_get (numbers_in v) i)
+array-gets d k i v e =
+    let is = numbers-only k v e in
+    ap (λ w. (perform d (live d) (get d w i)).0) is.1 ∙ number-told d k (slice_get is.0 i)
+    ∙ sym (ap (λ w. told (Element k) (slice_get (numbers_in w) i)) is.1)
+
+pub vector-read : (mode : Mode) (d : Directory) (key : Key) (k : ScalarKind) (i : ℕ) (r : Result ℤ Refusal)
+    → answer_of (Element k) r ≡ (step_of_kind mode d key (VectorOf k) (asked.Get key i)).0
+    → got r ≡ slice_get (vector_at d key k) i
+vector-read mode d key k i r f =
+    item-at (Element k) (number-one k) (number-some k) numbers_in mode d key (VectorOf k) i (vector-gets d k i) r
+    (object_at d key) refl f
+
+pub array-read : (mode : Mode) (d : Directory) (key : Key) (k : ScalarKind) (i : ℕ) (r : Result ℤ Refusal)
+    → answer_of (Element k) r ≡ (step_of_kind mode d key (ScalarOf k) (asked.Get key i)).0
+    → got r ≡ slice_get (array_at d key k) i
+array-read mode d key k i r f =
+    item-at (Element k) (number-one k) (number-some k) numbers_in mode d key (ScalarOf k) i (array-gets d k i) r
+    (object_at d key) refl f
+
+-- texts
+got-map : (ps : List OwnedText) (i : ℕ)
+    → slice_get (map (λ (p : OwnedText). p.bytes) ps) i ≡ option_map (λ (p : OwnedText). p.bytes) (slice_get ps i)
+got-map [] i = refl
+got-map (p ∷ ps) zero = refl
+got-map (p ∷ ps) (suc i) = got-map ps i
+
+text-told : (d : Directory) (p : Option OwnedText)
+    → (perform d (live d) (with (text_in p) (λ q. Reply (TextElement q.bytes) d))).0 ≡ told TextElement
+    (option_map (λ (q : OwnedText). q.bytes) p)
+text-told d None = refl
+text-told d (Some q) = refl
+
+texts-gets : (d : Directory) (i : ℕ) (v : Value) → same_kind StringsKind (kind_of v) ≡ true
+    → (perform d (live d) (get d v i)).0 ≡ told TextElement (slice_get (texts_in v) i)
+texts-gets d i v e =
+    let is = texts-only v e in
+    ap (λ w. (perform d (live d) (get d w i)).0) is.1.1 ∙ text-told d (slice_get is.0 i)
+    ∙ ap (told TextElement) (sym (got-map is.0 i)) ∙ sym (ap (λ w. told TextElement (slice_get (texts_in w) i)) is.1.1)
+
+pub text-read : (mode : Mode) (d : Directory) (key : Key) (i : ℕ) (r : Result (List ℕ) Refusal)
+    → answer_of TextElement r ≡ (step_of_kind mode d key StringsKind (asked.Get key i)).0
+    → got r ≡ slice_get (texts_at d key) i
+text-read mode d key i r f =
+    item-at TextElement (λ a b e. cc) (λ a why e. absurd (cc)) texts_in mode d key StringsKind i (texts-gets d i) r
+    (object_at d key) refl f
+
+-- ---- how many
+
+-- what is said of the object of a key, an object of a kind
+abbrev of_kind_at : {A : Type 0} → (Value → Result A Refusal) → Directory → Key → Kind → Result A Refusal
+of_kind_at say d key kind =
+    elim (object_at d key) [
+      | None ↦ Err NotFound
+      | Some o ↦ if same_kind kind (kind_of o.value) then say o.value else Err WrongKind
+    ]
+
+module _ {A : Type 0} (items : Value → List A) (say : Value → Result ℕ Refusal) (d : Directory) (key : Key)
+    (kind : Kind) (only : (v : Value) → same_kind kind (kind_of v) ≡ true → say v ≡ Ok (length (items v))) where
+  many-if : (o : Object) (b : Bool) → same_kind kind (kind_of o.value) ≡ b
+      → number_or_none (if b then say o.value else Err WrongKind) ≡ length (if b then items o.value else [])
+  many-if o false g = refl
+  many-if o true g = ap number_or_none (only o.value g)
+
+  many-in : (p : Option Object)
+      → number_or_none (elim p as (λ _. Result ℕ Refusal) [
+        | None ↦ Err NotFound
+        | Some o ↦ if same_kind kind
+            (kind_of o.value) then say o.value else Err WrongKind
+      ]) ≡ length
+      (elim p as (λ _. List A) [ None ↦ [] | Some o ↦ if same_kind kind (kind_of o.value) then items o.value else [] ])
+  many-in None = refl
+  many-in (Some o) = many-if o (same_kind kind (kind_of o.value)) refl
+
+  many-at : number_or_none (of_kind_at say d key kind) ≡ length (list_at items d key kind)
+  many-at = many-in (object_at d key)
+
+-- of the sizes of a container the first
+sizes-first : (b : Bool) (v : Value)
+    → first_size (if b then sizes_of v else Err WrongKind) ≡ (if b then first_size (sizes_of v) else Err WrongKind)
+sizes-first true v = refl
+sizes-first false v = refl
+
+length-first : (kind : Kind) (p : Option Object)
+    → first_size (elim p as (λ _. Result (ℕ
+    × ℕ) Refusal) [ None ↦ Err NotFound | Some o ↦ sizes_of_kind o kind ]) ≡ elim p as (λ _. Result ℕ Refusal) [
+      | None
+          ↦ Err NotFound
+      | Some o ↦ if same_kind kind (kind_of o.value) then first_size (sizes_of o.value) else Err
+          WrongKind
+    ]
+length-first kind None = refl
+length-first kind (Some o) = sizes-first (same_kind kind (kind_of o.value)) o.value
+
+vector-many : (k : ScalarKind) (v : Value) → same_kind (VectorOf k) (kind_of v) ≡ true
+    → first_size (sizes_of v) ≡ Ok (length (numbers_in v))
+vector-many k v e =
+    let is = vector-only k v e in
+    ap (λ (w : Value). first_size (sizes_of w)) is.1.1 ∙ sym (ap (λ (w : Value). Ok (length (numbers_in w))) is.1.1)
+
+abbrev array_size : Value → Result ℕ Refusal
+array_size v = Ok (count_of v)
+
+array-many : (k : ScalarKind) (v : Value) → same_kind (ScalarOf k) (kind_of v) ≡ true
+    → array_size v ≡ Ok (length (numbers_in v))
+array-many k v e =
+    let is = numbers-only k v e in ap array_size is.1 ∙ sym (ap (λ (w : Value). Ok (length (numbers_in w))) is.1)
+
+-- of a container of a kind as many as are listed of it
+pub listed-length : {A : Type 0} (items : Value → List A) (d : Directory) (key : Key) (kind : Kind)
+    → ((v : Value) → same_kind kind (kind_of v) ≡ true → first_size (sizes_of v) ≡ Ok (length (items v)))
+    → (r : Result ℕ Refusal) → r ≡ length_at_kind d key kind → number_or_none r ≡ length (list_at items d key kind)
+listed-length items d key kind only r e =
+    ap number_or_none (e ∙ length-first kind (object_at d key))
+    ∙ many-at items (λ v. first_size (sizes_of v)) d key kind only
+
+pub vector-length : (d : Directory) (key : Key) (k : ScalarKind) (r : Result ℕ Refusal)
+    → r ≡ length_at_kind d key (VectorOf k) → number_or_none r ≡ length (vector_at d key k)
+vector-length d key k r e = listed-length numbers_in d key (VectorOf k) (vector-many k) r e
+
+pub array-length : (d : Directory) (key : Key) (k : ScalarKind) (r : Result ℕ Refusal) → r ≡ array_length_at d key k
+    → number_or_none r ≡ length (array_at d key k)
+array-length d key k r e = ap number_or_none e ∙ many-at numbers_in array_size d key (ScalarOf k) (array-many k)

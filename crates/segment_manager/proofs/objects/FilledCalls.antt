@@ -1,0 +1,189 @@
+-- Calls that construct an object, of what fills it or of numbers from items, as the code makes them.
+use Rattle.segment_manager.proofs.Common.{false≢true, ◌≡◌, refl, sym, ap, subst, ◌∙◌, ℕ, true, false, Some, None}
+use Rattle.segment_manager.proofs.Common.{Option, Ok, Err, Result, List, IfErr, none-some, Cut, Kind, Refusal, Exists}
+use Rattle.segment_manager.proofs.Common.{NoSpace, Command, Content, Index, NewEntry, Mode, Answer, Made, Refused}
+use Rattle.segment_manager.proofs.Common.{is_untouched, Begins, IsAbsentAt, IsNotBegun, Object, Directory, count_of}
+use Rattle.segment_manager.proofs.Common.{kind_of, object_at, value_len, Constructs, FindsOrConstructs, IsBegunFor}
+use Rattle.segment_manager.proofs.Common.{MakesValue, with_count, handle_at, pair_answer, IsNewKeyOf, bare, StandsAt}
+use Rattle.segment_manager.proofs.Common.{pair_of_kind, Answers, IsSegment, IsStep, State, answer_of, handle_answer}
+use Rattle.segment_manager.proofs.Common.{is_read_only, Reply, effect, found, with_new_object, handle, place, step}
+use Rattle.segment_manager.proofs.objects.FoundOrMade.{constructs-exists, finds, found-there, made_for, made_handle}
+use Rattle.segment_manager.proofs.objects.FoundOrMade.{makes}
+use Rattle.segment_manager.proofs.objects.NewValues.{IsMadeNever, IsMadeNow, away-in, value-built, value-loose}
+use Rattle.segment_manager.proofs.objects.NewValues.{value-not_built, value-ready}
+use Rattle.segment_manager.proofs.objects.NotBegun.{key-taken, value-not_begun}
+use Rattle.segment_manager.proofs.Steps.{step-segment}
+use Rattle.segment_manager.proofs.{objects.FoundOrMade.makes-nothing, indexes.Bridge.lookup-absent}
+use Rattle.segment_manager.proofs.{objects.NewKeys.key-seeks}
+use Rattle.segment_manager.specs.objects.Begun.{Ends, IsEnding}
+use Rattle.segment_manager.specs.containers.Filled.{HasBegun, Builds, IsShapeOf}
+use Rattle.segment_manager.specs.objects.Found.{pair_found}
+use Rattle.segment_manager.specs.Answers.{Found}
+use Rattle.seg_index.specs.declared.keys.Key.{Key}
+use Rattle.segment_manager.specs.declared.objects.beginning.Begun.{Begun}
+use Rattle.segment_manager.specs.declared.containers.fillings.Shape.{Shape}
+use Rattle.seg_types.specs.Names as names
+use Rattle.seg_types.specs.Commands as asked
+
+-- ---- begun
+
+-- what the shape says of an object that was begun is what the content says
+pub begun-for : (old new : Cut) (key : names.Key) {content : Content} {s : Shape} (r : Result Begun Refusal)
+    → IsShapeOf content s → Begins old new key s.kind s.count s.len r
+    → Begins old new key (kind_of (bare content)) (count_of (bare content)) (value_len (bare content)) r
+begun-for old new key {content} {s} r is g =
+    subst (λ (k : Kind). Begins old new key k (count_of (bare content)) (value_len (bare content)) r) is.kind
+    (subst (λ n. Begins old new key s.kind n (value_len (bare content)) r) is.count
+    (subst (λ n. Begins old new key s.kind s.count n r) is.len g))
+
+pub has-begun : (old new : Cut) (key : names.Key) {content : Content} {s : Shape} (r : Begun) → IsSegment old.bytes
+    → IsShapeOf content s → Begins old new key s.kind s.count s.len (Ok r) → HasBegun new content r.handle r.at r.entry
+has-begun old new key r b is g = (old, (b, (key, begun-for old new key (Ok r) is g)))
+
+-- ---- filled
+
+module _ (content : Content) where
+  -- what the end wants of a value that was made, or was refused its blocks
+  pub ending : (a m : Cut) (b : IsSegment a.bytes) (key : names.Key) (h at : ℕ) (entry : Option NewEntry) (w : Cut)
+      (r : Result (Unit {0}) Refusal) → IsBegunFor a m key content h at entry
+      → MakesValue content m w (record { handle = h; at = at }) r → IsEnding w h entry r
+  ending a m b key h at entry w (Ok u) g r = value-ready content a b key h at entry g r
+  ending a m b key h at entry w (Err why) g r = (a, value-loose content a b key h at entry w why g r)
+
+  -- the value is made, and then the object gets its entry; or all is given back
+  pub builds : (m w c : Cut) (h at : ℕ) (entry : Option NewEntry) (filled : Result (Unit {0}) Refusal)
+      (result : Result ℕ Refusal) → MakesValue content m w (record { handle = h; at = at }) filled
+      → Ends w c h entry filled result → Builds m c h at entry content result
+  builds m w c h at entry (Ok u) result made e =
+      subst (Builds m c h at entry content) (sym e.0) (record { made = w; value = made; is = refl; entered = e.1 })
+  builds m w c h at entry (Err why) result made e =
+      subst (Builds m c h at entry content) (sym e.0) (record { left = w; none = made; back = e.1 })
+
+-- ---- the steps
+
+module _ {a : Cut} (b : IsSegment a.bytes) (key : names.Key) (content : Content) where
+  no-space : {A : Type 0} (f : A → Answer) {command : Command} (say : Object → Answer)
+      → ((d : Directory) → object_at d key ≡ None
+      → effect d command ≡ with_new_object d key content (λ o e. Reply (say o) e)) → (c : Cut) (why : Refusal)
+      → why ≡ NoSpace → IsMadeNever a c key content → Constructs a c command (answer_of f) (Err why)
+  no-space f {command} say asks c why e d = record {
+    step = λ mode writing.
+        subst (λ (r : Refusal). IsStep (record { cut = a; mode = mode }) (record { cut = c; mode = mode }) command
+        (Refused r)) (sym e) (makes-nothing command say writing d.place asks d.each);
+    refused = λ t. absurd (false≢true (sym (ap (λ (r : Refusal). is_untouched (Refused r)) e) ∙ t));
+  }
+
+  none-constructed : (c : Cut) (why : Refusal) → why ≡ NoSpace → IsMadeNever a c key content
+      → Constructs a c (asked.Construct key content) handle_answer (Err why)
+  none-constructed = no-space Made made_handle (λ d e. ap (made_for d key content) e)
+
+  none-found : (c : Cut) (why : Refusal) → why ≡ NoSpace → IsMadeNever a c key content
+      → Constructs a c (asked.FindOrConstruct key content) pair_answer (Err why)
+  none-found = no-space pair_found found (λ d e. ap (finds d key content) e)
+
+  module _ (entry : Option NewEntry) (m : Cut) {c : Cut} (h at : ℕ) where
+    made-now : {n : ℕ} → IsBegunFor a m key content h at entry → Builds m c h at entry content (let r = Ok n in r)
+        → IsMadeNow a c key content n
+    made-now {n} g r =
+        subst (λ (n : ℕ). IsMadeNow a c key content n) (sym r.is) (value-built content b h at entry g r.value r.entered)
+
+    made-never : (why : Refusal) → IsBegunFor a m key content h at entry
+        → Builds m c h at entry content (let r = Err why in r) → IsMadeNever a c key content
+    made-never why g r = value-not_built content b h at entry g r.none r.back
+
+    -- what was begun is built, or is refused its blocks
+    pub construct-built : (r : Result ℕ Refusal) → IsBegunFor a m key content h at entry
+        → Builds m c h at entry content r → Constructs a c (asked.Construct key content) handle_answer r
+    construct-built (Ok n) g r =
+        let d = made-now g r in
+        record {
+          step = λ mode writing.
+              makes (asked.Construct key content) made_handle writing d.place
+              (λ d e. ap (made_for d key content) e) (λ d n. ap Made (sym n.at)) d.each;
+          refused = tt;
+        }
+    construct-built (Err why) g r = none-constructed c why r.none.refusal (made-never why g r)
+
+    pub found-built : (r : Result ℕ Refusal) → IsBegunFor a m key content h at entry → Builds m c h at entry content r
+        → Constructs a c (asked.FindOrConstruct key content) pair_answer (with_count (count_of (bare content)) r)
+    found-built (Ok n) g r =
+        let d = made-now g r in
+        record {
+          step = λ mode writing.
+              makes (asked.FindOrConstruct key content) found writing d.place
+              (λ d e. ap (finds d key content) e) (λ d n. λ j. Found (sym n.at j) (n.count j)) d.each;
+          refused = tt;
+        }
+    found-built (Err why) g r = none-found c why r.none.refusal (made-never why g r)
+
+  -- it is not begun
+  pub construct-not_begun : (why : Refusal) (c : Cut)
+      → IsNotBegun a c key (kind_of (bare content)) (value_len (bare content)) why
+      → Constructs a c (asked.Construct key content) handle_answer (Err why)
+  construct-not_begun Exists c t = record {
+    step = λ mode writing.
+        subst (λ (u : Cut). IsStep (record { cut = a; mode = mode }) (record { cut = u; mode = mode })
+        (asked.Construct key content) (Refused Exists)) (sym t.same)
+        (constructs-exists key content writing (key-taken key content t));
+    refused = λ e. t.same;
+  }
+  construct-not_begun NoSpace c t = none-constructed c NoSpace refl (value-not_begun key content t)
+  construct-not_begun why c t = absurd t
+
+  -- where no object has the key
+  pub found-not_begun : (why : Refusal) {c : Cut} → object_at b.0 key ≡ None
+      → IsNotBegun a c key (kind_of (bare content)) (value_len (bare content)) why
+      → Constructs a c (asked.FindOrConstruct key content) pair_answer (Err why)
+  found-not_begun Exists none t = absurd (let o = key-taken key content t b.0 b.1 in none-some o.0 (sym none ∙ o.1))
+  found-not_begun NoSpace {c} none t = none-found c NoSpace refl (value-not_begun key content t)
+  found-not_begun why none t = absurd t
+
+  -- an object has the key, and stays as it is
+  pub found-all : {h : ℕ} {r : Result (ℕ × ℕ) Refusal}
+      → ((mode : Mode) → Answers (record { cut = a; mode = mode }) (λ d. handle_at d key) (Some h))
+      → ((o : Object) → StandsAt a.bytes h o → r ≡ pair_of_kind o (kind_of (bare content)))
+      → FindsOrConstructs a a key content r
+  found-all {r} there each = record {
+    constructs = record {
+      step = λ mode writing. found-there key content writing (there mode) each;
+      refused = unchanged r;
+    };
+    found = λ d st has. refl;
+  }
+    where
+      unchanged : (r : Result (ℕ × ℕ) Refusal) → IfErr r (λ why. is_untouched (Refused why) ≡ true → a ≡ a)
+      unchanged (Ok v) = tt
+      unchanged (Err why) = λ t. refl
+
+-- ---- under an entry
+
+-- a look-up finds no object
+pub no-object : {a : Cut} (b : IsSegment a.bytes) (i : Index) (e : Key) (at : ℕ) (key : names.Key) (name : List ℕ)
+    (kind : Kind) → IsNewKeyOf i e key name kind → IsAbsentAt a i e at → object_at b.0 key ≡ None
+no-object {a} b i e at key name kind new away =
+    (lookup-absent i a e key b.1.denotes (key-seeks i e key name kind new) (away-in i e at b.1.denotes away)).none
+
+-- and so nothing is said of one
+pub found-absent : {a c : Cut} (i : Index) (e : Key) (at : ℕ) {key : names.Key} (name : List ℕ) (kind : Kind)
+    {content : Content} {r : Result (ℕ × ℕ) Refusal} → IsNewKeyOf i e key name kind → IsAbsentAt a i e at
+    → Constructs a c (asked.FindOrConstruct key content) pair_answer r → FindsOrConstructs a c key content r
+found-absent {a} i e at {key} name kind new away done = record {
+  constructs = done;
+  found = λ d st has. absurd (none-some has.0
+      (sym (lookup-absent i a e key st.denotes (key-seeks i e key name kind new) (away-in i e at st.denotes away)).none
+      ∙ has.1));
+}
+
+-- ---- the segment afterwards, as its view before the call is named
+
+module _ {A : Type 0} {s t : State} (view : s ≡ t) {c : Cut} {command : Command} {answer : Result A Refusal → Answer}
+    {r : Result A Refusal} (done : Constructs s.cut c command answer r) where
+  pub made-step : is_read_only t.mode ≡ false → IsStep t (record s { cut = c }) command (answer r)
+  made-step writing =
+      subst (λ (u : State). IsStep u (record s { cut = c }) command (answer r)) view
+      (done.step s.mode (ap (λ (u : State). is_read_only u.mode) view ∙ writing))
+
+  pub made-segment : is_read_only t.mode ≡ false → IsSegment s.cut.bytes → IsSegment c.bytes
+  made-segment writing b =
+      step-segment s (record s { cut = c }) command (answer r)
+      (done.step s.mode (ap (λ (u : State). is_read_only u.mode) view ∙ writing)) b

@@ -1,0 +1,77 @@
+-- Items taken from an iterator and written one behind another.
+use Rattle.segment_manager.proofs.Common.{◌≡◌, refl, sym, ap, subst, ◌∙◌, ℕ, ◌+◌, ◌*◌, ℤ, Bool, true, Some, Option}
+use Rattle.segment_manager.proofs.Common.{List, [], ◌∷◌, ◌++◌, length, map, arith, length-append, IsTrue}
+use Rattle.segment_manager.proofs.Common.{AllByRecursion, list_all, Yields, and_from, flat_map_more, length-map, Cut}
+use Rattle.segment_manager.proofs.Common.{Has, bytes_of, current, IsChanged, ScalarKind, is_value, size_of, spelling}
+use Rattle.segment_manager.proofs.Common.{spelled}
+use Rattle.std.specs.Iterator.{HoldsAlong}
+use Rattle.std.proofs.lemmas.List.{map_push}
+use Rattle.segment_manager.specs.objects.Begun.{IsItemWritten}
+use Rattle.seg_vector.proofs.Bytes.{Has-append}
+use Rattle.segment_manager.proofs.{blocks.Blocks.spelled-length, blocks.Blocks.spelling-length}
+use Rattle.segment_manager.proofs.{blocks.NewBlocks.changed-trans, objects.Pieces.bytes-stay}
+use Rattle.segment_manager.proofs.{Words.AllByRecursion-behind, Words.first, Words.second}
+
+-- ---- calls, and then one more
+
+pub yields-more : {S A : Type 0} (steps : S → Option A → S → Type 0) (s t u : S) (xs : List A) (x : A)
+    → Yields steps s xs t → steps t (Some x) u → Yields steps s (xs ++ x ∷ []) u
+yields-more steps s t u [] x e f = (u, subst (λ r. steps r (Some x) u) (sym e) f, refl)
+yields-more steps s t u (y ∷ ys) x h f = (h.0, h.1, yields-more steps h.0 t u ys x h.2 f)
+
+-- what holds of all items that may come holds of the last one
+pub last-holds : {S A : Type 0} (steps : S → Option A → S → Type 0) (P : A → Type 0) (s t u : S) (xs : List A) (x : A)
+    → HoldsAlong steps s (AllByRecursion P) → Yields steps s xs t → steps t (Some x) u → P x
+last-holds steps P s t u xs x all h f =
+    (AllByRecursion-behind P xs (x ∷ []) (all (xs ++ x ∷ []) u (yields-more steps s t u xs x h f))).0
+
+-- a test holds of one more
+all-more : (t : ℤ → Bool) (zs : List ℤ) (z : ℤ) → IsTrue (list_all t zs) → IsTrue (t z)
+    → IsTrue (list_all t (zs ++ z ∷ []))
+all-more t [] z h e = and_from (t z) true e refl
+all-more t (y ∷ ys) z h e =
+    and_from (t y) (list_all t (ys ++ z ∷ [])) (first (t y) (list_all t ys) h)
+    (all-more t ys z (second (t y) (list_all t ys) h) e)
+
+-- ---- so many items were written
+
+pub record IsFilling {S A : Type 0} (gives : S → Option A → S → Type 0) (can : S → Type 0) (whole : A → ℤ)
+    (old now : Cut) (k : ScalarKind) (from i : ℕ) (before at : S) : Type 0 where
+  pub items : List A
+  pub ran : Yields gives before items at
+  pub long : length items ≡ i
+  pub callable : can at
+  pub values : IsTrue (list_all (is_value k) (map whole items))
+  pub change : IsChanged current old now from (size_of k * i)
+  pub content : Has (bytes_of now.bytes) from (spelled k (map whole items))
+
+module _ (S : Type 0) {A : Type 0} {gives : S → Option A → S → Type 0} {can : S → Type 0} {whole : A → ℤ} {old : Cut}
+    {k : ScalarKind} {from : ℕ} {before : S} where
+  -- and one more
+  pub filling-more : {b c : Cut} {i to : ℕ} {s t : S} → IsFilling gives can whole old b k from i before s → can t
+      → to ≡ from + size_of k * i → IsItemWritten gives whole b c k to s t
+      → IsFilling gives can whole old c k from (i + 1) before t
+  filling-more {b} {c} {i} {to} {s} {t} f go at w =
+      let zs = map whole f.items in
+      let bytes = spelling k (whole w.item) in
+      let more = map_push whole f.items w.item in
+      let each = spelling-length k (whole w.item) in
+      let all = spelled-length k zs ∙ ap (λ m. size_of k * m) (length-map f.items whole ∙ f.long) in
+      let sum : size_of k * i + size_of k ≡ size_of k * (i + 1) = omega arith in
+      let change' : IsChanged current b c (from + size_of k * i) (size_of k) =
+      subst (λ p. IsChanged current b c p (size_of k)) at w.change in
+      let front = bytes-stay from (spelled k zs) change' (omega arith) f.content in
+      let place : to ≡ from + length (spelled k zs) = omega arith in
+      record {
+        items = f.items ++ w.item ∷ [];
+        ran = yields-more gives before s t f.items w.item f.ran w.step;
+        long = length-append f.items (w.item ∷ []) ∙ ap (λ m. m + 1) f.long;
+        callable = go;
+        values = subst (λ ys. IsTrue (list_all (is_value k) ys)) (sym more)
+            (all-more (is_value k) zs (whole w.item) f.values w.value);
+        change = subst (IsChanged current old c from) sum (changed-trans f.change change');
+        content = subst (Has (bytes_of c.bytes) from)
+            (flat_map_more (spelling k) [] zs (whole w.item) ∙ ap (spelled k) (sym more))
+            (Has-append (bytes_of c.bytes) from (spelled k zs) bytes front
+            (subst (λ p. Has (bytes_of c.bytes) p bytes) place w.content));
+      }

@@ -1,0 +1,83 @@
+-- An object found under a key, or constructed where there is none, as a step of the machine.
+use Rattle.segment_manager.proofs.Common.{◌≡◌, refl, sym, ap, ◌∙◌, ℕ, false, Some, None, Option, Result, if◌then◌else◌}
+use Rattle.segment_manager.proofs.Common.{Cut, SamePlace, handle, Refusal, NoSpace, WrongKind, Exists, same_kind, Key}
+use Rattle.segment_manager.proofs.Common.{Content, Answer, Refused, Made, Object, Directory, kind_of, object_at}
+use Rattle.segment_manager.proofs.Common.{handle_at, pair_answer, Plan, Refuse, Reply, bare, with_new_object, StandsAt}
+use Rattle.segment_manager.proofs.Common.{pair_of_kind, Answers, IsStep, StandsFor, State, found, is_read_only}
+use Rattle.segment_manager.proofs.objects.Constructed.{IsNewObject, IsNoObject}
+use Rattle.segment_manager.proofs.Steps.{by_no_change, by_step, lands, open-writing, step-plan, step-refuse}
+use Rattle.segment_manager.proofs.{Common.Command, Common.effect, objects.Here.here, objects.KeyCalls.kind-step}
+use Rattle.seg_types.specs.Commands as asked
+
+-- ---- an object that is constructed
+
+-- what the plan is for what is found: that of a new object, or that there is one
+abbrev pub made_for : Directory → Key → Content → Option Object → Plan
+made_for d key content r =
+    elim r as (λ _. Plan) [
+      | Some o ↦ Refuse Exists
+      | None ↦ with_new_object d key content (λ o e. Reply (Made (handle o.extent)) e)
+    ]
+
+module _ {old : State} {new : Cut} {key : Key} {content : Content} (c : Command) (say : Object → Answer)
+    (writing : is_read_only old.mode ≡ false) (place : SamePlace old.cut new)
+    (asks : ((d : Directory) → object_at d key ≡ None
+    → effect d c ≡ with_new_object d key content (λ o e. Reply (say o) e))) where
+  -- A command asks for a new object where no object has the key, and says this of it: it is made.
+  pub makes : {h : ℕ} {answer : Answer}
+      → ((d : Directory) → (n : IsNewObject new d key content h) → say n.object ≡ answer)
+      → ((d : Directory) → StandsFor old.cut.bytes d → (object_at d key ≡ None) × IsNewObject new d key content h)
+      → IsStep old (record old { cut = new }) c answer
+  makes {h} said each =
+      by_step c (record { mode = refl; place = place }) (λ d k.
+      let n : IsNewObject new d key content h = (each d k).1 in
+      lands n.after (record {
+        is = step-plan old.mode d c (open-writing old.mode c writing) (asks d (each d k).0)
+            ∙ n.met (λ o e. Reply (say o) e) ∙ ap (λ (a : Answer). (a, n.after)) (said d n);
+        denotes = n.denotes;
+      }))
+
+  -- or a request is refused
+  pub makes-nothing : ((d : Directory) → StandsFor old.cut.bytes d
+      → (object_at d key ≡ None) × IsNoObject new d key content)
+      → IsStep old (record old { cut = new }) c (Refused NoSpace)
+  makes-nothing each =
+      by_step c (record { mode = refl; place = place }) (λ d k.
+      lands d (record {
+        is = step-plan old.mode d c (open-writing old.mode c writing) (asks d (each d k).0)
+            ∙ (each d k).1.refused (λ o e. Reply (say o) e);
+        denotes = (each d k).1.denotes;
+      }))
+
+abbrev pub made_handle : Object → Answer
+made_handle o = Made (handle o.extent)
+
+-- an object has the key
+pub constructs-exists : {s : State} (key : Key) (content : Content) → is_read_only s.mode ≡ false
+    → ((d : Directory) → StandsFor s.cut.bytes d → (o : Object) × (object_at d key ≡ Some o))
+    → IsStep s s (asked.Construct key content) (Refused Exists)
+constructs-exists {s} key content writing each =
+    by_no_change s (asked.Construct key content) (Refused Exists) (λ d k.
+    step-refuse s.mode d (asked.Construct key content) Exists
+    (open-writing s.mode (asked.Construct key content) writing) (ap (made_for d key content) (each d k).1))
+
+-- what the plan is for what is found
+abbrev pub finds : Directory → Key → Content → Option Object → Plan
+finds d key content r = elim r as (λ _. Plan) [
+  | None ↦ with_new_object d key content (λ o e. Reply (found o) e)
+  | Some o ↦ if same_kind (kind_of (bare content)) (kind_of o.value) then Reply (found o) d else Refuse WrongKind
+]
+
+-- ---- an object has the key
+
+-- it is answered where it is of the kind
+pub found-there : {s : State} (key : Key) (content : Content) {h : ℕ} {result : Result (ℕ × ℕ) Refusal}
+    → is_read_only s.mode ≡ false → Answers s (λ d. handle_at d key) (Some h)
+    → ((o : Object) → StandsAt s.cut.bytes h o → result ≡ pair_of_kind o (kind_of (bare content)))
+    → IsStep s s (asked.FindOrConstruct key content) (pair_answer result)
+found-there {s} key content {h} {result} writing a each =
+    by_no_change s (asked.FindOrConstruct key content) (pair_answer result) (λ d st.
+    let o = here s.cut.bytes d key h st.denotes (a.answers d st) in
+    kind-step s.mode d (asked.FindOrConstruct key content) o.object (kind_of (bare content))
+    (open-writing s.mode (asked.FindOrConstruct key content) writing) (ap (finds d key content) o.is)
+    ∙ ap (λ (r : Result (ℕ × ℕ) Refusal). (pair_answer r, d)) (sym (each o.object o.stands)))

@@ -1,0 +1,107 @@
+-- What the words of an index entry are of an object that stands in its block.
+use Rattle.segment_manager.proofs.Common.{◌≡◌, ap, ◌∙◌, ℕ, zero, suc, ◌+◌, ◌*◌, ◌-◌, ◌<◌, ◌≤◌, Bool, true, false, ◌&&◌}
+use Rattle.segment_manager.proofs.Common.{not, List, [], ◌∷◌, ◌++◌, length, replicate, ◌==◌, if◌then◌else◌, arith}
+use Rattle.segment_manager.proofs.Common.{IsTrue, nat_le, AllByRecursion, list_all, is_utf8, chars, and_parts, eqb-true}
+use Rattle.segment_manager.proofs.Common.{leb-true, Memory, bytes_of, read, Has, word_at, handle, serves, ObjectRole}
+use Rattle.segment_manager.proofs.Common.{ScalarKind, BoolKind, Kind, Scalar, Vector, Map, scalar_code, code_of}
+use Rattle.segment_manager.proofs.Common.{class_code, is_kind_of, is_name, is_printable_name, is_text_name, is_control}
+use Rattle.segment_manager.proofs.Common.{name_len_at, Object, kind_of, count_of, padded, is_class, has_good_name}
+use Rattle.segment_manager.proofs.Common.{is_good_value, is_object, object_len, IsObjectAt, IsEntry, subst}
+use Rattle.segment_manager.proofs.{Common.length-append, Words.first, Words.second}
+use Rattle.seg_types.specs.declared.kinds.Class.TheVariants.{Named}
+use Rattle.segment_manager.specs.objects.Heads.{EntriesSayObjects}
+use Rattle.std.proofs.Math.Seq.{take-append_seam}
+use Rattle.seg_vector.proofs.Bytes.{Has-take}
+
+-- ---- the codes are below 2 ^ 32
+
+pub scalar-small : (k : ScalarKind) → scalar_code k ≤ 5
+scalar-small BoolKind = omega arith
+scalar-small k = omega arith
+
+pub code-small : (k : Kind) → code_of k < 4294967296
+code-small (Scalar k) = let l = scalar-small k in omega arith
+code-small (Vector k) = let l = scalar-small k in omega arith
+code-small (Map k v) = let l = scalar-small k in let r = scalar-small v in omega arith
+code-small k = omega arith
+
+-- ---- names are short
+
+text-short : (name : List ℕ) → IsTrue (is_text_name name) → length name ≤ 255
+unfolding is_text_name
+text-short name h =
+    let three = and_parts (nat_le 1 (length name) && nat_le (length name) 255 && is_utf8 name)
+    (list_all (λ c. not (is_control c)) (chars name)) h in
+    let two = and_parts (nat_le 1 (length name) && nat_le (length name) 255) (is_utf8 name) three.0 in
+    leb-true (length name) 255 (and_parts (nat_le 1 (length name)) (nat_le (length name) 255) two.0).1
+
+printable-short : (name : List ℕ) → IsTrue (is_printable_name name) → length name ≤ 255
+printable-short name h =
+    let two = and_parts (nat_le 1 (length name) && nat_le (length name) 63)
+    (list_all (λ c. nat_le 0x20 c && nat_le c 0x7E) name) h in
+    let l = leb-true (length name) 63 (and_parts (nat_le 1 (length name)) (nat_le (length name) 63) two.0).1 in
+    omega arith
+
+pub name-short : (format : ℕ) (name : List ℕ) → IsTrue (is_name format name) → length name ≤ 255
+name-short zero name h = printable-short name h
+name-short (suc zero) name h = printable-short name h
+name-short (suc (suc format)) name h = text-short name h
+
+good-if : (format : ℕ) (o : Object) (b : Bool) → IsTrue (if b then is_name format o.name else length o.name == 0)
+    → length o.name ≤ 255
+good-if format o true h = name-short format o.name h
+good-if format o false h = let e = eqb-true (length o.name) 0 h in omega arith
+
+pub good_name-short : (format : ℕ) (o : Object) → IsTrue (has_good_name format o) → length o.name ≤ 255
+good_name-short format o h = good-if format o (is_class Named o) h
+
+-- ---- an object's words
+
+-- the first of two rows of bytes
+pub Has-front : (m : Memory) (at : ℕ) (xs ys : List ℕ) → Has m at (xs ++ ys) → Has m at xs
+Has-front m at xs ys h =
+    subst (Has m at) (take-append_seam xs ys)
+    (Has-take m at (length xs) (xs ++ ys) (omega (arith, length-append xs ys)) h)
+
+-- the length of the name
+pub entry-name_len : (m : Memory) (o : Object) → length o.name ≤ 255 → IsObjectAt m o
+    → name_len_at m (handle o.extent) ≡ length o.name
+entry-name_len m o short a =
+    let behind : word_at m (handle o.extent + 8) ≡ length o.name + 4294967296 * class_code o.class = a.name_class in
+    omega arith
+
+pub object-entry : (m : Memory) (o : Object) → length o.name ≤ 255 → IsObjectAt m o → IsEntry m o
+object-entry m o short a =
+    let small = code-small (kind_of o.value) in
+    let front : word_at m (handle o.extent) ≡ code_of (kind_of o.value) + 4294967296 * count_of o.value =
+    a.kind_count in
+    let behind : word_at m (handle o.extent + 8) ≡ length o.name + 4294967296 * class_code o.class = a.name_class in
+    record {
+      code = omega arith;
+      count = omega arith;
+      class = omega arith;
+      name = ap (read m (handle o.extent + 16)) (entry-name_len m o short a)
+          ∙ Has-front m (handle o.extent + 16) o.name (replicate (padded (length o.name) - length o.name) 0) a.name;
+    }
+
+-- ---- the law
+
+-- a good object has a good name
+pub good-name : (format : ℕ) (o : Object) → IsTrue (is_object format o) → IsTrue (has_good_name format o)
+good-name format o h =
+    first (has_good_name format o) (is_kind_of format (kind_of o.value))
+    (first (has_good_name format o && is_kind_of format (kind_of o.value)) (is_good_value o.value)
+    (first (has_good_name format o && is_kind_of format (kind_of o.value) && is_good_value o.value)
+    (serves o.extent ObjectRole (object_len o.name o.value)) h))
+
+entries : (format : ℕ) (m : Memory) (os : List Object) → IsTrue (list_all (is_object format) os)
+    → AllByRecursion (IsObjectAt m) os → AllByRecursion (IsEntry m) os
+entries format m [] h a = tt
+entries format m (o ∷ os) h a = (
+  object-entry m o (good_name-short format o
+      (good-name format o (first (is_object format o) (list_all (is_object format) os) h))) a.0,
+  entries format m os (second (is_object format o) (list_all (is_object format) os) h) a.1,
+)
+
+pub entries_say_objects : EntriesSayObjects
+entries_say_objects format b d h = entries format (bytes_of b) d.objects h.directory.objects h.objects

@@ -1,0 +1,192 @@
+-- An object that was located: it is that of the key, and what a command does under its handle it does under the key.
+use Rattle.segment_manager.proofs.Common.{◌≡◌, refl, sym, ap, subst, ◌∙◌, ℕ, ◌&&◌, Option, Some, None, Result, Ok, Err}
+use Rattle.segment_manager.proofs.Common.{if◌then◌else◌, is_some, option_map, same_Some, Kind, Refusal, NotFound}
+use Rattle.segment_manager.proofs.Common.{ReadOnly, WrongKind, same_kind, Key, ByHandle, Command, is_changing, Head}
+use Rattle.segment_manager.proofs.Common.{Change, Clear, Reserve, Shrink, Located, Answer, kind_at, sizes_at}
+use Rattle.segment_manager.proofs.Common.{sizes_at_kind, sizes_of, sizes_of_kind, Object, Directory, kind_of, live}
+use Rattle.segment_manager.proofs.Common.{object_at, handle_at, HasPlaces, KeepsWhere, IsLocated, Plan, Refuse, perform}
+use Rattle.segment_manager.proofs.Common.{with, IsHeadOf, StandsAt, Answers, IsReplyOfKind, IsStep, IsStepOfKind, State}
+use Rattle.segment_manager.proofs.Common.{StandsFor, effect, is_read_only, step, step_of_kind, HasEnough, command_of}
+use Rattle.segment_manager.specs.Laws.{HandlesMeanObjects, KeysMeanObjects, KeysOfKindMeanObjects, at_key}
+use Rattle.segment_manager.specs.objects.Located.{located}
+use Rattle.seg_types.specs.Commands as asked
+use Rattle.segment_manager.proofs.{containers.AnyStorage.measures-kind, containers.AnyStorage.of_kind-steps}
+use Rattle.segment_manager.proofs.{indexes.Bridge.by-handle, objects.Here.here, Steps.moves-same}
+
+-- ---- the object
+
+-- what the head of the object at the handle says is what is located
+pub locates : {s : State} {key : Key} {h : ℕ} {head : Head} → Answers s (λ d. handle_at d key) (Some h)
+    → ((o : Object) → StandsAt s.cut.bytes h o → IsHeadOf o head)
+    → IsLocated s key (record { handle = h; kind = head.kind; count = head.count })
+locates {s} {key} {h} {head} a says = record {
+  at = record {
+    answers = λ d k.
+        let o = here s.cut.bytes d key h k.denotes (a.answers d k) in
+        let said = says o.object o.stands in
+        (λ i. Some (record { handle = o.stands.at i; kind = said.kind i; count = said.count i }))
+        ∙ sym (ap (option_map located) o.is);
+  };
+  here = record {
+    answers = λ d k.
+        let o = here s.cut.bytes d key h k.denotes (a.answers d k) in
+        sym (ap is_some (ap (λ n. object_at d (ByHandle n)) o.stands.at ∙ by-handle key k.denotes.directory o.is));
+  };
+}
+
+-- the object of the key, of which this is said
+pub record IsSaidAt (d : Directory) (key : Key) (o : Located) : Type 0 where
+  pub object : Object
+  pub is : object_at d key ≡ Some object
+  pub said : o ≡ located object
+
+said-if : {d : Directory} {key : Key} {o : Located} (r : Option Object) → object_at d key ≡ r
+    → Some o ≡ option_map located r → IsSaidAt d key o
+said-if None e f = absurd (cc)
+said-if {o} (Some p) e f = record { object = p; is = e; said = same_Some o (located p) f }
+
+pub said-at : (s : State) (key : Key) (o : Located) → IsLocated s key o → (d : Directory) → StandsFor s.cut.bytes d
+    → IsSaidAt d key o
+said-at s key o l d k = said-if (object_at d key) refl (l.at.answers d k)
+
+pub same-object : HandlesMeanObjects
+same-object s key o l d k =
+    let p = said-at s key o l d k in
+    p.is ∙ sym (ap (λ (q : Located). object_at d (ByHandle q.handle)) p.said ∙ by-handle key k.denotes.directory p.is)
+
+-- ---- two keys of one object
+
+abbrev going_on : (Object → Plan) → Option Object → Plan
+going_on next r = with (elim r as (λ _. Result Object Refusal) [ None ↦ Err NotFound | Some o ↦ Ok o ]) next
+
+effect-same : (d : Directory) (key other : Key) (c : Command) → object_at d key ≡ object_at d other
+    → effect d (at_key key c) ≡ effect d (at_key other c)
+effect-same d key other (asked.Show old) e = ap (going_on _) e
+effect-same d key other (asked.Info old) e = ap (going_on _) e
+effect-same d key other (asked.Get old i) e = ap (going_on _) e
+effect-same d key other (asked.Set old i l) e = ap (going_on _) e
+effect-same d key other (asked.Push old l) e = ap (going_on _) e
+effect-same d key other (asked.Pop old) e = ap (going_on _) e
+effect-same d key other (asked.Insert old i l) e = ap (going_on _) e
+effect-same d key other (asked.Erase old i) e = ap (going_on _) e
+effect-same d key other (asked.Reserve old n) e = ap (going_on _) e
+effect-same d key other (asked.Shrink old) e = ap (going_on _) e
+effect-same d key other (asked.Clear old) e = ap (going_on _) e
+effect-same d key other (asked.Assign old ls) e = ap (going_on _) e
+effect-same d key other (asked.Append old bs) e = ap (going_on _) e
+effect-same d key other (asked.Put old l m) e = ap (going_on _) e
+effect-same d key other (asked.Lookup old l) e = ap (going_on _) e
+effect-same d key other (asked.Remove old l) e = ap (going_on _) e
+effect-same d key other c e = refl
+
+changing-same : (key other : Key) (c : Command) → is_changing (at_key key c) ≡ is_changing (at_key other c)
+changing-same key other (asked.Show old) = refl
+changing-same key other c = refl
+
+pub keys-same : KeysMeanObjects
+unfolding step
+keys-same mode d key other c e =
+    λ i. perform d (live d) (if is_read_only mode && changing-same key other c i then Refuse ReadOnly else effect-same d
+    key other c e i)
+
+pub keys_of_kind-same : KeysOfKindMeanObjects
+unfolding step_of_kind
+keys_of_kind-same mode d key other kind c e =
+    λ i. perform d (live d) (if is_read_only mode && changing-same key other c i then Refuse ReadOnly else
+    going_on (λ o. if same_kind kind (kind_of o.value) then effect-same d key other c e i else Refuse WrongKind) (e i))
+
+-- ---- a call by the handle is one by the key
+
+module _ (old : State) (key : Key) (o : Located) (l : IsLocated old key o) where
+  abbrev same : (d : Directory) → StandsFor old.cut.bytes d → object_at d (ByHandle o.handle) ≡ object_at d key
+  same d k = sym (same-object old key o l d k)
+
+  -- it is located by its handle too
+  pub located-here : IsLocated old (ByHandle o.handle) o
+  located-here = record {
+    at = record { answers = λ d k. l.at.answers d k ∙ sym (ap (option_map located) (same d k)) };
+    here = l.here;
+  }
+
+  -- what is said of the object
+  pub told-by_key : {A : Type 0} (say : Directory → Option Object → A) (r : A)
+      → Answers old (λ d. say d (object_at d (ByHandle o.handle))) r → Answers old (λ d. say d (object_at d key)) r
+  told-by_key say r a = record { answers = λ d k. a.answers d k ∙ ap (say d) (same d k) }
+
+  pub kind-by_key : Answers old (λ d. kind_at d key) (Ok o.kind)
+  kind-by_key = record {
+    answers = λ d k.
+        let p = said-at old key o l d k in
+        ap (λ (q : Located). Ok q.kind) p.said ∙ sym (ap (λ (r : Option Object).
+        elim r as (λ _. Result Kind Refusal) [ None ↦ Err NotFound | Some q ↦ Ok (kind_of q.value) ]) p.is);
+  }
+
+  pub step-same : (c : Command) (d : Directory) → StandsFor old.cut.bytes d
+      → step old.mode d (at_key (ByHandle o.handle) c) ≡ step old.mode d (at_key key c)
+  step-same c d k = keys-same old.mode d (ByHandle o.handle) key c (same d k)
+
+  pub step-by_key : (new : State) (c : Command) (answer : Answer) → IsStep old new (at_key (ByHandle o.handle) c) answer
+      → IsStep old new (at_key key c) answer
+  step-by_key new c answer m =
+      moves-same old new answer (λ d. step old.mode d (at_key (ByHandle o.handle) c))
+      (λ d. step old.mode d (at_key key c)) (step-same c) m
+
+  pub step_of_kind-by_key : (new : State) (kind : Kind) (c : Command) (answer : Answer)
+      → IsStepOfKind old new (ByHandle o.handle) kind (at_key (ByHandle o.handle) c) answer
+      → IsStepOfKind old new key kind (at_key key c) answer
+  step_of_kind-by_key new kind c answer m =
+      moves-same old new answer (λ d. step_of_kind old.mode d (ByHandle o.handle) kind (at_key (ByHandle o.handle) c))
+      (λ d. step_of_kind old.mode d key kind (at_key key c))
+      (λ d k. keys_of_kind-same old.mode d (ByHandle o.handle) key kind c (same d k)) m
+
+  pub reply_of_kind-by_key : (kind : Kind) (c : Command) (answer : Answer)
+      → IsReplyOfKind old (ByHandle o.handle) kind (at_key (ByHandle o.handle) c) answer
+      → IsReplyOfKind old key kind (at_key key c) answer
+  reply_of_kind-by_key kind c answer a = record {
+    answers = λ d k. a.answers d k ∙ ap (λ (n : Answer × Directory). n.0)
+        (keys_of_kind-same old.mode d (ByHandle o.handle) key kind c (same d k));
+  }
+
+  -- ---- it says of which kind it is
+
+  pub located-steps : (new : State) (kind : Kind) (c : Command) (answer : Answer) → o.kind ≡ kind
+      → IsStepOfKind old new (ByHandle o.handle) kind (at_key (ByHandle o.handle) c) answer
+      → IsStep old new (at_key key c) answer
+  located-steps new kind c answer is m =
+      of_kind-steps old new key kind (at_key key c) answer
+      (subst (λ (n : Kind). Answers old (λ d. kind_at d key) (Ok n)) is kind-by_key)
+      (step_of_kind-by_key new kind c answer m)
+
+  pub located-measures : (kind : Kind) (r : Result (ℕ × ℕ) Refusal) → o.kind ≡ kind
+      → Answers old (λ d. sizes_at_kind d (ByHandle o.handle) kind) r → Answers old (λ d. sizes_at d key) r
+  located-measures kind r is m =
+      measures-kind old key kind r (subst (λ (n : Kind). Answers old (λ d. kind_at d key) (Ok n)) is kind-by_key)
+      (told-by_key (λ d q. elim q as (λ _. Result
+      (ℕ × ℕ) Refusal) [ None ↦ Err NotFound | Some p ↦ sizes_of_kind p kind ]) r m)
+
+  -- what is left as it is where there are so many places
+  places-by_key : {new : State} (n : ℕ) → KeepsWhere old new (HasPlaces (ByHandle o.handle) n)
+      → KeepsWhere old new (HasPlaces key n)
+  places-by_key n m = λ d k p. m d k (record {
+    len = p.len;
+    capacity = p.capacity;
+    says = ap (λ (r : Option Object).
+        elim r as (λ _. Result (ℕ × ℕ) Refusal) [ None ↦ Err NotFound | Some q ↦ sizes_of q.value ]) (same d k)
+        ∙ p.says;
+    enough = p.enough;
+  })
+
+  -- ---- the same of what is done with storage, whichever change it is
+
+  pub located-changes : (change : Change) (new : State) (kind : Kind) (answer : Answer) → o.kind ≡ kind
+      → IsStepOfKind old new (ByHandle o.handle) kind (command_of change (ByHandle o.handle)) answer
+      → IsStep old new (command_of change key) answer
+  located-changes (Reserve n) new kind answer is m = located-steps new kind (asked.Reserve key n) answer is m
+  located-changes Shrink new kind answer is m = located-steps new kind (asked.Shrink key) answer is m
+  located-changes Clear new kind answer is m = located-steps new kind (asked.Clear key) answer is m
+
+  pub enough-by_key : (change : Change) (new : State) → KeepsWhere old new (HasEnough change (ByHandle o.handle))
+      → KeepsWhere old new (HasEnough change key)
+  enough-by_key (Reserve n) new m = places-by_key n m
+  enough-by_key Shrink new m = λ d k e. absurd e
+  enough-by_key Clear new m = λ d k e. absurd e

@@ -1,0 +1,208 @@
+-- A value made in the block of a new object, by the heap's contracts: its blocks are taken and written, and it stands
+-- there.
+use Rattle.segment_manager.proofs.Common.{◌≡◌, refl, sym, ap, subst, ◌∙◌, ℕ, zero, suc, ◌+◌, ◌*◌, ◌≤◌, inl, Some, None}
+use Rattle.segment_manager.proofs.Common.{Option, List, [], ◌∷◌, length, arith, if◌then◌else◌, option_map}
+use Rattle.segment_manager.proofs.Common.{AllByRecursion, lt-leb, ne_eqb, current, Cut, Memory, Has, Same, bytes_of}
+use Rattle.segment_manager.proofs.Common.{word_at, Has-same, Same-trans, Same-word, SameBut-Same, SamePlace-trans}
+use Rattle.segment_manager.proofs.Common.{ObjectRole, Storage, exchanged, SameBlockBut, IsExchanged, Extent, LiveSet}
+use Rattle.segment_manager.proofs.Common.{end_of, handle, holds, added, place, regrow, resized, IsAllocated, IsChanged}
+use Rattle.segment_manager.proofs.Common.{LaysOut, live_of, Table, no_table, same_role, allocated-live, blocks-trans}
+use Rattle.segment_manager.proofs.Common.{Class, Kind, NoSpace, class_code, code_of, grown_table, Answer, Refused}
+use Rattle.segment_manager.proofs.Common.{IsHeaded, IsObjectAt, IsValueAt, padded_name, two_halves, Value, Directory}
+use Rattle.segment_manager.proofs.Common.{count_of, kind_of, padded, Plan, New, Request, perform, with_storage}
+use Rattle.segment_manager.proofs.Common.{IsHeadAt, room_for, live-spaced, spaced-insert}
+use Rattle.raw_region.proofs.Laws.{SameBut-wider}
+use Rattle.best_fit.specs.Fit.{insert}
+use Rattle.segment_manager.proofs.{objects.Exchanged.all-but-beside, objects.Exchanged.put-first}
+use Rattle.segment_manager.proofs.{Frame.padded_name-length, objects.Taking.IsTaken, objects.Taking.requested-taken}
+use Rattle.segment_manager.proofs.{objects.Taking.taken-live, blocks.NewBlocks.allocated-serves}
+use Rattle.segment_manager.proofs.{blocks.NewBlocks.changed-trans, objects.Taking.written-taken, Words.second}
+use Rattle.segment_manager.proofs.{Words.no_more}
+use Rattle.segment_manager.proofs.Order.{all_of-insert, inserted, live-rises, resized-fresh, rising-insert}
+
+-- ---- storage that is asked for
+
+-- the live set once there is storage
+abbrev pub stored : LiveSet → Table → LiveSet
+stored l t = elim t.extent [ None ↦ l | Some x ↦ resized l x ]
+
+abbrev with_extent : ℕ → Extent → Table
+with_extent n x = record { capacity = n; extent = Some x }
+
+met-storage : (d : Directory) (l : LiveSet) (n : ℕ) {t : Table} (next : Table → Plan) (r : Option Extent)
+    → option_map (with_extent n) r ≡ Some t
+    → elim r as (λ _. Answer
+    × Directory) [ None ↦ (Refused NoSpace, d) | Some x ↦ perform d (resized l x) (next (with_extent n x)) ] ≡ perform d
+    (stored l t) (next t)
+met-storage d l n next None e = absurd (cc)
+met-storage d l n {t} next (Some x) e =
+    let same : with_extent n x ≡ t = cc in λ i. perform d (stored l (same i)) (next (same i))
+
+-- a container without a place needs some for an element
+more-places : (l : LiveSet) (each n : ℕ)
+    → grown_table l each (suc n) no_table ≡ option_map (with_extent (suc n)) (place l (each * suc n) Storage)
+unfolding grown_table regrow
+more-places l each n =
+    ap (λ b. if b then Some no_table else option_map (with_extent (suc n)) (place l (each * suc n) Storage))
+    (lt-leb (suc n) 0 (omega arith))
+
+more-asked : (each n : ℕ) (next : Table → Plan)
+    → with_storage each (suc n) next ≡ Request (New Storage (each * suc n)) (λ x. next (with_extent (suc n) x))
+more-asked each n next =
+    ap (λ b. if b then next no_table else Request (New Storage (each * suc n)) (λ x. next (with_extent (suc n) x)))
+    (ne_eqb (suc n) 0 (λ e. omega (arith, e)))
+
+-- it is there
+pub storage-met : (d : Directory) (l : LiveSet) (each len : ℕ) (t : Table) (next : Table → Plan)
+    → grown_table l each len no_table ≡ Some t
+    → perform d l (with_storage each len next) ≡ perform d (stored l t) (next t)
+unfolding grown_table
+storage-met d l each zero t next e = let same : no_table ≡ t = cc in λ i. perform d (stored l (same i)) (next (same i))
+storage-met d l each (suc n) t next e =
+    ap (perform d l) (more-asked each n next)
+    ∙ met-storage d l (suc n) next (place l (each * suc n) Storage) (sym (more-places l each n) ∙ e)
+
+none-storage : (d : Directory) (l : LiveSet) (n : ℕ) (next : Table → Plan) (r : Option Extent)
+    → option_map (with_extent n) r ≡ None
+    → elim r as (λ _. Answer
+    × Directory) [ None ↦ (Refused NoSpace, d) | Some x ↦ perform d (resized l x) (next (with_extent n x)) ] ≡ (
+      Refused
+          NoSpace,
+      d,
+    )
+none-storage d l n next None e = refl
+none-storage d l n next (Some x) e = absurd (cc)
+
+-- or it is not
+pub storage-none : (d : Directory) (l : LiveSet) (each len : ℕ) (next : Table → Plan)
+    → grown_table l each len no_table ≡ None → perform d l (with_storage each len next) ≡ (Refused NoSpace, d)
+unfolding grown_table
+storage-none d l each zero next e = absurd (cc)
+storage-none d l each (suc n) next e =
+    ap (perform d l) (more-asked each n next)
+    ∙ none-storage d l (suc n) next (place l (each * suc n) Storage) (sym (more-places l each n) ∙ e)
+
+-- ---- blocks
+
+abbrev with_live : LiveSet → List Extent → LiveSet
+with_live l xs = record l { extents = xs }
+
+-- what stays of a block that was taken, and of those that were there
+pub record StaysBut (a b c : Cut) (x : Extent) (from n : ℕ) : Type 0 where
+  pub own : SameBlockBut (bytes_of b.bytes) (bytes_of c.bytes) from n x
+  pub others : AllByRecursion (SameBlockBut (bytes_of b.bytes) (bytes_of c.bytes) from n) (live_of a.bytes).extents
+
+pub stays-but : {a : Cut} {b c : Cut} {x : Extent} {from n : ℕ} {come : List Extent} → IsTaken a b (x ∷ [])
+    → IsExchanged current b c from n [] come → StaysBut a b c x from n
+stays-but {a} {b} {c} {x} {from} {n} m r =
+    let both = all_of-insert (SameBlockBut (bytes_of b.bytes) (bytes_of c.bytes) from n) x (live_of a.bytes).extents
+    (subst (λ (s : LiveSet). AllByRecursion (SameBlockBut (bytes_of b.bytes) (bytes_of c.bytes) from n) s.extents)
+    (taken-live a b (x ∷ []) m) r.blocks) in
+    record { own = both.0; others = both.1 }
+
+-- a block was taken; then n of its bytes are written, and more blocks are taken
+pub taken-more : (a : Cut) {b c : Cut} (x : Extent) {from n : ℕ} {come : List Extent} → IsTaken a b (x ∷ [])
+    → handle x ≤ from → from + n ≤ end_of x → IsExchanged current b c from n [] come → IsTaken a c (x ∷ come)
+taken-more a {b} {c} x {from} {n} {come} m low high r =
+    let A = bytes_of a.bytes in
+    let B = bytes_of b.bytes in
+    let C = bytes_of c.bytes in
+    let l = live_of a.bytes in
+    let laid : LaysOut current c.bytes (with_live l (inserted come (insert x l.extents))) =
+    subst (LaysOut current c.bytes) (ap (λ (s : LiveSet). exchanged s [] come) (taken-live a b (x ∷ []) m)) r.live in
+    let up = live-rises (with_live l (inserted come (insert x l.extents))) laid.proper in
+    let alone = spaced-insert 128 x l.extents (live-spaced (added l x) m.live.proper) in
+    record {
+      live = subst (λ xs. LaysOut current c.bytes (with_live l xs)) (put-first x come l.extents up) laid;
+      keeps = record {
+        place = SamePlace-trans a b c m.keeps.place r.place;
+        front = Same-trans A B C 0 24 m.keeps.front r.front;
+        behind = Same-trans A B C 32 128 m.keeps.behind r.behind;
+        blocks = blocks-trans A B C l.extents m.keeps.blocks
+            (all-but-beside B C from n x l.extents low high alone.beside (stays-but m r).others);
+      };
+    }
+
+-- a block that was placed is the next of a live set
+pub placed-next : {a b : Cut} {n h : ℕ} → (t : IsAllocated current a b n ObjectRole h)
+    → resized (live_of a.bytes) t.extent ≡ live_of b.bytes
+placed-next {a} {b} {n} {h} t =
+    let f = rising-insert 128 t.extent (live_of a.bytes).extents
+    (live-rises (added (live_of a.bytes) t.extent) t.live.proper) in
+    resized-fresh (live_of a.bytes) t.extent f.differs ∙ sym (allocated-live current a b n ObjectRole h t)
+
+-- ---- the object
+
+changed-wider : {a b : Cut} {from m : ℕ} {n : ℕ} → m ≤ n → IsChanged current a b from m → IsChanged current a b from n
+changed-wider {a} {b} {from} {m} {n} l c =
+    record {
+      place = c.place;
+      live = c.live;
+      rest = SameBut-wider (bytes_of a.bytes) (bytes_of b.bytes) from m from n c.rest (omega arith) (omega arith);
+    }
+
+-- what was written behind the head stands in the payload
+pub headed-change : {a b c : Cut} {kind : Kind} {class : Class} {name : List ℕ} {count : ℕ} (body : ℕ) {h at n : ℕ}
+    → IsHeaded a b kind class name count h at → IsChanged current b c (h + at) n → n ≤ body
+    → IsChanged current a c h (room_for name body)
+headed-change {b} {c} {name} body {h} {at} {n} hd change l =
+    changed-wider (omega arith) (changed-trans hd.change (subst (λ p. IsChanged current b c (h + p) n) hd.start change))
+
+-- the block was taken, its head written, and then the n bytes behind it
+pub empty-taken : {a t m e : Cut} {kind : Kind} {class : Class} {name : List ℕ} {count n h at : ℕ}
+    → IsAllocated current a t (room_for name n) ObjectRole h → IsHeaded t m kind class name count h at
+    → IsChanged current m e (h + at) n → IsAllocated current a e (room_for name n) ObjectRole h
+empty-taken {n} take headed change = written-taken take (headed-change n headed change (omega arith))
+
+-- the bytes stand in the block
+pub record IsInside (x : Extent) (from n : ℕ) : Type 0 where
+  pub low : handle x ≤ from
+  pub high : from + n ≤ end_of x
+
+module _ {a e : Cut} (name : List ℕ) {n h at : ℕ} (t : IsAllocated current a e (room_for name n) ObjectRole h)
+    (start : at ≡ 16 + padded (length name)) where
+  pub inside : IsInside t.extent (h + at) n
+  inside =
+      let long = room_for name n in
+      let x : Extent = t.extent in
+      let is : h ≡ handle x = t.at in
+      let fits = no_more (long + 16) x.len (second (same_role x.role ObjectRole) (holds x long) (allocated-serves t)) in
+      record { low = omega arith; high = omega arith }
+
+  pub made-taken : {w : Cut} {come : List Extent} → IsExchanged current e w (h + at) n [] come
+      → IsTaken a w (t.extent ∷ come)
+  made-taken r =
+      let i = inside in
+      taken-more a t.extent (requested-taken t) i.low i.high r
+
+-- a head with its name, and a value behind it
+headed-object : {m m' : Memory} {h at : ℕ} {class : Class} {name : List ℕ} (v : Value) (x : Extent) → h ≡ handle x
+    → at ≡ 16 + padded (length name) → IsHeadAt m h (kind_of v) (count_of v) class name → Same m m' h (h + at)
+    → IsValueAt m' (h + at) v → IsObjectAt m' (record { class = class; name = name; value = v; extent = x })
+headed-object {m} {m'} {h} {at} {class} {name} v x is start head s w =
+    record {
+      kind_count = subst (λ g. word_at m' g ≡ two_halves (code_of (kind_of v)) (count_of v)) is
+          (Same-word m m' h (h + at) h s (omega arith) (omega arith) ∙ head.kind_count);
+      name_class = subst (λ g. word_at m' (g + 8) ≡ two_halves (length name) (class_code class)) is
+          (Same-word m m' h (h + at) (h + 8) s (omega arith) (omega arith) ∙ head.name_class);
+      name = subst (λ g. Has m' (g + 16) (padded_name name)) is
+          (Has-same m m' h (h + at) (h + 16) (padded_name name) s (omega arith)
+          (omega (arith, (padded_name-length name))) head.name);
+      value = subst (λ p. IsValueAt m' p v) (omega arith) w;
+    }
+
+-- the object stands there with its value
+pub made-object : {a t m e w : Cut} {class : Class} {name : List ℕ} {n h at : ℕ} (v : Value) {come : List Extent}
+    → (took : IsAllocated current a e (room_for name n) ObjectRole h)
+    → IsHeaded t m (kind_of v) class name (count_of v) h at → IsChanged current m e (h + at) n
+    → IsExchanged current e w (h + at) n [] come → IsValueAt (bytes_of w.bytes) (h + at) v
+    → IsObjectAt (bytes_of w.bytes) (record { class = class; name = name; value = v; extent = took.extent })
+made-object {a} {m} {e} {w} {name} {n} {h} {at} v took headed change storage says =
+    let M = bytes_of m.bytes in
+    let E = bytes_of e.bytes in
+    let W = bytes_of w.bytes in
+    let high = (inside name took headed.start).high in
+    let but = stays-but (requested-taken took) storage in
+    let front = SameBut-Same M E (h + at) n h (h + at) change.rest (inl (omega arith)) in
+    let back : Same E W h (h + at) = record { at = λ k f g. but.own.payload k (omega arith) (omega arith) (inl g) } in
+    headed-object v took.extent took.at headed.start headed.head (Same-trans M E W h (h + at) front back) says

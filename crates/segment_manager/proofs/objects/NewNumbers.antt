@@ -1,0 +1,108 @@
+-- Numbers as the value of a new object, and a map without pairs: they ask for no block but the object's own.
+use Rattle.segment_manager.proofs.Common.{◌≡◌, refl, sym, ap, subst, ◌∙◌, ℕ, ◌*◌, ◌≤◌, ◌∷◌, ◌++◌, ℤ, Option, None, List}
+use Rattle.segment_manager.proofs.Common.{[], length, replicate, IsTrue, AllByRecursion, length-replicate, current, Cut}
+use Rattle.segment_manager.proofs.Common.{Has, Memory, bytes_of, Tree, fork, leaf, nodes_of, IsExchanged, SameBlockBut}
+use Rattle.segment_manager.proofs.Common.{Extent, cells_of, IsChanged, LaysOut, live_of, laid-heap, ScalarKind, Plain}
+use Rattle.segment_manager.proofs.Common.{is_value, size_of, spelling, MapPlace, Place, place_at, spelled, Numbers}
+use Rattle.segment_manager.proofs.Common.{Pairs, is_good_value, IsMadeValue, repeated}
+use Rattle.link_tree.specs.Tree.{IsTree}
+use Rattle.seg_types.specs.Commands as asked
+use Rattle.seg_map.specs.Changing.{IsNew}
+use Rattle.segment_manager.proofs.{blocks.Blocks.spelling-length, objects.NewKeys.equal-good}
+use Rattle.segment_manager.proofs.{objects.Rows.repeated-spelled}
+
+all-stay : (m : Memory) (from n : ℕ) (xs : List Extent) → AllByRecursion (SameBlockBut m m from n) xs
+all-stay m from n [] = tt
+all-stay m from n (x ∷ xs) = (record { payload = λ k f g h. refl; colour = refl }, all-stay m from n xs)
+
+-- no block is taken
+nothing-exchanged : {c : Cut} {from n : ℕ} → LaysOut current c.bytes (live_of c.bytes)
+    → IsExchanged current c c from n [] []
+nothing-exchanged {c} {from} {n} laid = record {
+  live = laid;
+  place = record { before = refl; after = refl };
+  front = record { at = λ i a b. refl };
+  behind = record { at = λ i a b. refl };
+  blocks = all-stay (bytes_of c.bytes) from n (live_of c.bytes).extents;
+}
+
+-- ---- numbers
+
+-- they are written
+pub numbers-made : (k : ScalarKind) (zs : List ℤ) {old new : Cut} {p : Place} → IsTrue (is_good_value (Numbers k zs))
+    → IsChanged current old new (place_at p) (size_of k * length zs)
+    → Has (bytes_of new.bytes) (place_at p) (spelled k zs) → IsMadeValue (asked.Numbers k zs) old new p
+numbers-made k zs {old} {new} good change says = record {
+  empty = new;
+  change = change;
+  value = Numbers k zs;
+  is_kind = refl;
+  len = refl;
+  count = refl;
+  good = good;
+  left = live_of new.bytes;
+  given = λ d. record { met = λ next. refl };
+  storage = nothing-exchanged (laid-heap new.bytes (live_of old.bytes) change.live);
+  said = says;
+}
+
+-- the spelling of one number, so many times
+pub equal-made : (k : ScalarKind) (count : ℕ) (z : ℤ) (old new : Cut) (p : Place) (bytes : List ℕ) → 1 ≤ count
+    → count ≤ 1048576 → IsTrue (is_value k z) → bytes ≡ spelling k z
+    → IsChanged current old new (place_at p) (length bytes * count)
+    → Has (bytes_of new.bytes) (place_at p) (repeated count bytes)
+    → IsMadeValue (asked.Numbers k (replicate count z)) old new p
+equal-made k count z old new p bytes low high value spelt change says =
+    let size : length bytes ≡ size_of k = ap (λ (bs : List ℕ). length bs) spelt ∙ spelling-length k z in
+    numbers-made k (replicate count z) (equal-good k count z low high value)
+    (subst (IsChanged current old new (place_at p)) (λ j. size j * sym (length-replicate count z) j) change)
+    (subst (Has (bytes_of new.bytes) (place_at p)) (ap (repeated count) spelt ∙ repeated-spelled k count z) says)
+
+-- ---- a map without pairs
+
+no-root : (m : Memory) {o : Option ℕ} (t : Tree) → IsTree (cells_of m) o t → nodes_of t ≡ [] → o ≡ None
+no-root m leaf k e = k.root
+no-root m (fork red left n right) k e = absurd (not-empty (nodes_of left) n (nodes_of right) e)
+  where
+    not-empty : (xs : List ℕ) (n : ℕ) (ys : List ℕ) → xs ++ n ∷ ys ≡ [] → ⊥
+    not-empty [] n ys f = cc
+    not-empty (x ∷ xs) n ys f = cc
+
+-- it is one of any types
+map-there : {K V : Type 0} (k v : ScalarKind) (kp : Plain K) (vp : Plain V) {old new : Cut} {p : Place}
+    → IsNew kp vp old new p.handle p.at → IsMadeValue (asked.NoPairs k v) old new p
+map-there k v kp vp {new} r =
+    let s = r.map in
+    record {
+      empty = new;
+      change = r.change;
+      value = Pairs k v [];
+      is_kind = refl;
+      len = refl;
+      count = refl;
+      good = refl;
+      left = live_of new.bytes;
+      given = λ d. record { met = λ next. refl };
+      storage = nothing-exchanged s.heap;
+      said = record {
+        count = s.map.count;
+        third = s.map.third;
+        tree = record {
+          tree = leaf;
+          linked = record {
+            root = no-root (bytes_of new.bytes) s.map.tree.tree s.map.tree.linked s.map.tree.lists;
+            holds = tt;
+          };
+          red_black = record { root = refl; no_red_pair = refl; black = (0, refl) };
+          lists = refl;
+        };
+        pairs = tt;
+      };
+    }
+
+-- at a place that is another word for it
+pub map-made : {K V : Type 0} (k v : ScalarKind) (kp : Plain K) (vp : Plain V) (old new : Cut) (p : Place)
+    (q : MapPlace) → q.handle ≡ p.handle → q.at ≡ p.at → IsNew kp vp old new q.handle q.at
+    → IsMadeValue (asked.NoPairs k v) old new p
+map-made k v kp vp old new p q e f r =
+    map-there k v kp vp (subst (λ h. IsNew kp vp old new h p.at) e (subst (λ a. IsNew kp vp old new q.handle a) f r))

@@ -1,0 +1,340 @@
+-- An object made under a key whose value takes blocks of its own, whatever it is, as a step of the machine: its
+-- requests are met in order, or one is refused and all is given back.
+use Rattle.segment_manager.proofs.Common.{◌≡◌, refl, sym, ap, subst, ◌∙◌, ℕ, ◌+◌, ◌≤◌, true, ◌&&◌, Some, None, Option}
+use Rattle.segment_manager.proofs.Common.{List, [], ◌∷◌, length, IsTrue, find, and_from, current, Cut, SamePlace}
+use Rattle.segment_manager.proofs.Common.{bytes_of, SamePlace-trans, ObjectRole, Extent, LiveSet, added, place, resized}
+use Rattle.segment_manager.proofs.Common.{IsAllocated, IsChanged, Keeps, LaysOut, live_of, Table, serves, laid-heap}
+use Rattle.segment_manager.proofs.Common.{Class, Anonymous, Kind, Refusal, is_kind_of, Content, Index, Absent}
+use Rattle.segment_manager.proofs.Common.{IsIndexOf, place_of, AddKeeps, IsGrowth, IsPlace, prepared, NewEntry}
+use Rattle.segment_manager.proofs.Common.{IsAbsentAt, IsBegun, IsBegunAlone, IsBegunEntry, IsHeaded, IsLoose}
+use Rattle.segment_manager.proofs.Common.{IsReadyFor, IsWanted, LeadsThere, Denotes, Value, Object, Directory, count_of}
+use Rattle.segment_manager.proofs.Common.{extents_of, has_key, is_good_value, is_object, kind_of, live, object_at}
+use Rattle.segment_manager.proofs.Common.{object_len, padded, value_extents, value_len, with_object, IsDenied, IsGiven}
+use Rattle.segment_manager.proofs.Common.{IsMadeValue, IsNoValue, class_of_index, entries_of, table_of, head_len}
+use Rattle.segment_manager.proofs.Common.{IsNewKeyOf, IsRestored, Plan, bare, with_value, room_for, IsSegment}
+use Rattle.segment_manager.proofs.Common.{StandsFor}
+use Rattle.segment_manager.proofs.objects.Taking.{IsMade, IsTaken, taken-growth, taken-index, growth-index}
+use Rattle.segment_manager.proofs.objects.Taking.{requested-aligned, restored-taken}
+use Rattle.segment_manager.proofs.objects.MadeValues.{empty-taken, made-object, made-taken, placed-next}
+use Rattle.segment_manager.proofs.objects.Constructed.{IsNewObject, IsNoObject, content-denied, content-entered}
+use Rattle.segment_manager.proofs.{Codes.known-kind, indexes.Bridge.lookup-absent, Calling.denotes-live}
+use Rattle.segment_manager.proofs.{Denoted.denotes-with, indexes.HeldIndexes.denotes-index}
+use Rattle.segment_manager.proofs.{objects.KeyCalls.segment-index, Live.adding, blocks.NewBlocks.allocated-serves}
+use Rattle.segment_manager.proofs.{objects.NewKeys.key-object, objects.NewKeys.key-seeks, Steps.perform-new}
+use Rattle.segment_manager.proofs.{objects.Constructed.restored-denotes}
+use Rattle.seg_index.specs.declared.keys.Key.{Key}
+use Rattle.segment_manager.specs.objects.Begun.{GivesAllBack, IsEntryAdded}
+use Rattle.seg_index.proofs.Laws.{place_behind, place_small}
+use Rattle.seg_types.specs.Names as names
+
+-- ---- places
+
+growth-place : {a b : Cut} (at : ℕ) (g : Option ℕ) → IsGrowth a b at g → SamePlace a b
+growth-place {a} at None h = subst (SamePlace a) (sym h.1) (record { before = refl; after = refl })
+growth-place at (Some g) h = h.1.keeps.place
+
+keeps-place : {a b : Cut} (at : ℕ) (t : Table) (g : Option ℕ) → AddKeeps a b at t g → SamePlace a b
+keeps-place at t None k = k.place
+keeps-place at t (Some g) k = k.place
+
+-- no object has no key
+pub no_key-none : (os : List Object) → find (has_key names.NoKey) os ≡ None
+no_key-none [] = refl
+no_key-none (o ∷ os) = no_key-none os
+
+-- what a look-up that finds no entry says of each directory
+pub away-in : (i : Index) {a : Cut} {d : Directory} (e : Key) (at : ℕ) → Denotes current a.bytes d → IsAbsentAt a i e at
+    → IsPlace (bytes_of a.bytes) e (entries_of i d) (Absent at)
+away-in i {a} {d} e at said away = away (table_of i d) (entries_of i d) (denotes-index i a said)
+
+-- ---- all directories
+
+-- the object is there, for each directory that the old bytes denote
+pub record IsMadeNow (a c : Cut) (key : names.Key) (content : Content) (h : ℕ) : Type 0 where
+  pub place : SamePlace a c
+  pub each : (d : Directory) → StandsFor a.bytes d → (object_at d key ≡ None) × IsNewObject c d key content h
+
+-- or it is refused for each
+pub record IsMadeNever (a c : Cut) (key : names.Key) (content : Content) : Type 0 where
+  pub place : SamePlace a c
+  pub each : (d : Directory) → StandsFor a.bytes d → (object_at d key ≡ None) × IsNoObject c d key content
+
+unchanged : {w : Cut} (l : LiveSet) {from n : ℕ} → LaysOut current w.bytes l → IsChanged current w w from n
+unchanged {w} l laid =
+    record {
+      place = record { before = refl; after = refl };
+      live = laid-heap w.bytes l laid;
+      rest = record { at = λ k h. refl };
+    }
+
+module _ (content : Content) where
+  abbrev kind : Kind
+  kind = kind_of (bare content)
+
+  abbrev many : ℕ
+  many = count_of (bare content)
+
+  abbrev long : ℕ
+  long = value_len (bare content)
+
+  -- ---- the value in its object's block
+
+  module _ (a t m w : Cut) (class : Class) (name : List ℕ) (h at : ℕ)
+      (take : IsAllocated current a t (room_for name long) ObjectRole h)
+      (headed : IsHeaded t m kind class name many h at)
+      (r : IsMadeValue content m w (record { handle = h; at = at })) where
+    block : IsAllocated current a r.empty (room_for name long) ObjectRole h
+    block = empty-taken take headed r.change
+
+    abbrev own : Object
+    own = record { class = class; name = name; value = r.value; extent = block.extent }
+
+    both-taken : IsTaken a w (extents_of own)
+    both-taken = made-taken name block headed.start r.storage
+
+    serving : IsTrue (serves block.extent ObjectRole (object_len name r.value))
+    serving =
+        subst (λ n. IsTrue (serves block.extent ObjectRole n))
+        (ap (λ n. head_len + padded (length name) + n) (sym r.len)) (allocated-serves block)
+
+    made-in : IsTrue (is_object current own) → IsMade a w own
+    made-in good =
+        let headed' : IsHeaded t m (kind_of r.value) class name (count_of r.value) h at =
+        subst (λ n. IsHeaded t m (kind_of r.value) class name n h at) (sym r.count)
+        (subst (λ k. IsHeaded t m k class name many h at) (sym r.is_kind) headed) in
+        record {
+          good = good;
+          taken = both-taken;
+          at = made-object r.value block headed' r.change r.storage r.said;
+        }
+
+    placed-at : place (live_of a.bytes) (object_len name (bare content)) ObjectRole ≡ Some block.extent
+    placed-at = block.placed
+
+    given-in : {d : Directory} → IsGiven d (resized (live_of a.bytes) block.extent) content r.value r.left
+    given-in {d} = subst (λ l. IsGiven d l content r.value r.left) (sym (placed-next block)) (r.given d)
+
+  -- ---- the directory, under a key with an entry
+
+  module _ {a m : Cut} {key : names.Key} {h at : ℕ} {e : NewEntry} (g : IsBegunEntry a m key kind many long h at e)
+      {d : Directory} (said : Denotes current a.bytes d) where
+    absent : object_at d key ≡ None
+    absent =
+        (lookup-absent e.index a g.entry key said (key-seeks e.index g.entry key g.name kind g.is)
+        (away-in e.index g.entry e.place said g.absent)).none
+
+    entry-new : {w c : Cut} → IsMadeValue content m w (record { handle = h; at = at }) → IsEntryAdded w c h e
+        → IsNewObject c d key content h
+    entry-new {w} {c} r added =
+        let b : Cut = g.requested.between in
+        let class = class_of_index e.index in
+        let took = block b g.taken m w class g.name h at g.requested.takes g.headed r in
+        content-entered e.index a d g.entry key g.name kind content said g.is b w e.place e.growth.block
+        g.requested.grows (placed-at b g.taken m w class g.name h at g.requested.takes g.headed r)
+        (given-in b g.taken m w class g.name h at g.requested.takes g.headed r) r.is_kind r.count
+        (made-in b g.taken m w class g.name h at g.requested.takes g.headed r
+        (key-object e.index g.entry key g.name r.value took.extent
+        (subst (IsNewKeyOf e.index g.entry key g.name) (sym r.is_kind) g.is) (known-kind (kind_of r.value)) r.good
+        (serving b g.taken m w class g.name h at g.requested.takes g.headed r))) took.at
+        (away-in e.index g.entry e.place said g.absent)
+        (record { adds = added.adds; live = added.live; keeps = added.keeps })
+
+    entry-denied : {w c : Cut} {why : Refusal} → IsNoValue content m w (record { handle = h; at = at }) why
+        → IsRestored a c → IsNoObject c d key content
+    entry-denied {c} r back =
+        let took = empty-taken g.requested.takes g.headed r.change in
+        record {
+          refused =
+              content-denied e.index a d g.entry key g.name kind content said g.is g.requested.between e.growth.block
+              g.requested.grows took.placed (subst (λ l. IsDenied d l content) (sym (placed-next took)) (r.denied d));
+          denotes = restored-denotes a c d said back;
+        }
+
+  -- ---- without one
+
+  module _ (a m : Cut) (h at : ℕ) (g : IsBegunAlone a m names.NoKey kind many long h at) (d : Directory)
+      (said : Denotes current a.bytes d) where
+    abbrev alone_in : Extent → Value → Object
+    alone_in x w = record { class = Anonymous; name = []; value = w; extent = x }
+
+    abbrev alone_plan : (Object → Directory → Plan) → Extent → Plan
+    alone_plan next x = with_value content (λ w. next (alone_in x w) (with_object d (alone_in x w)))
+
+    alone-good : (x : Extent) (w : Value) → IsTrue (is_kind_of current (kind_of w)) → IsTrue (is_good_value w)
+        → IsTrue (serves x ObjectRole (object_len [] w)) → IsTrue (is_object current (alone_in x w))
+    alone-good x w known good s =
+        and_from (true && is_kind_of current (kind_of w) && is_good_value w) (serves x ObjectRole (object_len [] w))
+        (and_from (true && is_kind_of current (kind_of w)) (is_good_value w)
+        (and_from true (is_kind_of current (kind_of w)) refl known) good) s
+
+    alone-new : {w : Cut} → IsMadeValue content m w (record { handle = h; at = at })
+        → IsNewObject w d names.NoKey content h
+    alone-new {w} r =
+        let took = block a g.taken m w Anonymous [] h at g.takes g.headed r in
+        let x : Extent = took.extent in
+        let o = alone_in x r.value in
+        let same = denotes-live current a.bytes d said in
+        let made = made-in a g.taken m w Anonymous [] h at g.takes g.headed r
+        (alone-good x r.value (known-kind (kind_of r.value)) r.good
+        (serving a g.taken m w Anonymous [] h at g.takes g.headed r)) in
+        record {
+          object = o;
+          after = with_object d o;
+          left = r.left;
+          at = took.at;
+          count = r.count;
+          met = λ next.
+              perform-new d (live d) ObjectRole (object_len [] (bare content)) (alone_plan next) x
+              (ap (λ l. place l (object_len [] (bare content)) ObjectRole) (sym same)
+              ∙ placed-at a g.taken m w Anonymous [] h at g.takes g.headed r)
+              ∙ (subst (λ l. IsGiven d (resized l x) content r.value r.left) same
+              (given-in a g.taken m w Anonymous [] h at g.takes g.headed r)).met
+              (λ w. next (alone_in x w) (with_object d (alone_in x w)));
+          denotes = denotes-with a w said made.good refl
+              (subst (λ l. LaysOut current w.bytes (adding l (extents_of o))) same made.taken.live)
+              (subst (λ (l : LiveSet). Keeps a w l.extents) same made.taken.keeps) made.at;
+        }
+
+    alone-denied : {w c : Cut} {why : Refusal} → IsNoValue content m w (record { handle = h; at = at }) why
+        → IsRestored a c → IsNoObject c d names.NoKey content
+    alone-denied {w} {c} r back =
+        let took = empty-taken g.takes g.headed r.change in
+        let x : Extent = took.extent in
+        let same = denotes-live current a.bytes d said in
+        record {
+          refused = λ next.
+              perform-new d (live d) ObjectRole (object_len [] (bare content)) (alone_plan next) x
+              (ap (λ l. place l (object_len [] (bare content)) ObjectRole) (sym same) ∙ took.placed)
+              ∙ (subst (λ l. IsDenied d (resized l x) content) same
+              (subst (λ l. IsDenied d l content) (sym (placed-next took)) (r.denied d)))
+              (λ w. next (alone_in x w) (with_object d (alone_in x w)));
+          denotes = restored-denotes a c d said back;
+        }
+
+  -- ---- an entry is to lead there, or all is given back
+
+  module _ (a : Cut) {m : Cut} (b : IsSegment a.bytes) (key : names.Key) (h at : ℕ) where
+    entry-taken : {w : Cut} {e : NewEntry} → (g : IsBegunEntry a m key kind many long h at e)
+        → (r : IsMadeValue content m w (record { handle = h; at = at }))
+        → IsTaken g.requested.between w
+        ((block g.requested.between g.taken m w (class_of_index e.index) g.name h at g.requested.takes g.headed
+        r).extent ∷ value_extents r.value)
+    entry-taken {w} {e} g r =
+        both-taken g.requested.between g.taken m w (class_of_index e.index) g.name h at g.requested.takes g.headed r
+
+    -- what the index wants is there
+    entry-wanted : {w : Cut} {e : NewEntry} → IsBegunEntry a m key kind many long h at e
+        → IsMadeValue content m w (record { handle = h; at = at }) → IsWanted w h e
+    entry-wanted {w} {e} g r =
+        let i : Index = e.index in
+        let mid : Cut = g.requested.between in
+        let d : Directory = b.0 in
+        let t = table_of i d in
+        let hs = entries_of i d in
+        let x = denotes-index i a b.1.denotes in
+        let took = block mid g.taken m w (class_of_index i) g.name h at g.requested.takes g.headed r in
+        let taken = entry-taken g r in
+        let grown =
+        prepared a mid (place_of i) e.growth.block t hs x g.requested.grows (place_behind i) (place_small i) in
+        let index : IsIndexOf w (place_of i) t hs =
+        taken-index _ taken (place_behind i) (place_small i) (growth-index i e.growth.block g.requested.grows x) in
+        record {
+          index = record { table = t; handles = hs; index = index };
+          growth = taken-growth mid w _ (place_of i) e.growth.block taken (place_behind i) (place_small i) grown;
+          within = subst (λ n. e.place ≤ n) (sym index.stands.count) (g.absent t hs x).0;
+          aligned = requested-aligned took;
+        }
+
+    pub value-ready : (entry : Option NewEntry) {w : Cut} → IsBegun a m key kind many long h at entry
+        → IsMadeValue content m w (record { handle = h; at = at }) → IsReadyFor w h entry
+    value-ready None g r = tt
+    value-ready (Some e) g r = entry-wanted g r
+
+    pub value-loose : (entry : Option NewEntry) (w : Cut) (why : Refusal) → IsBegun a m key kind many long h at entry
+        → IsNoValue content m w (record { handle = h; at = at }) why → IsLoose a w h entry
+    value-loose None w why g r = record {
+      len = room_for [] long;
+      taken = w;
+      takes = restored-taken (empty-taken g.takes g.headed r.change) r.restored;
+      change = unchanged (live_of r.empty.bytes) r.restored.laid;
+    }
+    value-loose (Some e) w why g r =
+        let x = denotes-index e.index a b.1.denotes in
+        let away = g.absent (table_of e.index b.0) (entries_of e.index b.0) x in
+        record {
+          len = room_for g.name long;
+          taken = w;
+          requested = record {
+            between = g.requested.between;
+            grows = g.requested.grows;
+            takes = restored-taken (empty-taken g.requested.takes g.headed r.change) r.restored;
+          };
+          change = unchanged (live_of r.empty.bytes) r.restored.laid;
+          index = segment-index e.index b;
+          within = subst (λ n. e.place ≤ n) (sym x.stands.count) away.0;
+        }
+
+    -- ---- all directories
+
+    module _ {w c : Cut} {e : NewEntry} (g : IsBegunEntry a m key kind many long h at e) where
+      entry-place : (r : IsMadeValue content m w (record { handle = h; at = at })) → IsEntryAdded w c h e
+          → SamePlace a c
+      entry-place r added =
+          let i : Index = e.index in
+          let mid : Cut = g.requested.between in
+          let q = (entry-wanted g r).index in
+          SamePlace-trans a mid c (growth-place (place_of i) e.growth.block g.requested.grows)
+          (SamePlace-trans mid w c (entry-taken g r).keeps.place
+          (keeps-place (place_of i) q.table e.growth.block (added.keeps q.table q.handles q.index)))
+
+      -- it is made
+      value-made : IsMadeValue content m w (record { handle = h; at = at }) → IsEntryAdded w c h e
+          → IsMadeNow a c key content h
+      value-made r added = record {
+        place = entry-place r added;
+        each = λ d st. (absent g st.denotes, entry-new g st.denotes r added);
+      }
+
+      value-refused : {why : Refusal} → IsNoValue content m w (record { handle = h; at = at }) why → IsRestored a c
+          → IsMadeNever a c key content
+      value-refused r back = record {
+        place = back.keeps.place;
+        each = λ d st. (absent g st.denotes, entry-denied g st.denotes r back);
+      }
+
+  -- the same of an object without a key
+  module _ {a m : Cut} (h at : ℕ) (g : IsBegunAlone a m names.NoKey kind many long h at) where
+    alone-made : {w : Cut} → IsMadeValue content m w (record { handle = h; at = at })
+        → IsMadeNow a w names.NoKey content h
+    alone-made {w} r = record {
+      place = (both-taken a g.taken m w Anonymous [] h at g.takes g.headed r).keeps.place;
+      each = λ d st. (no_key-none d.objects, alone-new a m h at g d st.denotes r);
+    }
+
+    alone-refused : {w c : Cut} {why : Refusal} → IsNoValue content m w (record { handle = h; at = at }) why
+        → IsRestored a c → IsMadeNever a c names.NoKey content
+    alone-refused r back = record {
+      place = back.keeps.place;
+      each = λ d st. (no_key-none d.objects, alone-denied a m h at g d st.denotes r back);
+    }
+
+  -- the same whatever the key
+  module _ {a m : Cut} (b : IsSegment a.bytes) {key : names.Key} (h at : ℕ) where
+    pub value-built : (entry : Option NewEntry) {w : Cut} {c : Cut} → IsBegun a m key kind many long h at entry
+        → IsMadeValue content m w (record { handle = h; at = at }) → LeadsThere w c h entry
+        → IsMadeNow a c key content h
+    value-built None {c} g r same =
+        subst (λ (q : names.Key). IsMadeNow a c q content h) (sym g.is)
+        (subst (λ (s : Cut). IsMadeNow a s names.NoKey content h) (sym same)
+        (alone-made h at (record { is = refl; taken = g.taken; takes = g.takes; headed = g.headed }) r))
+    value-built (Some e) g r added = value-made a b key h at g r added
+
+    pub value-not_built : (entry : Option NewEntry) {w : Cut} {c : Cut} {why : Refusal}
+        → IsBegun a m key kind many long h at entry → IsNoValue content m w (record { handle = h; at = at }) why
+        → GivesAllBack w c h entry → IsMadeNever a c key content
+    value-not_built None {w} {c} {why} g r gives =
+        let back = gives a (value-loose a b key h at None w why g r) in
+        subst (λ (q : names.Key). IsMadeNever a c q content) (sym g.is)
+        (alone-refused h at (record { is = refl; taken = g.taken; takes = g.takes; headed = g.headed }) r back)
+    value-not_built (Some e) {w} {why} g r gives =
+        value-refused a b key h at g r (gives a (value-loose a b key h at (Some e) w why g r))

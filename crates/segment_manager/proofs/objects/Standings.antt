@@ -1,0 +1,43 @@
+-- What is known of an object that stands in its block.
+use Rattle.segment_manager.proofs.Common.{◌≡◌, ap, ◌∙◌, ℕ, ◌+◌, ◌-◌, ◌*◌, ◌/◌, ◌%◌, ◌≤◌, List, length, replicate, arith}
+use Rattle.segment_manager.proofs.Common.{IsTrue, current, bytes_of, word_at, read, handle, live_of, has_room}
+use Rattle.segment_manager.proofs.Common.{class_code, code_of, Object, count_of, kind_of, object_len, padded, value_len}
+use Rattle.segment_manager.proofs.Common.{StandsAt}
+use Rattle.best_fit.proofs.Laws.{room-less}
+use Rattle.segment_manager.proofs.objects.Heads.{Has-front, good-name, good_name-short, object-entry}
+
+-- its name is short
+pub standing-short : (b : List ℕ) (h : ℕ) (o : Object) → StandsAt b h o → length o.name ≤ 255
+standing-short b h o s = good_name-short current o (good-name current o s.good)
+
+-- the two words at its handle
+pub record HeadWords (b : List ℕ) (h : ℕ) (o : Object) : Type 0 where
+  pub code : word_at (bytes_of b) h % 4294967296 ≡ code_of (kind_of o.value)
+  pub count : word_at (bytes_of b) h / 4294967296 ≡ count_of o.value
+  pub name_len : word_at (bytes_of b) (h + 8) % 4294967296 ≡ length o.name
+  pub class : word_at (bytes_of b) (h + 8) / 4294967296 ≡ class_code o.class
+
+pub head-words : {b : List ℕ} {h : ℕ} {o : Object} → StandsAt b h o → HeadWords b h o
+head-words {b} {h} {o} s =
+    let e = object-entry (bytes_of b) o (standing-short b h o s) s.said in
+    let behind : word_at (bytes_of b) (handle o.extent + 8) ≡ length o.name + 4294967296 * class_code o.class =
+    s.said.name_class in
+    let len : word_at (bytes_of b) (handle o.extent + 8) % 4294967296 ≡ length o.name = omega arith in
+    record {
+      code = ap (λ a. word_at (bytes_of b) a % 4294967296) s.at ∙ e.code;
+      count = ap (λ a. word_at (bytes_of b) a / 4294967296) s.at ∙ e.count;
+      name_len = ap (λ a. word_at (bytes_of b) (a + 8) % 4294967296) s.at ∙ len;
+      class = ap (λ a. word_at (bytes_of b) (a + 8) / 4294967296) s.at ∙ e.class;
+    }
+
+-- its block has room for its head and name, and for its value
+pub standing-room : (b : List ℕ) (h n : ℕ) (o : Object) → StandsAt b h o
+    → n ≤ 16 + padded (length o.name) + value_len o.value → IsTrue (has_room (live_of b) h n)
+standing-room b h n o s l = room-less (live_of b) h (object_len o.name o.value) n l s.room
+
+-- its name stands behind the two words
+pub standing-name : {b : List ℕ} {h : ℕ} {o : Object} → StandsAt b h o
+    → read (bytes_of b) (h + 16) (length o.name) ≡ o.name
+standing-name {b} {o} s =
+    ap (λ a. read (bytes_of b) (a + 16) (length o.name)) s.at ∙ (Has-front (bytes_of b) (handle o.extent + 16) o.name
+    (replicate (padded (length o.name) - length o.name) 0) s.said.name)

@@ -1,0 +1,321 @@
+-- The elements of the object of a key: where each stands and its number, what reading one answers, and writing one.
+use Rattle.segment_manager.proofs.Common.{◌≡◌, refl, sym, ap, subst, ◌∙◌, ℕ, zero, suc, ◌+◌, ◌*◌, ◌<◌, ◌≤◌, ℤ, pos}
+use Rattle.segment_manager.proofs.Common.{get_or, Bool, true, false, Option, Some, None, Result, Ok, Err, List, [], ◌∷◌}
+use Rattle.segment_manager.proofs.Common.{length, if◌then◌else◌, arith, IsTrue, nat_lt, slice_get, list_all}
+use Rattle.segment_manager.proofs.Common.{mul-le-mul_left, ltb-true, slice_get-get_or, slice_get_within, current, Has}
+use Rattle.segment_manager.proofs.Common.{bytes_of, read, handle, has_room, live_of, ScalarKind, Scalar, Refusal}
+use Rattle.segment_manager.proofs.Common.{NotFound, WrongKind, OutOfRange, is_value, same_kind, size_of, spelling, Key}
+use Rattle.segment_manager.proofs.Common.{spelled, Numbers, Object, Directory, count_of, is_good_value, is_object}
+use Rattle.segment_manager.proofs.Common.{kind_of, object_at, padded, value_len, Denotes, IsValueAt, handle_at}
+use Rattle.segment_manager.proofs.Common.{StandsAt, Answers, State, MatchOption, slice_set, eq-eqb, false≢true}
+use Rattle.segment_manager.proofs.Common.{ltb-false, slice_get_past, code_of, Literal, value_of_literal, Mode, Answer}
+use Rattle.segment_manager.proofs.Common.{Element, Refused, Done, live, perform, Refuse, Reply, with, IsReplyOfKind}
+use Rattle.segment_manager.proofs.Common.{IsSegment, answer_of, step_of_kind, effect, get, set as set_element, changed}
+use Rattle.segment_manager.proofs.Common.{Command, BoolKind, literal_of, and_then, map, values_of}
+use Rattle.segment_manager.proofs.objects.Here.{here, standing}
+use Rattle.segment_manager.proofs.Steps.{open-reading, step_of_kind-found, step_of_kind-not_found, step_of_kind-other}
+use Rattle.segment_manager.proofs.Steps.{with-found, IsOpenFor}
+use Rattle.segment_manager.proofs.{blocks.Blocks.spelling-length, Codes.numbers-only, Frame.object-roomy}
+use Rattle.segment_manager.proofs.{objects.Rows.Has-element, objects.Standings.standing-room, Words.first, Words.second}
+use Rattle.segment_manager.proofs.{containers.ContentPlans.of_slice}
+use Rattle.seg_vector.specs.declared.places.Place.{Place}
+use Rattle.segment_manager.specs.objects.Standing.{element_at, place_at, place_in}
+use Rattle.std.specs.Option.{ok_or}
+use Rattle.byteorder.specs.Endian.{little_number}
+use Rattle.seg_types.specs.Kinds.{is_spelling, value_of}
+use Rattle.seg_types.proofs.Laws.{all_spell_one}
+use Rattle.seg_types.specs.Commands as asked
+use Rattle.std.proofs.Common.{negsuc}
+
+-- ---- an element
+
+-- where a place in an object is, and in the object of a key
+abbrev pub placed : ℕ → Result ℕ Refusal → Result Place Refusal
+placed h q = elim q as (λ _. Result Place Refusal) [ Ok at ↦ Ok (record { handle = h; at = at }) | Err r ↦ Err r ]
+
+abbrev in_object : Object → Result ℕ Refusal → Result Place Refusal
+in_object o q = placed (handle o.extent) q
+
+abbrev in_any : ScalarKind → ℕ → Option Object → Result Place Refusal
+in_any k i r = elim r as (λ _. Result Place Refusal) [ None ↦ Err NotFound | Some o ↦ in_object o (place_in o k i) ]
+
+-- there it stands, or the reason why it does not
+placed-if : (s t : Bool) {at : ℕ} (n : ℕ) → Ok at ≡ (if s then (if t then Ok n else Err OutOfRange) else Err WrongKind)
+    → (s ≡ true) × (t ≡ true) × (at ≡ n)
+placed-if true true n e = (refl, refl, cc)
+placed-if true false n e = absurd (cc)
+placed-if false t n e = absurd (cc)
+
+pub data Lacks (o : Object) (k : ScalarKind) (i : ℕ) (r : Refusal) : Type 0 where
+  Other : same_kind (Scalar k) (kind_of o.value) ≡ false → r ≡ WrongKind → Lacks o k i r
+  Past : same_kind (Scalar k) (kind_of o.value) ≡ true → nat_lt i (count_of o.value) ≡ false → r ≡ OutOfRange
+      → Lacks o k i r
+
+lacks-if : (o : Object) (k : ScalarKind) (i n : ℕ) {r : Refusal} (s t : Bool)
+    → same_kind (Scalar k) (kind_of o.value) ≡ s → nat_lt i (count_of o.value) ≡ t
+    → Err r ≡ (if s then (if t then Ok n else Err OutOfRange) else Err WrongKind) → Lacks o k i r
+lacks-if o k i n true true e f g = absurd (cc)
+lacks-if o k i n true false e f g = Past e f (cc)
+lacks-if o k i n false t e f g = Other e (cc)
+
+-- an element of the object of a key, where it stands, and its number
+pub record ElementAt (b : List ℕ) (d : Directory) (key : Key) (k : ScalarKind) (i : ℕ) (p : Place) : Type 0 where
+  pub object : Object
+  pub is : object_at d key ≡ Some object
+  pub stands : StandsAt b p.handle object
+  pub numbers : List ℤ
+  pub value : object.value ≡ Numbers k numbers
+  pub at : p.at ≡ element_at k object.name i
+  pub number : ℤ
+  pub there : slice_get numbers i ≡ Some number
+  pub in_range : IsTrue (is_value k number)
+
+-- what holds of all holds of the one at an index
+all-at : (t : ℤ → Bool) (zs : List ℤ) (i : ℕ) {z : ℤ} → IsTrue (list_all t zs) → slice_get zs i ≡ Some z → IsTrue (t z)
+all-at t [] i h e = absurd (cc)
+all-at t (y ∷ ys) zero {z} h e = let same : y ≡ z = cc in subst (λ x. IsTrue (t x)) same (first (t y) (list_all t ys) h)
+all-at t (y ∷ ys) (suc i) h e = all-at t ys i (second (t y) (list_all t ys) h) e
+
+-- the numbers of an object are values of their kind
+pub numbers-good : (o : Object) (k : ScalarKind) (zs : List ℤ) → IsTrue (is_object current o) → o.value ≡ Numbers k zs
+    → IsTrue (list_all (is_value k) zs)
+numbers-good o k zs good e =
+    second _ (list_all (is_value k) zs) (subst (λ v. IsTrue (is_good_value v)) e (object-roomy current o good).value)
+
+module _ {b : List ℕ} {d : Directory} {key : Key} {k : ScalarKind} {i : ℕ} {p : Place} where
+  element-of : {o : Object} → object_at d key ≡ Some o → StandsAt b p.handle o → Ok p.at ≡ place_in o k i
+      → ElementAt b d key k i p
+  element-of {o} e s f =
+      let parts =
+      placed-if (same_kind (Scalar k) (kind_of o.value)) (nat_lt i (count_of o.value)) (element_at k o.name i) f in
+      let n = numbers-only k o.value parts.0 in
+      let many : count_of o.value ≡ length n.0 = ap count_of n.1 in
+      let below : i < length n.0 = let l = ltb-true i (count_of o.value) parts.1 in omega arith in
+      let there = slice_get-get_or n.0 i (pos 0) below in
+      record {
+        object = o;
+        is = e;
+        stands = s;
+        numbers = n.0;
+        value = n.1;
+        at = parts.2;
+        number = get_or n.0 i (pos 0);
+        there = there;
+        in_range = all-at (is_value k) n.0 i (numbers-good o k n.0 s.good n.1) there;
+      }
+
+  found-if : {o : Object} (q : Result ℕ Refusal) → Denotes current b d → object_at d key ≡ Some o → place_in o k i ≡ q
+      → Ok p ≡ in_object o q → ElementAt b d key k i p
+  found-if {o} (Ok at) h e f g =
+      let same : p ≡ record { handle = handle o.extent; at = at } = cc in
+      element-of e (subst (λ (x : Place). StandsAt b x.handle o) (sym same) (standing b d key o h e))
+      (ap (λ (x : Place). Ok x.at) same ∙ sym f)
+  found-if (Err r) h e f g = absurd (cc)
+
+  element-if : (r : Option Object) → Denotes current b d → object_at d key ≡ r → Ok p ≡ in_any k i r
+      → ElementAt b d key k i p
+  element-if None h e f = absurd (cc)
+  element-if (Some o) h e f = found-if (place_in o k i) h e refl f
+
+  -- the place of an element is that of one
+  pub element-found : Denotes current b d → Ok p ≡ place_at d key k i → ElementAt b d key k i p
+  element-found h e = element-if (object_at d key) h refl e
+
+-- ---- no such element
+
+-- why there is none
+pub data Missing (d : Directory) (key : Key) (k : ScalarKind) (i : ℕ) (r : Refusal) : Type 0 where
+  Nowhere : object_at d key ≡ None → r ≡ NotFound → Missing d key k i r
+  Within : (o : Object) → object_at d key ≡ Some o → Lacks o k i r → Missing d key k i r
+
+within-if : (o : Object) (k : ScalarKind) (i : ℕ) {r : Refusal} (q : Result ℕ Refusal) → place_in o k i ≡ q
+    → Err r ≡ in_object o q → Lacks o k i r
+within-if o k i (Ok at) e f = absurd (cc)
+within-if o k i {r} (Err q) e f =
+    let same : r ≡ q = cc in
+    lacks-if o k i (element_at k o.name i) (same_kind (Scalar k) (kind_of o.value))
+    (nat_lt i (count_of o.value)) refl refl (ap Err same ∙ sym e)
+
+missing-if : {d : Directory} {key : Key} {k : ScalarKind} {i : ℕ} {r : Refusal} (p : Option Object)
+    → object_at d key ≡ p → Err r ≡ in_any k i p → Missing d key k i r
+missing-if None e f = Nowhere e (cc)
+missing-if {k} {i} (Some o) e f = Within o e (within-if o k i (place_in o k i) refl f)
+
+pub element-missing : {d : Directory} {key : Key} {k : ScalarKind} {i : ℕ} {r : Refusal} → Err r ≡ place_at d key k i
+    → Missing d key k i r
+element-missing {d} {key} e = missing-if (object_at d key) refl e
+
+-- ---- its bytes
+
+module _ (b : List ℕ) (d : Directory) (key : Key) (k : ScalarKind) (i : ℕ) (p : Place)
+    (e : ElementAt b d key k i p) where
+  -- all numbers stand behind the head and the name
+  pub numbers-stand : Has (bytes_of b) (p.handle + (16 + padded (length e.object.name))) (spelled k e.numbers)
+  numbers-stand =
+      let at : handle e.object.extent + 16 + padded
+      (length e.object.name) ≡ p.handle + (16 + padded (length e.object.name)) =
+      let s = e.stands.at in
+      omega arith in
+      subst (λ a. Has (bytes_of b) a (spelled k e.numbers)) at
+      (subst (λ v. IsValueAt (bytes_of b) (handle e.object.extent + 16 + padded (length e.object.name)) v) e.value
+      e.stands.said.value)
+
+  -- an element stands in its place
+  pub element-read : read (bytes_of b) (p.handle + p.at) (size_of k) ≡ spelling k e.number
+  element-read =
+      let at : p.handle + p.at ≡ p.handle + (16 + padded (length e.object.name)) + size_of k * i = let f = e.at in
+      omega arith in
+      (λ j. read (bytes_of b) (at j) (sym (spelling-length k e.number) j))
+      ∙ (Has-element (spelling k) (spelling-length k) (bytes_of b)
+      (p.handle + (16 + padded (length e.object.name))) e.numbers i numbers-stand e.there)
+
+  -- its block has the room for it
+  pub element-room : IsTrue (has_room (live_of b) p.handle (p.at + size_of k))
+  element-room =
+      let below = slice_get_within e.numbers i e.number e.there in
+      let long : value_len e.object.value ≡ size_of k * length e.numbers = ap value_len e.value in
+      let fits : size_of k * (i + 1) ≤ size_of k * length e.numbers = mul-le-mul_left (size_of k) (omega arith) in
+      standing-room b p.handle (p.at + size_of k) e.object e.stands (let f = e.at in omega arith)
+
+-- ---- the search
+
+-- the place in each object that stands at the handle is the place of the key, and why there is none in each is why the
+-- key has none
+pub places : {s : State} (key : Key) {h : ℕ} (k : ScalarKind) (i : ℕ) {r : Result ℕ Refusal}
+    → Answers s (λ d. handle_at d key) (Some h) → ((o : Object) → StandsAt s.cut.bytes h o → r ≡ place_in o k i)
+    → Answers s (λ d. place_at d key k i) (placed h r)
+places {s} key {h} k i {r} a each = record {
+  answers = λ d l.
+      let o = here s.cut.bytes d key h l.denotes (a.answers d l) in
+      ap (λ (n : ℕ). placed n r) o.stands.at ∙ ap (in_object o.object) (each o.object o.stands)
+      ∙ sym (ap (in_any k i) o.is);
+}
+
+-- ---- what the plans are
+
+-- reading in an object of numbers, and writing
+get-effect : (d : Directory) (key : Key) {o : Object} (k : ScalarKind) (zs : List ℤ) (i : ℕ) (r : Option ℤ)
+    → object_at d key ≡ Some o → o.value ≡ Numbers k zs → slice_get zs i ≡ r
+    → effect d (asked.Get key i) ≡ with (of_slice r) (λ z. Reply (Element k z) d)
+get-effect d key {o} k zs i r e f g =
+    with-found d key o (λ o. get d o.value i) e ∙ ap (λ v. get d v i) f
+    ∙ ap (λ (r : Option ℤ). with (of_slice r) (λ z. Reply (Element k z) d)) g
+
+pub set-effect : (d : Directory) (key : Key) {o : Object} (k : ScalarKind) (zs : List ℤ) (i : ℕ) (l : Literal) {z : ℤ}
+    (r : Option ℤ) → object_at d key ≡ Some o → o.value ≡ Numbers k zs → value_of_literal k l ≡ Ok z
+    → slice_get zs i ≡ r → effect d (asked.Set key i l) ≡ with (of_slice r)
+    (λ old. Reply Done (changed d o (Numbers k (slice_set zs i z))))
+set-effect d key {o} k zs i l {z} r e f g h =
+    with-found d key o (λ o. set_element d o o.value i l) e ∙ ap (λ v. set_element d o v i l) f
+    ∙ (λ j. with (g j) (λ z. with (of_slice (h j)) (λ old. Reply Done (changed d o (Numbers k (slice_set zs i z))))))
+
+-- ---- what the step is
+
+-- the object of an element is of its kind
+pub element-kind : {b : List ℕ} {d : Directory} {key : Key} {k : ScalarKind} {i : ℕ} {p : Place}
+    → (e : ElementAt b d key k i p) → same_kind (Scalar k) (kind_of e.object.value) ≡ true
+element-kind {k} e =
+    ap (λ v. same_kind (Scalar k) (kind_of v)) e.value ∙ eq-eqb (code_of (Scalar k)) (code_of (Scalar k)) refl
+
+-- an element is answered
+got : (mode : Mode) (b : List ℕ) (d : Directory) (key : Key) (k : ScalarKind) (i : ℕ) (p : Place)
+    → (e : ElementAt b d key k i p) → step_of_kind mode d key (Scalar k) (asked.Get key i) ≡ (Element k e.number, d)
+got mode b d key k i p e =
+    step_of_kind-found mode d key (Scalar k) (asked.Get key i) e.object (open-reading mode (asked.Get key i) refl) e.is
+    (element-kind e) ∙ ap (perform d (live d)) (get-effect d key k e.numbers i (Some e.number) e.is e.value e.there)
+
+-- or it is refused, for the reason why there is none
+lacking : (mode : Mode) (d : Directory) (key : Key) (k : ScalarKind) (i : ℕ) (r : Refusal) (c : Command) {o : Object}
+    → IsOpenFor mode c → ((zs : List ℤ) → o.value ≡ Numbers k zs → slice_get zs i ≡ None
+    → effect d c ≡ Refuse OutOfRange) → object_at d key ≡ Some o → Lacks o k i r
+    → step_of_kind mode d key (Scalar k) c ≡ (Refused r, d)
+lacking mode d key k i r c {o} may past e (Other s f) =
+    step_of_kind-other mode d key (Scalar k) c o may e s ∙ (λ j. (Refused (sym f j), d))
+lacking mode d key k i r c {o} may past e (Past s t f) =
+    let n = numbers-only k o.value s in
+    let many : count_of o.value ≡ length n.0 = ap count_of n.1 in
+    let behind : length n.0 ≤ i = let l = ltb-false i (count_of o.value) t in omega arith in
+    step_of_kind-found mode d key (Scalar k) c o may e s
+    ∙ ap (perform d (live d)) (past n.0 n.1 (slice_get_past n.0 i behind)) ∙ (λ j. (Refused (sym f j), d))
+
+pub missing-steps : (mode : Mode) {d : Directory} {key : Key} {k : ScalarKind} {i : ℕ} {r : Refusal} (c : Command)
+    → IsOpenFor mode c → ((o : Object) (zs : List ℤ) → object_at d key ≡ Some o → o.value ≡ Numbers k zs
+    → slice_get zs i ≡ None → effect d c ≡ Refuse OutOfRange) → Missing d key k i r
+    → step_of_kind mode d key (Scalar k) c ≡ (Refused r, d)
+missing-steps mode {d} {key} {k} c may past (Nowhere e f) =
+    step_of_kind-not_found mode d key (Scalar k) c may e ∙ (λ j. (Refused (sym f j), d))
+missing-steps mode {d} {key} {k} {i} {r} c may past (Within o e l) =
+    lacking mode d key k i r c may (λ zs. past o zs e) e l
+
+-- ---- the call
+
+module _ {t : State} (key : Key) {l k : ScalarKind} (kinds : l ≡ k) (i : ℕ) where
+  -- where no element is found, the step says why
+  pub replies-missing : {r : Refusal} → Answers t (λ d. place_at d key l i) (Err r)
+      → IsReplyOfKind t key (Scalar k) (asked.Get key i) (Refused r)
+  replies-missing {r} a = record {
+    answers = λ d l.
+        sym (ap (λ (n : Answer × Directory). n.0)
+        (missing-steps t.mode (asked.Get key i) (open-reading t.mode (asked.Get key i) refl)
+        (λ o zs e f. get-effect d key k zs i None e f)
+        (element-missing ((subst (λ (m : ScalarKind). Answers t (λ d. place_at d key m i) (Err r)) kinds a).answers
+        d l))));
+  }
+
+  -- one is found, as the view before the call names the segment
+  module _ {s : State} (view : s ≡ t) {p : Place} {n : ℕ} (long : n ≡ size_of k)
+      (there : Answers t (λ d. place_at d key l i) (Ok p)) where
+    pub seen-place : Answers s (λ d. place_at d key k i) (Ok p)
+    seen-place =
+        subst (λ (m : ScalarKind). Answers s (λ d. place_at d key m i) (Ok p)) kinds
+        (subst (λ (u : State). Answers u (λ d. place_at d key l i) (Ok p)) (sym view) there)
+
+    -- the block has the room of the element
+    pub place-room : IsSegment s.cut.bytes → IsTrue (has_room (live_of s.cut.bytes) p.handle (p.at + n))
+    place-room b =
+        subst (λ m. IsTrue (has_room (live_of s.cut.bytes) p.handle (p.at + m))) (sym long)
+        (element-room s.cut.bytes b.0 key k i p (element-found b.1.denotes (seen-place.answers b.0 b.1)))
+
+    -- what its bytes are read as is the step's answer
+    pub replies-found : {answer : Answer} {bytes : List ℕ} → bytes ≡ read (bytes_of s.cut.bytes) (p.handle + p.at) n
+        → ((z : ℤ) → IsTrue (is_value k z) → bytes ≡ spelling k z → answer ≡ Element k z)
+        → IsReplyOfKind t key (Scalar k) (asked.Get key i) answer
+    replies-found {answer} are reads =
+        subst (λ (u : State). IsReplyOfKind u key (Scalar k) (asked.Get key i) answer) view (record {
+          answers = λ d l.
+              let e = element-found l.denotes (seen-place.answers d l) in
+              reads e.number e.in_range
+              (are ∙ ap (read (bytes_of s.cut.bytes) (p.handle + p.at)) long ∙ element-read s.cut.bytes d key k i p e)
+              ∙ sym (ap (λ (n : Answer × Directory). n.0) (got s.mode s.cut.bytes d key k i p e));
+        })
+
+-- ---- what is read
+
+-- a value of a type whose number is the one that the bytes spell
+pub number-answer : {T : Type 0} (k : ScalarKind) (z : ℤ) (whole : T
+    → ℤ) {bytes : List ℕ} (q : Option T) {r : Result T Refusal} → r ≡ ok_or q WrongKind → IsTrue (is_value k z)
+    → bytes ≡ spelling k z → MatchOption q (is_spelling k bytes ≡ false) (λ x. (is_spelling k bytes ≡ true)
+    × (whole x ≡ value_of k (little_number (size_of k) bytes))) → answer_of (λ x. Element k (whole x)) r ≡ Element k z
+number-answer k z whole None f v e h = absurd (false≢true (sym h ∙ ap (is_spelling k) e ∙ (all_spell_one k z v).is_one))
+number-answer k z whole (Some x) f v e h =
+    ap (answer_of (λ x. Element k (whole x))) f
+    ∙ ap (Element k) (h.1 ∙ ap (λ (bs : List ℕ). value_of k (little_number (size_of k) bs)) e
+    ∙ (all_spell_one k z v).reads)
+
+-- ---- the literal of a value
+
+-- it is read as the value
+pub literal-read : (k : ScalarKind) (z : ℤ) → is_value k z ≡ true → value_of_literal k (literal_of k z) ≡ Ok z
+literal-read BoolKind (pos zero) h = refl
+literal-read BoolKind (pos (suc zero)) h = refl
+literal-read BoolKind (pos (suc (suc n))) h = absurd (grind arith)
+literal-read BoolKind (negsuc n) h = absurd (cc)
+literal-read k z h = ap (λ (b : Bool). let r : Result ℤ Refusal = if b then Ok z else Err OutOfRange in r) h
+
+-- the literals of values are read as them
+pub literals-read : (k : ScalarKind) (zs : List ℤ) → IsTrue (list_all (is_value k) zs)
+    → values_of k (map (literal_of k) zs) ≡ Ok zs
+literals-read k [] h = refl
+literals-read k (z ∷ zs) h =
+    let rest = literals-read k zs (second (is_value k z) (list_all (is_value k) zs) h) in
+    λ i. and_then ((literal-read k z (first (is_value k z) (list_all (is_value k) zs) h)) i) (rest i)

@@ -1,0 +1,10 @@
+-- The entry of the index is that of the directory.
+use Rattle.segment_manager.proofs.objects.KeyCalls.{at-answers, segment-index}
+use Rattle.segment_manager.proofs.Common.{Unique}
+use Rattle.segment_manager.proofs.objects.finding.unique_at.Goals as goal
+
+pub at-requires-clause-index : goal.at-requires-clause-index
+at-requires-clause-index c = segment-index Unique c.segment.invariant
+
+pub returns : goal.returns
+returns c = at-answers c.segment.view_is Unique c.args.i c.at.ensures

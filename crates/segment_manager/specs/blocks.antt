@@ -1,0 +1,2 @@
+-- The blocks and gaps of the heap below.
+pub mod Resized

@@ -1,0 +1,68 @@
+-- Objects that a command changes, and literals that it changes them by: what is known of both where their kind is
+-- learnt late.
+use Rattle.std.specs.Prelude.{◌≡◌, ℕ, ℤ, true, false, None, Result, Ok, Err, List, ◌∷◌, []}
+use Rattle.seg_types.specs.declared.kinds.Kind.{Kind}
+use Rattle.seg_types.specs.declared.kinds.Kind.TheVariants.{Vector}
+use Rattle.seg_types.specs.declared.kinds.ScalarKind.{ScalarKind}
+use Rattle.seg_types.specs.declared.refusals.Refusal.{Refusal}
+use Rattle.seg_types.specs.declared.refusals.Refusal.TheVariants.{NotFound}
+use Rattle.seg_types.specs.declared.values.ScalarValue.{ScalarValue}
+use Rattle.seg_types.specs.Kinds.{is_value}
+use Rattle.seg_types.specs.Names.{Key}
+use Rattle.seg_types.specs.Commands.{Command, Insert, Literal, Push, is_changing, value_of_literal}
+use Rattle.seg_types.specs.Values.{kind_of_scalar, value_of_scalar}
+use Rattle.segment_manager.specs.declared.objects.targets.Object.{Object}
+use Rattle.segment_manager.specs.Answers.{Refused}
+use Rattle.segment_manager.specs.Calls.{kind_at}
+use Rattle.segment_manager.specs.Directory.{Directory, object_at}
+use Rattle.segment_manager.specs.objects.Located.{IsLocated}
+use Rattle.segment_manager.specs.Plan.{Refuse}
+use Rattle.segment_manager.specs.State.{Answers, IsStep, State}
+use Rattle.segment_manager.specs.Step.{effect, is_read_only}
+
+-- ---- what is known of the object
+
+-- the segment may be changed, and the object of the key is of the kind
+pub record IsChangeable (s : State) (key : Key) (kind : Kind) : Type 0 where
+  pub writing : is_read_only s.mode ≡ false
+  pub is : Answers s (λ d. kind_at d key) (Ok kind)
+
+-- the same of an object of the key, which was located
+pub record IsToChange (s : State) (key : Key) (o : Object) : Type 0 where
+  pub writing : is_read_only s.mode ≡ false
+  pub located : IsLocated s key o
+
+-- for this reason each command is refused that changes an object, and needs one of the key
+pub record IsUnchangeable (s : State) (key : Key) (why : Refusal) : Type 0 where
+  pub refuses : (c : Command) → is_changing c ≡ true
+      → ((d : Directory) → object_at d key ≡ None → effect d c ≡ Refuse NotFound) → IsStep s s c (Refused why)
+
+-- ---- what is known of literals
+
+-- the value has the kind, and is the number that is wanted, or it is refused for the same reason
+abbrev pub IsValueOf : ScalarKind → Result ℤ Refusal → Result ScalarValue Refusal → Type 0
+IsValueOf k wanted (Ok v) = (kind_of_scalar v ≡ k) × (wanted ≡ Ok (value_of_scalar v))
+    × (is_value k (value_of_scalar v) ≡ true)
+IsValueOf k wanted (Err r) = wanted ≡ Err r
+
+-- a value has the kind, and is in its range
+abbrev pub IsOfScalarKind : ScalarKind → ScalarValue → Type 0
+IsOfScalarKind k v = (kind_of_scalar v ≡ k) × (is_value k (value_of_scalar v) ≡ true)
+
+-- key and value have the kinds, and are the numbers that are wanted, or they are refused for the same reason
+abbrev pub IsPairOf : ScalarKind → ScalarKind → Result (List ℤ) Refusal → Result (ScalarValue × ScalarValue) Refusal
+    → Type 0
+IsPairOf k v wanted (Ok p) = IsOfScalarKind k p.0 × IsOfScalarKind v p.1
+    × (wanted ≡ Ok (value_of_scalar p.0 ∷ value_of_scalar p.1 ∷ []))
+IsPairOf k v wanted (Err r) = wanted ≡ Err r
+
+-- the literal is a value for the vector of the key
+pub record IsElement (s : State) (key : Key) (l : Literal) (v : ScalarValue) : Type 0 where
+  pub is : Answers s (λ d. kind_at d key) (Ok (Vector (kind_of_scalar v)))
+  pub value : value_of_literal (kind_of_scalar v) l ≡ Ok (value_of_scalar v)
+  pub range : is_value (kind_of_scalar v) (value_of_scalar v) ≡ true
+
+-- or for this reason it can be no new element
+pub record IsNoElement (s : State) (key : Key) (l : Literal) (why : Refusal) : Type 0 where
+  pub push : IsStep s s (Push key l) (Refused why)
+  pub insert : (i : ℕ) → IsStep s s (Insert key i l) (Refused why)

@@ -1,0 +1,114 @@
+-- Maps of numbers as values of objects: where they stand, what is read of them, and what becomes of them.
+use Rattle.std.specs.Prelude.{ℕ, ℤ, int_lt, true, false, Option, Some, None, Result, Ok, Err, List, option_map}
+use Rattle.std.specs.Prelude.{if◌then◌else◌}
+use Rattle.raw_region.specs.Memory.{Cut}
+use Rattle.byteorder.specs.Endian.{little_number}
+use Rattle.seg_types.specs.declared.kinds.Kind.TheVariants.{Map}
+use Rattle.seg_types.specs.declared.kinds.ScalarKind.{ScalarKind}
+use Rattle.seg_types.specs.declared.plain.Plain.{Ghosts as Plain}
+use Rattle.seg_types.specs.declared.refusals.Refusal.{Refusal}
+use Rattle.seg_types.specs.declared.refusals.Refusal.TheVariants.{NotFound, WrongKind}
+use Rattle.seg_types.specs.declared.values.ScalarValue.{ScalarValue}
+use Rattle.seg_types.specs.Values.{kind_of_scalar, value_of_scalar}
+use Rattle.seg_types.specs.Kinds.{is_value, same_kind, scalar_code, size_of, spelling, value_of}
+use Rattle.seg_types.specs.Names.{Key}
+use Rattle.seg_map.specs.declared.places.Place.{Place}
+use Rattle.seg_map.specs.Changing as maps
+use Rattle.seg_map.specs.Numbers.{NumberPair}
+use Rattle.seg_map.specs.Places.{HoldsMap, final_pair, first_pair, item_of, last_pair}
+use Rattle.segment_manager.specs.Answers.{Answer, Absent, Element}
+use Rattle.segment_manager.specs.containers.Contents.{container_at}
+use Rattle.segment_manager.specs.Directory.{Value, Numbers, Elements, Bytes, Pairs, Texts, Directory, kind_of}
+use Rattle.segment_manager.specs.Directory.{object_at}
+use Rattle.segment_manager.specs.State.{answer_of}
+
+-- ---- where they stand
+
+-- the numbers of a kind, as a type whose values have spellings and an order
+abbrev pub numbers_of : ScalarKind → Plain ℤ
+numbers_of k = record {
+  SIZE = size_of k;
+  CODE = scalar_code k;
+  is_value = is_value k;
+  spelling = spelling k;
+  order = int_lt;
+  reading = λ bytes. Some (value_of k (little_number (size_of k) bytes));
+}
+
+-- the map at a place has these pairs
+abbrev pub IsPairs : ScalarKind → ScalarKind → List ℕ → Place → List NumberPair → Type 0
+IsPairs k v b p ps = HoldsMap (numbers_of k) (numbers_of v) b p.handle p.at ps
+
+-- some map of the kinds stands there
+abbrev pub HasPairs : ScalarKind → ScalarKind → List ℕ → Place → Type 0
+HasPairs k v b p = (ps : List NumberPair) × IsPairs k v b p ps
+
+-- it has no pair now, and their blocks are given back
+pub record ReleasesPairs (k v : ScalarKind) (old new : Cut) (p : Place) : Type 0 where
+  pub each : maps.Releases (numbers_of k) (numbers_of v) old new p.handle p.at
+
+-- where the three words stand of the map of a key, a map of the kinds
+abbrev pub map_at : Directory → Key → ScalarKind → ScalarKind → Result Place Refusal
+map_at d key k v = elim (container_at d key (Map k v))
+    [ Ok p ↦ Ok (record { handle = p.handle; at = p.at }) | Err r ↦ Err r ]
+
+-- ---- what is read of them
+
+-- what is said of the pairs of a map
+abbrev pub told_of : {A : Type 0} → (List NumberPair → A) → Value → Result A Refusal
+told_of say (Numbers k zs) = Err WrongKind
+told_of say (Elements k zs t) = Err WrongKind
+told_of say (Bytes bs t) = Err WrongKind
+told_of say (Pairs k v ps) = Ok (say ps)
+told_of say (Texts ps t) = Err WrongKind
+
+-- the same of the object of a key, a map of the kinds
+abbrev pub told_of_map : {A : Type 0} → Directory → Key → ScalarKind → ScalarKind → (List NumberPair → A)
+    → Result A Refusal
+told_of_map d key k v say = elim (object_at d key) [
+  | None ↦ Err NotFound
+  | Some o ↦ if same_kind (Map k v) (kind_of o.value) then told_of say o.value else Err WrongKind
+]
+
+-- Pairs stand by rising keys. So the first key that is not below a number is the least of those, as is the first above
+-- it.
+abbrev pub pair_from : ℤ → List NumberPair → Option (ℤ × ℤ)
+pair_from from ps = option_map item_of (first_pair int_lt false from ps)
+
+abbrev pub pair_above : ℤ → List NumberPair → Option (ℤ × ℤ)
+pair_above key ps = option_map item_of (first_pair int_lt true key ps)
+
+-- So the last key that is not above a number is the greatest of those, as is the last below it, and the last of all.
+abbrev pub pair_up_to : ℤ → List NumberPair → Option (ℤ × ℤ)
+pair_up_to to ps = option_map item_of (last_pair int_lt true to ps)
+
+abbrev pub pair_below : ℤ → List NumberPair → Option (ℤ × ℤ)
+pair_below key ps = option_map item_of (last_pair int_lt false key ps)
+
+abbrev pub pair_at_end : List NumberPair → Option (ℤ × ℤ)
+pair_at_end ps = option_map item_of (final_pair ps)
+
+-- a key and a value, or none, as numbers
+abbrev pub numbers_in : {K V : Type 0} → (K → ℤ) → (V → ℤ) → Option (K × V) → Option (ℤ × ℤ)
+numbers_in k v = option_map (λ (x, y). (k x, v y))
+
+abbrev pub pair_result : {K V : Type 0} → (K → ℤ) → (V → ℤ) → Result (Option (K × V)) Refusal
+    → Result (Option (ℤ × ℤ)) Refusal
+pair_result k v (Ok r) = Ok (numbers_in k v r)
+pair_result k v (Err e) = Err e
+
+-- the value of a key, or none, as an answer
+abbrev pub value_or_absent : ScalarKind → Option ℤ → Answer
+value_or_absent k None = Absent
+value_or_absent k (Some z) = Element k z
+
+abbrev pub value_answer : {T : Type 0} → ScalarKind → (T → ℤ) → Result (Option T) Refusal → Answer
+value_answer k w = answer_of (λ r. value_or_absent k (option_map w r))
+
+-- the same of a value with its kind
+abbrev pub any_or_absent : Option ScalarValue → Answer
+any_or_absent None = Absent
+any_or_absent (Some v) = Element (kind_of_scalar v) (value_of_scalar v)
+
+abbrev pub any_value_answer : Result (Option ScalarValue) Refusal → Answer
+any_value_answer = answer_of any_or_absent

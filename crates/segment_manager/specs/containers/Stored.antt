@@ -1,0 +1,69 @@
+-- Containers with storage of their own, at a place: what calls on one answer and leave, whichever key has its object.
+use Rattle.std.specs.Prelude.{◌≡◌, ◌≤◌, ℕ, List, Result, Ok, OnErr}
+use Rattle.raw_region.specs.Memory.{Cut}
+use Rattle.seg_types.specs.declared.kinds.Kind.{Kind}
+use Rattle.seg_types.specs.declared.refusals.Refusal.{Refusal}
+use Rattle.seg_types.specs.declared.kinds.Kind.TheVariants.{Vector}
+use Rattle.seg_types.specs.Kinds.{size_of}
+use Rattle.seg_types.specs.Commands as asked
+use Rattle.seg_types.specs.Commands.{Command}
+use Rattle.seg_types.specs.Names.{Key}
+use Rattle.seg_vector.specs.declared.places.Place.{Place}
+use Rattle.seg_vector.specs.Elements.{Fits, Truncates}
+use Rattle.seg_vector.specs.Standing.{Grows, IsStanding}
+use Rattle.seg_vector.specs.TextsCalls.{ClearsTexts, ReservesNoTexts, ReservesTexts, ShrinksTexts}
+use Rattle.segment_manager.specs.declared.containers.storages.Change.{Change}
+use Rattle.segment_manager.specs.declared.containers.storages.Change.TheVariants.{Clear, Reserve, Shrink}
+use Rattle.segment_manager.specs.Answers.{Answer}
+use Rattle.segment_manager.specs.Directory.{Directory}
+use Rattle.segment_manager.specs.Keeping.{HasPlaces}
+use Rattle.segment_manager.specs.State.{IsStepOfKind, State, done_answer}
+
+-- A call that changes a container is one step of the machine, and where it is refused nothing changes.
+pub record AnswersSafely {R : Type 0} (says : Result R Refusal → Answer) (s : State) (new : Cut) (key : Key)
+    (kind : Kind) (c : Command) (r : Result R Refusal) : Type 0 where
+  pub step : IsStepOfKind s (record s { cut = new }) key kind c (says r)
+  pub refused : OnErr r (new ≡ s.cut)
+
+-- one that answers nothing
+abbrev pub StepsSafely : State → Cut → Key → Kind → Command → Result (Unit {0}) Refusal → Type 0
+StepsSafely = AnswersSafely done_answer
+
+-- ---- what is done with storage
+
+-- the command of a key
+abbrev pub command_of : Change → Key → Command
+command_of (Reserve n) key = asked.Reserve key n
+command_of Shrink key = asked.Shrink key
+command_of Clear key = asked.Clear key
+
+-- the vector or string of the key has what is asked for
+abbrev pub HasEnough : Change → Key → Directory → Type 0
+HasEnough (Reserve n) key d = HasPlaces key n d
+HasEnough Shrink key d = ⊥
+HasEnough Clear key d = ⊥
+
+-- ---- elements of so many bytes each in storage
+
+-- those of a vector of numbers and of a text
+abbrev pub each_of : Kind → ℕ
+each_of (Vector k) = size_of k
+each_of kind = 1
+
+-- some stand there
+pub record IsElements (b : List ℕ) (p : Place) (each : ℕ) : Type 0 where
+  pub stands : IsStanding b p each
+  pub some : 1 ≤ each
+  pub short : each ≤ 8
+
+-- what is done with their storage
+abbrev pub ChangesElements : Change → Cut → Cut → Place → ℕ → Result (Unit {0}) Refusal → Type 0
+ChangesElements (Reserve n) old new p each result = Grows old new p each n result
+ChangesElements Shrink old new p each result = (result ≡ Ok tt) × Fits old new p each
+ChangesElements Clear old new p each result = (result ≡ Ok tt) × Truncates old new p each 0
+
+-- and with that of a vector of texts
+abbrev pub ChangesTexts : Change → Cut → Cut → Place → Result (Unit {0}) Refusal → Type 0
+ChangesTexts (Reserve n) old new p result = ReservesTexts old new p n result × ReservesNoTexts old new p n result
+ChangesTexts Shrink old new p result = (result ≡ Ok tt) × ShrinksTexts old new p
+ChangesTexts Clear old new p result = (result ≡ Ok tt) × ClearsTexts old new p

@@ -1,0 +1,79 @@
+-- The pairs of a map, one after another by rising keys.
+use Rattle.std.specs.Prelude.{◌≡◌, ℤ, Bool, Option, Some, None, Result, Ok, Err, List, [], ◌∷◌, ⊤, int_lt, option_map}
+use Rattle.seg_types.specs.declared.kinds.Kind.TheVariants.{Map}
+use Rattle.seg_types.specs.declared.kinds.ScalarKind.{ScalarKind}
+use Rattle.seg_types.specs.declared.refusals.Refusal.{Refusal}
+use Rattle.seg_types.specs.declared.values.ScalarValue.{ScalarValue}
+use Rattle.seg_types.specs.Names.{Key}
+use Rattle.seg_types.specs.Values.{kind_of_scalar, value_of_scalar}
+use Rattle.seg_map.specs.Numbers.{NumberPair}
+use Rattle.seg_map.specs.Places.{first_pair, item_of}
+use Rattle.segment_manager.specs.Calls.{kind_at}
+use Rattle.segment_manager.specs.Directory.{Value, Numbers, Elements, Bytes, Pairs, Texts, Directory, object_at}
+use Rattle.segment_manager.specs.objects.ElementLists.{list_at}
+use Rattle.segment_manager.specs.State.{Answers, State}
+
+-- ---- the map
+
+-- the object of a key is a map of the kinds
+abbrev pub IsMap : State → Key → ScalarKind → ScalarKind → Type 0
+IsMap s key k v = Answers s (λ d. kind_at d key) (Ok (Map k v))
+
+-- the pairs of a value, which has none where it is no map
+abbrev pub pairs_of : Value → List NumberPair
+pairs_of (Numbers k zs) = []
+pairs_of (Elements k zs t) = []
+pairs_of (Bytes bs t) = []
+pairs_of (Pairs k v ps) = ps
+pairs_of (Texts ps t) = []
+
+-- the same of the object of a key
+abbrev pub pairs_at : Directory → Key → List NumberPair
+pairs_at d key = elim (object_at d key) [ None ↦ [] | Some o ↦ pairs_of o.value ]
+
+-- the same of the object of a key that is a map of the kinds; there are none where it is another
+abbrev pub pairs_at_kinds : Directory → Key → ScalarKind → ScalarKind → List NumberPair
+pairs_at_kinds d key k v = list_at pairs_of d key (Map k v)
+
+-- the first of some pairs
+abbrev pub first_of : List NumberPair → Option NumberPair
+first_of [] = None
+first_of (p ∷ ps) = Some p
+
+-- the first whose key is above a number, or not below it
+abbrev pub pair_past : Bool → ℤ → List NumberPair → Option (ℤ × ℤ)
+pair_past above z ps = option_map item_of (first_pair int_lt above z ps)
+
+-- ---- a pair of it
+
+-- a key and a value, each with its kind
+abbrev pub Item : Type 0
+Item = (ScalarKind × ℤ) × (ScalarKind × ℤ)
+
+abbrev pub item_of_kinds : ScalarKind → ScalarKind → ℤ × ℤ → Item
+item_of_kinds k v (x, y) = ((k, x), (v, y))
+
+-- the same as values of the code
+abbrev pub item_seen : ScalarValue × ScalarValue → Item
+item_seen (x, y) = ((kind_of_scalar x, value_of_scalar x), (kind_of_scalar y, value_of_scalar y))
+
+-- ---- what is read of a map of which it is not known whether it is one
+
+-- a key and a value, or none, as numbers
+abbrev pub numbers_read : {K V : Type 0} → (K → ℤ) → (V → ℤ) → Result (Option (K × V)) Refusal
+    → Result (Option (ℤ × ℤ)) Refusal
+numbers_read k v (Ok None) = Ok None
+numbers_read k v (Ok (Some (x, y))) = Ok (Some (k x, v y))
+numbers_read k v (Err why) = Err why
+
+-- the value is of a kind
+abbrev pub HasValueOf : {K : Type 0} → ScalarKind → Result (Option (K × ScalarValue)) Refusal → Type 0
+HasValueOf v (Ok None) = ⊤
+HasValueOf v (Ok (Some (x, y))) = kind_of_scalar y ≡ v
+HasValueOf v (Err why) = ⊤
+
+-- and so is the key
+abbrev pub AreOfKinds : ScalarKind → ScalarKind → Result (Option (ScalarValue × ScalarValue)) Refusal → Type 0
+AreOfKinds k v (Ok None) = ⊤
+AreOfKinds k v (Ok (Some (x, y))) = (kind_of_scalar x ≡ k) × (kind_of_scalar y ≡ v)
+AreOfKinds k v (Err why) = ⊤

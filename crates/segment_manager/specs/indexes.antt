@@ -1,0 +1,5 @@
+-- The two indexes, of names and of kinds.
+pub mod Entries
+pub mod Indexed
+pub mod Listed
+pub mod Iterating

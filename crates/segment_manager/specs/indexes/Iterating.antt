@@ -1,0 +1,115 @@
+-- What the iterators of a segment give.
+use Rattle.std.specs.Prelude.{◌≡◌, ℕ, ◌+◌, ◌≤◌, Bool, false, Option, Some, None, List, filter, length, map, option_map}
+use Rattle.std.specs.Prelude.{slice_get, take}
+use Rattle.block_tags.specs.declared.tile.Role.TheVariants.{Object as ObjectRole}
+use Rattle.best_fit.specs.Extents.{Extent, Span as LiveSpan, spans}
+use Rattle.best_fit.specs.Heap.{live_of}
+use Rattle.best_fit.specs.Table.{same_role}
+use Rattle.seg_index.specs.declared.index.Index.{Index}
+use Rattle.segment_manager.specs.declared.objects.telling.Instance.{Instance}
+use Rattle.segment_manager.specs.declared.blocks.tiles.Span.{Span}
+use Rattle.segment_manager.specs.Calls.{as_span}
+use Rattle.segment_manager.specs.Directory.{Object, Directory, live, named_objects}
+use Rattle.segment_manager.specs.indexes.Indexed.{objects_of}
+use Rattle.segment_manager.specs.objects.Instances.{SaysAt}
+use Rattle.segment_manager.specs.State.{Answers, State, StandsFor}
+
+-- an iterator over the objects of an index: how many of them it has given
+pub record Walk : Type 0 where
+  pub segment : State
+  pub index : Index
+  pub at : ℕ
+
+-- the place behind what came, where something came
+abbrev pub place_behind : {A : Type 0} → ℕ → Option A → ℕ
+place_behind at None = at
+place_behind at (Some x) = at + 1
+
+-- what is said is said of the object at a place, and nothing is said where no object stands there
+abbrev pub SaysNext : State → (Directory → List Object) → ℕ → Option Instance → Type 0
+SaysNext s objects at None = (d : Directory) → StandsFor s.cut.bytes d → length (objects d) ≤ at
+SaysNext s objects at (Some said) = SaysAt s objects at said
+
+-- the iterator gives what stands where it stood, and stands behind it then
+pub record GoesOn (old : Walk) (item : Option Instance) (new : Walk) : Type 0 where
+  pub segment : new.segment ≡ old.segment
+  pub index : new.index ≡ old.index
+  pub place : new.at ≡ place_behind old.at item
+  pub says : SaysNext old.segment (objects_of old.index) old.at item
+
+-- the names of the objects that are found by name
+abbrev pub names_of : Directory → List (List ℕ)
+names_of d = map (λ (o : Object). o.name) (named_objects d)
+
+-- an iterator over them: how many of them it has given
+pub record NameWalk : Type 0 where
+  pub segment : State
+  pub at : ℕ
+
+-- it gives the name that stands where it stood, as it is seen, and stands behind it then
+pub record GoesOnNames {A : Type 0} (seen : A → List ℕ) (old : NameWalk) (item : Option A)
+    (new : NameWalk) : Type 0 where
+  pub segment : new.segment ≡ old.segment
+  pub place : new.at ≡ place_behind old.at item
+  pub says : Answers old.segment (λ d. slice_get (names_of d) old.at) (option_map seen item)
+
+-- an iterator over the blocks and gaps: how many of them it has given
+pub record TileWalk : Type 0 where
+  pub segment : State
+  pub at : ℕ
+
+-- the same of these
+pub record GoesOnTiles (old : TileWalk) (item : Option Span) (new : TileWalk) : Type 0 where
+  pub segment : new.segment ≡ old.segment
+  pub place : new.at ≡ place_behind old.at item
+  pub says : Answers old.segment (λ d. slice_get (spans (live d)) old.at) (option_map as_span item)
+
+-- ---- all objects, by their offsets
+
+-- an iterator over all objects: how many of them it has given
+pub record ObjectWalk : Type 0 where
+  pub segment : State
+  pub at : ℕ
+
+-- the same of these
+pub record GoesOnObjects (old : ObjectWalk) (item : Option Instance) (new : ObjectWalk) : Type 0 where
+  pub segment : new.segment ≡ old.segment
+  pub place : new.at ≡ place_behind old.at item
+  pub says : SaysNext old.segment (λ d. d.objects) old.at item
+
+-- a block for an object
+abbrev pub is_own : Extent → Bool
+is_own x = same_role x.role ObjectRole
+
+-- the same among the blocks and gaps
+abbrev pub is_own_span : LiveSpan → Bool
+is_own_span s = elim s.use_of [ None ↦ false | Some role ↦ same_role role ObjectRole ]
+
+-- the blocks of objects among the blocks and gaps
+abbrev pub own_spans : Directory → List LiveSpan
+own_spans d = filter is_own_span (spans (live d))
+
+-- how many of them stand before a place among the blocks and gaps
+abbrev pub own_before : Directory → ℕ → ℕ
+own_before d i = length (filter is_own_span (take i (spans (live d))))
+
+-- the blocks and gaps that were passed are those of so many objects
+pub record HasPassed (s : State) (tiles : TileWalk) (at : ℕ) : Type 0 where
+  pub segment : tiles.segment ≡ s
+  pub count : Answers s (λ d. own_before d tiles.at) at
+
+-- the next block of an object, and the blocks and gaps up to it are passed
+pub record GoesOnOwn (old : TileWalk) (item : Option Span) (new : TileWalk) : Type 0 where
+  pub segment : new.segment ≡ old.segment
+  pub says : (d : Directory) → StandsFor old.segment.cut.bytes d
+      → option_map as_span item ≡ slice_get (own_spans d) (own_before d old.at)
+  pub count : (d : Directory) → StandsFor old.segment.cut.bytes d
+      → own_before d new.at ≡ place_behind (own_before d old.at) item
+
+-- the block is that of the object at a place
+pub record IsOwnBlock (s : State) (at : ℕ) (block : Span) : Type 0 where
+  pub stands : (d : Directory) → StandsFor s.cut.bytes d → Some (as_span block) ≡ slice_get (own_spans d) at
+
+-- how many objects the bytes have, as their tags say
+abbrev pub own_count : List ℕ → ℕ
+own_count b = length (filter is_own (live_of b).extents)

@@ -1,0 +1,12 @@
+-- Objects, whatever they hold.
+pub mod Found
+pub mod Located
+pub mod Heads
+pub mod NewObjects
+pub mod Items
+pub mod Begun
+pub mod Standing
+pub mod Destroyed
+pub mod Instances
+pub mod ElementLists
+pub mod Counted

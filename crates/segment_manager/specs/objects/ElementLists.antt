@@ -1,0 +1,69 @@
+-- The elements of the object of a key, one after another: as many as it has where it is of the kind, and else none.
+use Rattle.std.specs.Prelude.{ℕ, ℤ, Some, None, Result, Ok, Err, List, [], map, if◌then◌else◌}
+use Rattle.seg_types.specs.declared.kinds.Kind.{Kind}
+use Rattle.seg_types.specs.declared.kinds.Kind.TheVariants.{Scalar as ScalarOf, Vector as VectorOf}
+use Rattle.seg_types.specs.declared.kinds.Kind.TheVariants.{Strings as StringsKind}
+use Rattle.seg_types.specs.declared.kinds.ScalarKind.{ScalarKind}
+use Rattle.seg_types.specs.declared.refusals.Refusal.{Refusal}
+use Rattle.seg_types.specs.declared.refusals.Refusal.TheVariants.{NotFound, WrongKind}
+use Rattle.seg_types.specs.Kinds.{same_kind}
+use Rattle.seg_types.specs.Names.{Key}
+use Rattle.seg_vector.specs.Vector.{OwnedText}
+use Rattle.segment_manager.specs.containers.Contents.{sizes_at_kind}
+use Rattle.segment_manager.specs.Directory.{Value, Numbers, Elements, Bytes, Pairs, Texts, Directory, count_of, kind_of}
+use Rattle.segment_manager.specs.Directory.{object_at}
+
+-- the numbers of a value that is an array or a vector of scalars
+abbrev pub numbers_in : Value → List ℤ
+numbers_in (Numbers k zs) = zs
+numbers_in (Elements k zs t) = zs
+numbers_in (Bytes bs t) = []
+numbers_in (Pairs k v ps) = []
+numbers_in (Texts ps t) = []
+
+-- the texts of a value that is a vector of strings
+abbrev pub texts_in : Value → List (List ℕ)
+texts_in (Numbers k zs) = []
+texts_in (Elements k zs t) = []
+texts_in (Bytes bs t) = []
+texts_in (Pairs k v ps) = []
+texts_in (Texts ps t) = map (λ (p : OwnedText). p.bytes) ps
+
+-- what is listed of the object of a key, an object of a kind
+abbrev pub list_at : {A : Type 0} → (Value → List A) → Directory → Key → Kind → List A
+list_at items d key kind = elim
+    (object_at d key) [ None ↦ [] | Some o ↦ if same_kind kind (kind_of o.value) then items o.value else [] ]
+
+-- the scalars of an array of a kind, and of a vector; the texts of a vector of strings
+abbrev pub array_at : Directory → Key → ScalarKind → List ℤ
+array_at d key k = list_at numbers_in d key (ScalarOf k)
+
+abbrev pub vector_at : Directory → Key → ScalarKind → List ℤ
+vector_at d key k = list_at numbers_in d key (VectorOf k)
+
+abbrev pub texts_at : Directory → Key → List (List ℕ)
+texts_at d key = list_at texts_in d key StringsKind
+
+-- ---- how many they are
+
+-- of a container of a kind
+abbrev pub first_size : Result (ℕ × ℕ) Refusal → Result ℕ Refusal
+first_size (Ok (n, places)) = Ok n
+first_size (Err why) = Err why
+
+abbrev pub length_at_kind : Directory → Key → Kind → Result ℕ Refusal
+length_at_kind d key kind = first_size (sizes_at_kind d key kind)
+
+-- of an array of a kind
+abbrev pub array_length_at : Directory → Key → ScalarKind → Result ℕ Refusal
+array_length_at d key k = elim
+    (object_at d key) [
+      | None ↦ Err NotFound
+      | Some o ↦ if same_kind (ScalarOf k) (kind_of o.value) then Ok
+          (count_of o.value) else Err WrongKind
+    ]
+
+-- a number, or 0 where there is none
+abbrev pub number_or_none : Result ℕ Refusal → ℕ
+number_or_none (Ok n) = n
+number_or_none (Err why) = 0

@@ -1,0 +1,43 @@
+-- What objects say of themselves.
+use Rattle.std.specs.Prelude.{◌≡◌, ℕ, Option, Some, None, List, slice_get}
+use Rattle.best_fit.specs.Extents.{handle}
+use Rattle.seg_types.specs.declared.kinds.Class.{Class}
+use Rattle.seg_types.specs.declared.kinds.Class.TheVariants.{Anonymous, Named, Unique}
+use Rattle.seg_types.specs.declared.refusals.Refusal.{Refusal}
+use Rattle.seg_types.specs.declared.refusals.Refusal.TheVariants.{NotFound}
+use Rattle.seg_types.specs.Names.{Key}
+use Rattle.segment_manager.specs.declared.objects.telling.Instance.{Instance}
+use Rattle.segment_manager.specs.Directory.{Object, Directory, count_of, kind_of, object_at}
+use Rattle.segment_manager.specs.State.{State, StandsFor}
+
+-- a name, of an object of a class that has one
+abbrev pub name_in : Class → List ℕ → Option (List ℕ)
+name_in Anonymous name = None
+name_in Named name = Some name
+name_in Unique name = None
+
+-- the name of an object, where it has one
+abbrev pub own_name : Object → Option (List ℕ)
+own_name o = name_in o.class o.name
+
+-- all that is said is so of the object
+pub record IsInstance (o : Object) (said : Instance) : Type 0 where
+  pub class : said.class ≡ o.class
+  pub name : said.name.now ≡ o.name
+  pub kind : said.kind ≡ kind_of o.value
+  pub count : said.count ≡ count_of o.value
+  pub at : said.handle ≡ handle o.extent
+
+-- it is said of the object of a key
+pub record SaysOf (s : State) (key : Key) (said : Instance) : Type 0 where
+  pub says : (d : Directory) → StandsFor s.cut.bytes d → (o : Object) × (object_at d key ≡ Some o) × IsInstance o said
+
+-- it is said of the object at a place in a list
+pub record SaysAt (s : State) (objects : Directory → List Object) (i : ℕ) (said : Instance) : Type 0 where
+  pub says : (d : Directory) → StandsFor s.cut.bytes d → (o : Object) × (slice_get (objects d) i ≡ Some o)
+      × IsInstance o said
+
+-- no object has the key
+pub record IsMissing (s : State) (key : Key) (why : Refusal) : Type 0 where
+  pub is : why ≡ NotFound
+  pub missing : (d : Directory) → StandsFor s.cut.bytes d → object_at d key ≡ None

@@ -1,0 +1,81 @@
+-- What a construction takes from an iterator.
+use Rattle.std.specs.Prelude.{◌≡◌, ◌⊎◌, ℕ, ◌<◌, ℤ, true, false, None, Option, Result, Ok, Err, IfErr, IfOk, MatchResult}
+use Rattle.std.specs.Prelude.{List, [], length, map, ⊤, if◌then◌else◌}
+use Rattle.std.specs.Iterator.{Yields, YieldsThen}
+use Rattle.seg_types.specs.declared.kinds.ScalarKind.{ScalarKind}
+use Rattle.seg_types.specs.declared.refusals.Refusal.{Refusal}
+use Rattle.seg_types.specs.declared.kinds.Kind.TheVariants.{Scalar}
+use Rattle.seg_types.specs.declared.refusals.Refusal.TheVariants.{NoSpace, OutOfRange, ReadOnly, WrongKind}
+use Rattle.seg_types.specs.Kinds.{same_kind}
+use Rattle.seg_types.specs.Names.{Key}
+use Rattle.seg_types.specs.Commands.{ConstructIt}
+use Rattle.segment_manager.specs.declared.objects.targets.Object.{Object as Located}
+use Rattle.segment_manager.specs.Directory.{Directory, object_at}
+use Rattle.segment_manager.specs.objects.Located.{IsLocated}
+use Rattle.segment_manager.specs.State.{IsStep, StandsFor, State, handle_answer}
+use Rattle.segment_manager.specs.Step.{is_read_only}
+
+-- Too few items came, or it is refused before one is taken.
+abbrev pub TakesUntil : {S A : Type 0} → (S → Option A → S → Type 0) → ℕ → S → List A → S → Refusal → Type 0
+TakesUntil gives count before xs after OutOfRange = YieldsThen gives before xs None after × (length xs < count)
+TakesUntil gives count before xs after why = (xs ≡ []) × (after ≡ before)
+
+-- Nothing changed, but where blocks were asked for, which were given back.
+abbrev pub KeepsUnasked : State → State → Refusal → Type 0
+KeepsUnasked old new NoSpace = ⊤
+KeepsUnasked old new OutOfRange = ⊤
+KeepsUnasked old new why = new ≡ old
+
+-- The call is the step of the items that it took, as whole numbers: as many as the count says, or fewer where no more
+-- came. It is refused for another reason before it takes one.
+pub record TakesItems {S A : Type 0} (gives : S → Option A → S → Type 0) (whole : A → ℤ) (old new : State) (key : Key)
+    (k : ScalarKind) (count : ℕ) (before after : S) (result : Result ℕ Refusal) : Type 0 where
+  pub items : List A
+  pub step : IsStep old new (ConstructIt key k count (map whole items)) (handle_answer result)
+  pub taken : MatchResult result (λ h. Yields gives before items after × (length items ≡ count))
+      (TakesUntil gives count before items after)
+  pub unchanged : IfErr result (KeepsUnasked old new)
+
+-- ---- found, or made of items
+
+-- what is answered of an object that is there: its handle and how many scalars it has, where it is of the kind
+abbrev pub found_as : ScalarKind → Located → Result (ℕ × ℕ) Refusal
+found_as k o = if same_kind (Scalar k) o.kind then Ok (o.handle, o.count) else Err WrongKind
+
+abbrev pub handle_in : Result (ℕ × ℕ) Refusal → Result ℕ Refusal
+handle_in (Ok (h, n)) = Ok h
+handle_in (Err why) = Err why
+
+-- Nothing changes, and no item is taken.
+pub record StaysUntaken {S : Type 0} (old new : State) (before after : S) : Type 0 where
+  pub segment : new ≡ old
+  pub items : after ≡ before
+
+-- the segment is open for reading
+pub record IsOnlyRead {S : Type 0} (old new : State) (before after : S) (result : Result (ℕ × ℕ) Refusal) : Type 0 where
+  pub reading : is_read_only old.mode ≡ true
+  pub is : result ≡ Err ReadOnly
+  pub stays : StaysUntaken old new before after
+
+-- an object has the key
+pub record IsThere {S : Type 0} (old new : State) (key : Key) (k : ScalarKind) (before after : S)
+    (result : Result (ℕ × ℕ) Refusal) : Type 0 where
+  pub writing : is_read_only old.mode ≡ false
+  pub object : Located
+  pub located : IsLocated old key object
+  pub is : result ≡ found_as k object
+  pub stays : StaysUntaken old new before after
+
+-- none has, and one is made of items
+pub record IsTakenFrom {S A : Type 0} (gives : S → Option A → S → Type 0) (whole : A → ℤ) (old new : State) (key : Key)
+    (k : ScalarKind) (count : ℕ) (before after : S) (result : Result (ℕ × ℕ) Refusal) : Type 0 where
+  pub writing : is_read_only old.mode ≡ false
+  pub missing : (d : Directory) → StandsFor old.cut.bytes d → object_at d key ≡ None
+  pub takes : TakesItems gives whole old new key k count before after (handle_in result)
+  pub counted : IfOk result (λ (h, n). n ≡ count)
+
+abbrev pub FindsOrTakes : {S A : Type 0} → (S → Option A → S → Type 0) → (A → ℤ) → State → State → Key → ScalarKind → ℕ
+    → S → S → Result (ℕ × ℕ) Refusal → Type 0
+FindsOrTakes gives whole old new key k count before after result =
+    IsOnlyRead old new before after result
+    ⊎ (IsThere old new key k before after result ⊎ IsTakenFrom gives whole old new key k count before after result)

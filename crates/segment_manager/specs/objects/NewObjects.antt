@@ -1,0 +1,67 @@
+-- How an object comes to be: its blocks are taken into use, they are written, and then an entry leads to it.
+use Rattle.std.specs.Prelude.{◌≡◌, ℕ, ◌≤◌, ◌⊎◌, Option, None, Result, MatchResult, List, [], IsTrue, ⊤}
+use Rattle.raw_region.specs.Format.{current}
+use Rattle.raw_region.specs.Memory.{Cut}
+use Rattle.block_tags.specs.declared.tile.Role.TheVariants.{Object as ObjectRole, Index as IndexRole}
+use Rattle.best_fit.specs.Fit.{place}
+use Rattle.best_fit.specs.Heap.{IsAllocated, Keeps, LaysOut, live_of}
+use Rattle.seg_types.specs.declared.kinds.ScalarKind.{ScalarKind}
+use Rattle.seg_types.specs.declared.kinds.Kind.{Kind}
+use Rattle.seg_types.specs.declared.kinds.Kind.TheVariants.{Scalar}
+use Rattle.seg_types.specs.Kinds.{code_of}
+use Rattle.seg_types.specs.Names as names
+use Rattle.seg_types.specs.Names.{is_name}
+use Rattle.seg_index.specs.declared.index.Index.{Index}
+use Rattle.seg_index.specs.declared.index.Index.TheVariants.{Named, Unique}
+use Rattle.seg_index.specs.declared.keys.Key.{Key}
+use Rattle.seg_index.specs.declared.keys.Key.TheVariants.{Name, Code}
+use Rattle.seg_index.specs.Growth.{IsGrowth, grown_bytes}
+use Rattle.seg_index.specs.Held.{capacity_at, entry_count}
+use Rattle.segment_manager.specs.declared.blocks.requesting.Requested.{Requested}
+
+-- ---- requests
+
+-- what the index grows into where it is full, and the block of the object, with n bytes
+pub record IsRequested (old new : Cut) (at n : ℕ) (growth : Option ℕ) (h : ℕ) : Type 0 where
+  pub between : Cut
+  pub grows : IsGrowth old between at growth
+  pub takes : IsAllocated current between new n ObjectRole h
+
+-- the index is full and finds no block; or the object finds none
+abbrev pub FindsNone : Cut → ℕ → ℕ → Type 0
+FindsNone old at n =
+    ((capacity_at old at ≤ entry_count old at) × (place (live_of old.bytes) (grown_bytes old at) IndexRole ≡ None))
+    ⊎ ((growth : Option ℕ) × (between : Cut) × IsGrowth old between at growth
+    × (place (live_of between.bytes) n ObjectRole ≡ None))
+
+-- the same blocks are in use as before, and nothing in them changed
+pub record IsRestored (old new : Cut) : Type 0 where
+  pub laid : LaysOut current new.bytes (live_of old.bytes)
+  pub keeps : Keeps old new (live_of old.bytes).extents
+
+pub record IsUnmet (old new : Cut) (at n : ℕ) : Type 0 where
+  pub restored : IsRestored old new
+  pub none : FindsNone old at n
+
+abbrev pub Requests : {E : Type 0} → Cut → Cut → ℕ → ℕ → Result Requested E → Type 0
+Requests old new at n result =
+    MatchResult result (λ r. IsRequested old new at n r.growth.block r.handle) (λ e. IsUnmet old new at n)
+
+-- ---- keys of new objects
+
+-- under which key an object of a kind gets its entry: by its name, or as the only one of its kind
+abbrev pub IsNewKeyOf : Index → Key → names.Key → List ℕ → Kind → Type 0
+IsNewKeyOf Named (Name s) (names.ByName n) name kind = (s.now ≡ n) × (name ≡ n) × IsTrue (is_name current n)
+IsNewKeyOf Unique (Code c) (names.ByKind u) name kind = (c ≡ code_of u) × (name ≡ []) × (u ≡ kind)
+IsNewKeyOf i e key name kind = ⊥
+
+-- a key that is a kind is this kind, and none is a handle
+abbrev pub IsOfKind : names.Key → Kind → Type 0
+IsOfKind (names.ByName name) kind = ⊤
+IsOfKind (names.ByKind u) kind = u ≡ kind
+IsOfKind (names.ByHandle h) kind = ⊥
+IsOfKind names.NoKey kind = ⊤
+
+-- the same of numbers
+abbrev pub IsOfItsKind : names.Key → ScalarKind → Type 0
+IsOfItsKind key k = IsOfKind key (Scalar k)

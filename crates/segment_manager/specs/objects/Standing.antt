@@ -1,0 +1,74 @@
+-- An object in its block, as calls on a heap see it: what its head says, and its elements.
+use Rattle.std.specs.Prelude.{◌≡◌, ℕ, ◌+◌, ◌*◌, List, length, replicate, flat_map, IsTrue, Some, None, Result, Ok}
+use Rattle.std.specs.Prelude.{Err, if◌then◌else◌, nat_lt}
+use Rattle.raw_region.specs.Format.{current}
+use Rattle.raw_region.specs.Memory.{Memory, bytes_of, word_at, Has}
+use Rattle.best_fit.specs.Extents.{handle}
+use Rattle.best_fit.specs.Heap.{live_of, has_room}
+use Rattle.seg_types.specs.declared.kinds.ScalarKind.{ScalarKind}
+use Rattle.seg_types.specs.declared.kinds.Kind.{Kind}
+use Rattle.seg_types.specs.declared.kinds.Kind.TheVariants.{Scalar}
+use Rattle.seg_types.specs.declared.kinds.Class.{Class}
+use Rattle.seg_types.specs.declared.refusals.Refusal.{Refusal}
+use Rattle.seg_types.specs.declared.refusals.Refusal.TheVariants.{NotFound, WrongKind, OutOfRange}
+use Rattle.seg_types.specs.Kinds.{class_code, code_of, same_kind, size_of}
+use Rattle.seg_types.specs.Names.{Key}
+use Rattle.segment_manager.specs.declared.objects.head.Head.{Head}
+use Rattle.seg_vector.specs.declared.places.Place.{Place}
+use Rattle.segment_manager.specs.Layout.{name_class_at, head_len}
+use Rattle.segment_manager.specs.Directory.{Object, Directory, object_at, count_of, is_object, kind_of, object_len}
+use Rattle.segment_manager.specs.Directory.{padded}
+use Rattle.segment_manager.specs.Denotes.{IsObjectAt, padded_name, two_halves}
+
+-- the object stands in the block of a handle, which has the room for it
+pub record StandsAt (b : List ℕ) (h : ℕ) (o : Object) : Type 0 where
+  pub at : h ≡ handle o.extent
+  pub good : IsTrue (is_object current o)
+  pub room : IsTrue (has_room (live_of b) h (object_len o.name o.value))
+  pub said : IsObjectAt (bytes_of b) o
+
+-- some object does
+abbrev pub HasObject : List ℕ → ℕ → Type 0
+HasObject b h = (o : Object) × StandsAt b h o
+
+-- what is read of a head is what it says of the object
+pub record IsHeadOf (o : Object) (head : Head) : Type 0 where
+  pub kind : head.kind ≡ kind_of o.value
+  pub count : head.count ≡ count_of o.value
+  pub name_len : head.name_len ≡ length o.name
+  pub class : head.class ≡ o.class
+
+-- the two words of a head, and the name with its zeros
+pub record IsHeadAt (m : Memory) (h : ℕ) (kind : Kind) (count : ℕ) (class : Class) (bytes : List ℕ) : Type 0 where
+  pub kind_count : word_at m h ≡ two_halves (code_of kind) count
+  pub name_class : word_at m (h + name_class_at) ≡ two_halves (length bytes) (class_code class)
+  pub name : Has m (h + head_len) (padded_name bytes)
+
+-- the same bytes, n times
+abbrev pub repeated : ℕ → List ℕ → List ℕ
+repeated n bytes = flat_map (λ each. each) (replicate n bytes)
+
+-- the bytes of the payload of an object under a name, whose value takes so many
+abbrev pub room_for : List ℕ → ℕ → ℕ
+room_for name body = head_len + padded (length name) + body
+
+-- where the element of an index stands, from the handle on
+abbrev pub element_at : ScalarKind → List ℕ → ℕ → ℕ
+element_at k name i = head_len + padded (length name) + size_of k * i
+
+-- the same for an object, if it has such an element
+abbrev pub place_in : Object → ScalarKind → ℕ → Result ℕ Refusal
+place_in o k i =
+    if same_kind (Scalar k) (kind_of o.value) then
+    (if nat_lt i (count_of o.value) then Ok (element_at k o.name i) else Err OutOfRange) else Err WrongKind
+
+-- the handle of an object of a kind, and how many elements it has
+abbrev pub pair_of_kind : Object → Kind → Result (ℕ × ℕ) Refusal
+pair_of_kind o kind = if same_kind kind (kind_of o.value) then Ok (handle o.extent, count_of o.value) else Err WrongKind
+
+-- where the element of an index stands in the object of a key, or why there is none
+abbrev pub place_at : Directory → Key → ScalarKind → ℕ → Result Place Refusal
+place_at d key k i = elim (object_at d key) [
+  | None ↦ Err NotFound
+  | Some o ↦ elim (place_in o k i) [ Ok at ↦ Ok (record { handle = handle o.extent; at = at }) | Err r ↦ Err r ]
+]

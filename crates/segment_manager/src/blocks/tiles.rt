@@ -1,0 +1,125 @@
+//! The blocks and gaps of a segment.
+ghost use Rattle.std.specs.Prelude.{◌≡◌, ◌+◌, ℕ, Some, OnErr, OnOk, length, option_map, slice_get};
+ghost use Rattle.raw_region.specs.{Format.current, Memory.bytes_of};
+ghost use Rattle.block_tags.specs.Tiles.{tiles_of};
+ghost use Rattle.best_fit.specs.{Extents.spans, FreeTree.span, Heap.IsTileOf, Heap.IsZeroed};
+ghost use Rattle.seg_types.specs.Commands.{AllDeallocated, Sanity, ZeroFree};
+ghost use Rattle.segment_manager.specs.{Answers.Truth, Directory.live, indexes.Iterating.is_own_span};
+ghost use Rattle.segment_manager.specs.Calls.{HasZeroGaps, IsTileOfIndex, as_span};
+ghost use Rattle.segment_manager.specs.State.{Answers, IsReply, IsStep, done_answer};
+
+use crate::segment::Segment;
+use block_tags::{Role, Tile};
+use seg_types::Refusal;
+
+/// A block in use or a gap.
+#[derive(Clone, Copy, Debug, PartialEq, Eq)]
+pub struct Span {
+    /// Where its tag begins, in bytes from the segment's start: a multiple of 16.
+    pub offset: u64,
+    /// The number of bytes with the tag: a multiple of 16, at least 32.
+    pub len: u64,
+    /// What the block is for, or nothing where it is a gap.
+    pub use_of: Option<Role>,
+}
+
+impl Span {
+    /// The block or gap of a tile.
+    pub fn of(tile: Tile) -> Span
+        ensures { as_span result ≡ span tile }
+    {
+        Span {
+            offset: tile.offset,
+            len: tile.len,
+            use_of: tile.use_of,
+        }
+    }
+
+    /// Whether it is the block of an object.
+    pub fn is_object(&self) -> bool
+        ensures { result ≡ is_own_span (as_span self.now) }
+    {
+        match self.use_of {
+            None => false,
+            Some(role) => role == Role::Object,
+        }
+    }
+}
+
+impl Segment {
+    /// The first block or gap, or nothing where there is none, as in a segment of 144 bytes.
+    ///
+    /// Example: `let first = segment.first_tile()`.
+    pub fn first_tile(&self) -> Option<Tile>
+        ensures { IsTileOfIndex self.now 0 result }
+    {
+        self.heap.first_tile()
+    }
+
+    /// The block or gap with `index` others before it, or nothing where there are no more. It is looked for from the
+    /// first one on.
+    ///
+    /// Example: `let span = segment.tile(0)`.
+    pub fn tile(&self, index: u64) -> Option<Span>
+        ensures { Answers self.now (λ d. slice_get (spans (live d)) index) (option_map as_span result) }
+    {
+        let tile = self.heap.tile(index)?;
+        Some(Span::of(tile))
+    }
+
+    /// Whether the segment is whole, as each segment is.
+    ///
+    /// Example: `if segment.sanity()`.
+    pub fn sanity(&self) -> bool
+        ensures { IsReply self.now Sanity (Truth result) }
+    {
+        self.heap.sanity()
+    }
+
+    /// Whether no block is in use, index blocks included.
+    ///
+    /// Example: `if segment.all_deallocated()`.
+    pub fn all_deallocated(&self) -> bool
+        ensures { IsReply self.now AllDeallocated (Truth result) }
+    {
+        self.heap.live_count() == 0
+    }
+
+    /// Makes the free bytes 0 that are no part of a tag or a link. No other byte changes.
+    ///
+    /// Example: `segment.zero_free()?`.
+    ///
+    /// # Errors
+    ///
+    /// `ReadOnly` where the segment is open for reading. Nothing changes.
+    pub fn zero_free(&mut self) -> Result<(), Refusal>
+        ensures step { IsStep self.old self.new ZeroFree (done_answer result) }
+        ensures zeros { OnOk result (HasZeroGaps self.new) }
+        ensures zeroed { OnOk result (IsZeroed current self.old.cut self.new.cut) }
+        ensures refused { OnErr result (self.new ≡ self.old) }
+    {
+        if self.is_read_only() {
+            return Err(Refusal::ReadOnly);
+        }
+        self.heap.zero_free();
+        Ok(())
+    }
+}
+
+/// The block or gap behind one of the segment's, or nothing where that is the last. A walk over all of them takes one
+/// step for each.
+///
+/// Example: `let next = next_tile(&segment, tile)`.
+///
+/// # Conditions
+///
+/// The block or gap is one of the segment's: `first_tile` or this call answered it, and nothing changed since.
+/// `tiles` goes over all of them without a condition.
+pub fn next_tile(segment: &Segment, tile: Tile) -> Option<Tile>
+    requires { IsTileOf segment.now.cut.bytes tile }
+    ensures { (i : ℕ)
+        → slice_get (tiles_of (bytes_of segment.now.cut.bytes) (length segment.now.cut.bytes)) i ≡ Some tile
+        → IsTileOfIndex segment.now (i + 1) result }
+{
+    segment.heap.next_tile(tile)
+}

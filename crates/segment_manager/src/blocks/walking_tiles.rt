@@ -1,0 +1,65 @@
+//! The blocks and gaps of a segment, one after another.
+ghost use Rattle.std.specs.{Prelude.◌≡◌, Prelude.◌-◌, Prelude.length, Iterator.at_most};
+ghost use Rattle.raw_region.specs.Memory.{bytes_of};
+ghost use Rattle.block_tags.specs.Tiles.{tiles_of};
+ghost use Rattle.segment_manager.specs.indexes.Iterating.{GoesOnTiles};
+
+use crate::blocks::tiles::{Span, next_tile};
+use crate::segment::Segment;
+use block_tags::Tile;
+use std::marker::Model;
+
+/// The blocks and gaps of a segment, one after another. A walk over all of them takes one step for each.
+///
+/// Contracts see the segment, and how many blocks and gaps came.
+#[derive(Drop)]
+pub struct Tiles<'a> {
+    segment: &'a Segment,
+    tile: Option<Tile>,
+    at: u64,
+}
+
+impl<'a> Model for Tiles<'a> {
+    ghost use Rattle.segment_manager.specs.Calls.{IsTileOfIndex};
+    ghost use Rattle.segment_manager.specs.indexes.Iterating.{TileWalk};
+
+    ghost Value = { TileWalk };
+
+    ghost view = { λ w. record { segment = w.segment.now; at = w.at } };
+
+    ghost invariant = { λ w. IsTileOfIndex w.segment.now w.at w.tile };
+}
+
+impl<'a> Iterator for Tiles<'a> {
+    type Item = Span;
+
+    ghost next_gives = { GoesOnTiles };
+
+    ghost remaining = { λ w. at_most
+        (length (tiles_of (bytes_of w.segment.cut.bytes) (length w.segment.cut.bytes)) - w.at) };
+
+    fn next(&mut self) -> Option<Span> {
+        let tile = self.tile?;
+        let segment = self.segment;
+        // No segment has so many tiles that 64 bits do not count them, which its bytes say.
+        let _ = segment.as_bytes();
+        self.at += 1;
+        self.tile = next_tile(segment, tile);
+        Some(Span::of(tile))
+    }
+}
+
+impl Segment {
+    /// The blocks and gaps, one after another.
+    ///
+    /// Example: `for span in segment.tiles()`.
+    pub fn tiles(&self) -> Tiles<'_>
+        ensures { result ≡ record { segment = self.now; at = 0 } }
+    {
+        Tiles {
+            segment: self,
+            tile: self.first_tile(),
+            at: 0,
+        }
+    }
+}

@@ -1,0 +1,113 @@
+//! The elements of objects whose kind is not known before: of scalars, of vectors of scalars, and of strings.
+ghost use Rattle.std.specs.Prelude.{◌≡◌, Ok, OnErr};
+ghost use Rattle.seg_types.specs.declared.kinds.Kind.TheVariants.{Vector as VectorOf};
+ghost use Rattle.seg_types.specs.Commands.{Get, Set, literal_of};
+ghost use Rattle.seg_types.specs.Values.{kind_of_scalar, value_of_scalar};
+ghost use Rattle.segment_manager.specs.Calls.{elements_at, scalar_reply};
+ghost use Rattle.segment_manager.specs.State.{Answers, IsReplyOfKind, IsStep, IsStepOfKind, done_answer, scalar_answer};
+
+use crate::objects::targets::{Target, locate};
+use crate::segment::Segment;
+use seg_types::{Kind, Refusal, ScalarKind, ScalarValue, by_kind, by_value};
+use seg_vector::SegString;
+
+impl Segment {
+    /// The element at `index` in the object of a key: of scalars, of a vector of scalars, or of a string, which has
+    /// bytes.
+    ///
+    /// Example: `let value: ScalarValue = segment.get_any(&key, 0)?`.
+    ///
+    /// # Errors
+    ///
+    /// `NotFound` where no object has the key, `WrongKind` where its elements are no scalars, `OutOfRange` where it has
+    /// none there.
+    pub fn get_any<O: Target>(&self, key: &O, index: u64) -> Result<ScalarValue, Refusal>
+        requires { O.stands key.now self.now }
+        ensures { Answers self.now (λ d. scalar_reply self.now.mode d (O.key key.now) (Get (O.key key.now) index))
+            (scalar_answer result) }
+    {
+        let object = locate(self, key)?;
+        match object.kind {
+            Kind::Scalar(kind) => self.get_value(&object, kind, index),
+            Kind::Vector(kind) => self.get_in_vector(&object, kind, index),
+            Kind::String => {
+                let place = self.find_container(&object, Kind::String)?;
+                let byte = SegString { place }.get(&self.heap, index)?;
+                Ok(ScalarValue::U8(byte))
+            }
+            _ => Err(Refusal::WrongKind),
+        }
+    }
+
+    /// The same of a vector of scalars of a kind.
+    fn get_in_vector<O: Target>(
+        &self,
+        key: &O,
+        kind: ScalarKind,
+        index: u64,
+    ) -> Result<ScalarValue, Refusal>
+        requires { O.stands key.now self.now }
+        ensures { IsReplyOfKind self.now (O.key key.now) (VectorOf kind)
+            (Get (O.key key.now) index) (scalar_answer result) }
+    {
+        macro_rules! got {
+            ($type:ty, $kind:ident) => {
+                ScalarValue::$kind(self.vec_get(key, index)?)
+            };
+        }
+        Ok(by_kind!(kind, got))
+    }
+
+    /// `vec_set` of a value's kind.
+    fn set_in_vector<O: Target>(
+        &mut self,
+        key: &O,
+        index: u64,
+        value: ScalarValue,
+    ) -> Result<(), Refusal>
+        requires { O.stands key.now self.old }
+        ensures step { IsStepOfKind self.old self.new (O.key key.now) (VectorOf (kind_of_scalar value))
+            (Set (O.key key.now) index (literal_of (kind_of_scalar value) (value_of_scalar value)))
+            (done_answer result) }
+        ensures refused { OnErr result (self.new ≡ self.old) }
+    {
+        by_value!(value, number => self.vec_set(key, index, number))
+    }
+}
+
+/// Makes a value the element at `index` in the object of a key, whose elements are of the value's kind: of scalars, of
+/// a vector of scalars, or of a string.
+///
+/// Example: `set_any(&mut segment, &key, 0, ScalarValue::I64(640))?`.
+///
+/// # Conditions
+///
+/// The object's elements are of the value's kind, as `kind_of` or `locate` say. `set`, `vec_set` and `string_set`
+/// take a type, refuse every other object, and have no condition.
+///
+/// # Errors
+///
+/// `ReadOnly` where the segment is open for reading, and else `OutOfRange` where it has no element there. Nothing
+/// changes.
+pub fn set_any<O: Target>(
+    segment: &mut Segment,
+    key: &O,
+    index: u64,
+    value: ScalarValue,
+) -> Result<(), Refusal>
+    requires target { O.stands key.now segment.old }
+    requires of_kind { Answers segment.old (λ d. elements_at d (O.key key.now)) (Ok (kind_of_scalar value)) }
+    ensures step { IsStep segment.old segment.new
+        (Set (O.key key.now) index (literal_of (kind_of_scalar value) (value_of_scalar value))) (done_answer result) }
+    ensures refused { OnErr result (segment.new ≡ segment.old) }
+{
+    let object = locate(segment, key)?;
+    match object.kind {
+        Kind::String => match value {
+            ScalarValue::U8(byte) => segment.string_set(&object, index, byte),
+            _ => Err(Refusal::WrongKind),
+        },
+        Kind::Vector(_) => segment.set_in_vector(&object, index, value),
+        _ => segment.set_value(&object, index, value),
+    }
+}

@@ -1,0 +1,91 @@
+//! The pairs of objects that are maps whose kinds are not known before.
+ghost use Rattle.std.specs.Prelude.{◌≡◌, OnErr, option_map};
+ghost use Rattle.seg_types.specs.{declared.kinds.Kind.TheVariants.Map as MapOf, Commands.Lookup, Commands.Put};
+ghost use Rattle.seg_types.specs.{Commands.Remove, Commands.literal_of, Values.kind_of_scalar, Values.value_of_scalar};
+ghost use Rattle.segment_manager.specs.{Keeping.KeepsWhere, Keeping.LacksPair, containers.Maps.any_value_answer};
+ghost use Rattle.segment_manager.specs.State.{IsReplyOfKind, IsStepOfKind, truth_answer};
+
+use crate::objects::targets::Target;
+use crate::segment::Segment;
+use seg_types::{Refusal, ScalarKind, ScalarValue, by_kind, by_value};
+
+impl Segment {
+    /// The value of a key of the map of a key, a map with keys of the kind of `at` and values of a kind.
+    ///
+    /// Example: `segment.map_get_any(&key, ScalarValue::I32(2), ScalarKind::I64)?`.
+    ///
+    /// # Errors
+    ///
+    /// `NotFound` where no object has the key, `WrongKind` where it is of another kind.
+    pub fn map_get_any<O: Target>(
+        &self,
+        key: &O,
+        at: ScalarValue,
+        values: ScalarKind,
+    ) -> Result<Option<ScalarValue>, Refusal>
+        requires { O.stands key.now self.now }
+        ensures { IsReplyOfKind self.now (O.key key.now) (MapOf (kind_of_scalar at) values)
+            (Lookup (O.key key.now) (literal_of (kind_of_scalar at) (value_of_scalar at))) (any_value_answer result) }
+    {
+        macro_rules! got {
+            ($type:ty, $kind:ident) => {
+                by_value!(at, at => self.map_get::<_, $type, O>(key, at)?.map(ScalarValue::$kind))
+            };
+        }
+        Ok(by_kind!(values, got))
+    }
+
+    /// Puts the value of a key into the map of a key, a map of the two values' kinds, and answers whether the key is
+    /// new.
+    ///
+    /// Example: `segment.map_put_any(&key, ScalarValue::I32(2), ScalarValue::I64(1999))?`.
+    ///
+    /// # Errors
+    ///
+    /// `ReadOnly` where the segment is open for reading, and else `NotFound` where no object has the key, `WrongKind`
+    /// where it is of another kind, `NoSpace` where the key is new and no gap is long enough for its block. Nothing
+    /// changes.
+    pub fn map_put_any<O: Target>(
+        &mut self,
+        key: &O,
+        at: ScalarValue,
+        value: ScalarValue,
+    ) -> Result<bool, Refusal>
+        requires { O.stands key.now self.old }
+        ensures step { IsStepOfKind self.old self.new (O.key key.now) (MapOf (kind_of_scalar at) (kind_of_scalar value))
+            (Put (O.key key.now) (literal_of (kind_of_scalar at) (value_of_scalar at))
+            (literal_of (kind_of_scalar value) (value_of_scalar value))) (truth_answer result) }
+        ensures refused { OnErr result (self.new ≡ self.old) }
+    {
+        by_value!(at, at => by_value!(value, value => self.map_put(key, at, value)))
+    }
+
+    /// Erases a key from the map of a key, a map with keys of its kind and values of a kind, and answers whether it was
+    /// there.
+    ///
+    /// Example: `segment.map_erase_any(&key, ScalarValue::I32(2), ScalarKind::I64)?`.
+    ///
+    /// # Errors
+    ///
+    /// `ReadOnly` where the segment is open for reading, and else `NotFound` where no object has the key, `WrongKind`
+    /// where it is of another kind. Nothing changes.
+    pub fn map_erase_any<O: Target>(
+        &mut self,
+        key: &O,
+        at: ScalarValue,
+        values: ScalarKind,
+    ) -> Result<bool, Refusal>
+        requires { O.stands key.now self.old }
+        ensures step { IsStepOfKind self.old self.new (O.key key.now) (MapOf (kind_of_scalar at) values)
+            (Remove (O.key key.now) (literal_of (kind_of_scalar at) (value_of_scalar at))) (truth_answer result) }
+        ensures refused { OnErr result (self.new ≡ self.old) }
+        ensures absent { KeepsWhere self.old self.new (LacksPair (O.key key.now) (value_of_scalar at)) }
+    {
+        macro_rules! erased {
+            ($type:ty, $kind:ident) => {
+                by_value!(at, at => self.map_erase::<_, $type, O>(key, at))
+            };
+        }
+        by_kind!(values, erased)
+    }
+}

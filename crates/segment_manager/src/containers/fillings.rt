@@ -1,0 +1,205 @@
+//! What fills new objects: numbers, or a container with its elements in blocks of its own.
+ghost use Rattle.std.specs.Prelude.{◌≡◌, ◌+◌, ◌%◌, ◌≤◌, ⊤, IsTrue, map, replicate};
+ghost use Rattle.raw_region.specs.Format.{current};
+ghost use Rattle.best_fit.specs.Heap.{IsHeap, has_room, live_of};
+ghost use Rattle.seg_types.specs.Commands.{Bytes, Content, Elements, NoPairs, Numbers, Strings};
+ghost use Rattle.segment_manager.specs.{Directory.value_len, Plan.bare};
+ghost use Rattle.segment_manager.specs.containers.Filled.{IsShapeOf, MakesValue, container_shape, numbers_shape};
+
+use crate::containers::maps::map_place;
+use crate::containers::text_lists::{judge, judge_all};
+use crate::objects::element::write_elements;
+use best_fit::Heap;
+use seg_map::SegMap;
+use seg_types::{Kind, Refusal, Scalar, ScalarKind};
+use seg_vector::{Place, SegString, SegTexts, SegVec};
+
+/// The longest spelling of a scalar, in bytes.
+pub(crate) const LONGEST: usize = 8;
+
+/// The most elements of an object of scalars.
+pub(crate) const MOST: u32 = 1_048_576;
+
+/// The bytes of a container in its object: a link to its storage, its length and its capacity.
+const CONTAINER_LEN: u64 = 24;
+
+/// What is known of an object before a block is asked for: its kind, how many elements it has, and the bytes of its
+/// value in its own block.
+#[derive(Clone, Copy)]
+pub(crate) struct Shape {
+    pub(crate) kind: Kind,
+    pub(crate) count: u32,
+    pub(crate) len: u64,
+}
+
+/// What fills a new object.
+pub(crate) trait Filling {
+    // What it makes of the object, as commands say it.
+    ghost content: { Self → Content };
+
+    // Whether an object can hold it.
+    ghost stands: { Self → Type 0 };
+
+    /// The object that it fills.
+    fn shape(&self) -> Shape
+        requires { stands self.now }
+        ensures { IsShapeOf (content self.now) result };
+
+    /// Makes the value at a place in the block of the object, whatever bytes were there.
+    ///
+    /// # Errors
+    ///
+    /// `NoSpace` where no gap is long enough for its elements. What was taken for them is given back.
+    fn fill(&self, heap: &mut Heap, place: Place) -> Result<(), Refusal>
+        requires stands { stands self.now }
+        requires heap { IsHeap current heap.old.bytes }
+        requires aligned { place.at % 8 ≡ 0 }
+        requires room { IsTrue
+            (has_room (live_of heap.old.bytes) place.handle (place.at + value_len (bare (content self.now)))) }
+        ensures { MakesValue (content self.now) heap.old heap.new place result };
+}
+
+/// A value, so many times.
+#[derive(Drop)]
+pub(crate) struct NewNumbers<T> {
+    pub(crate) count: u32,
+    pub(crate) value: T,
+}
+
+impl<T: Scalar> Filling for NewNumbers<T> {
+    ghost content = { λ f. Numbers T.kind (replicate f.count (T.whole f.value)) };
+
+    ghost stands = { λ f. (1 ≤ f.count) × (f.count ≤ 1048576) };
+
+    #[inline(always)]
+    fn shape(&self) -> Shape {
+        numbers(T::kind(), self.count)
+    }
+
+    #[inline(always)]
+    fn fill(&self, heap: &mut Heap, place: Place) -> Result<(), Refusal> {
+        let mut bytes = [0; LONGEST];
+        let spelling = &mut bytes[..T::SIZE as usize];
+        self.value.write(spelling);
+        write_elements(heap, place.handle, place.at, self.count, spelling);
+        Ok(())
+    }
+}
+
+/// The values of a vector.
+#[derive(Drop)]
+pub(crate) struct NewVector<'a, T> {
+    pub(crate) values: &'a [T],
+}
+
+impl<T: Scalar> Filling for NewVector<'_, T> {
+    ghost content = { λ f. Elements T.kind (map T.whole f.values.now) };
+
+    ghost stands = { λ f. ⊤ };
+
+    #[inline(always)]
+    fn shape(&self) -> Shape {
+        container(Kind::Vector(T::kind()))
+    }
+
+    #[inline(always)]
+    fn fill(&self, heap: &mut Heap, place: Place) -> Result<(), Refusal> {
+        SegVec::<T>::new(heap, place).assign(heap, self.values)
+    }
+}
+
+/// The bytes of a string.
+#[derive(Drop)]
+pub(crate) struct NewString<'a> {
+    pub(crate) bytes: &'a [u8],
+}
+
+impl Filling for NewString<'_> {
+    ghost content = { λ f. Bytes f.bytes.now };
+
+    ghost stands = { λ f. ⊤ };
+
+    #[inline(always)]
+    fn shape(&self) -> Shape {
+        container(Kind::String)
+    }
+
+    #[inline(always)]
+    fn fill(&self, heap: &mut Heap, place: Place) -> Result<(), Refusal> {
+        judge(self.bytes);
+        SegString::new(heap, place).assign(heap, self.bytes)
+    }
+}
+
+/// The texts of a vector of strings.
+#[derive(Drop)]
+pub(crate) struct NewTexts<'a> {
+    pub(crate) texts: &'a [&'a [u8]],
+}
+
+impl Filling for NewTexts<'_> {
+    ghost content = { λ f. Strings (map (λ text. text.now) f.texts.now) };
+
+    ghost stands = { λ f. ⊤ };
+
+    #[inline(always)]
+    fn shape(&self) -> Shape {
+        container(Kind::Strings)
+    }
+
+    #[inline(always)]
+    fn fill(&self, heap: &mut Heap, place: Place) -> Result<(), Refusal> {
+        judge_all(self.texts);
+        SegTexts::new(heap, place).assign(heap, self.texts)
+    }
+}
+
+/// A map of two kinds without a pair.
+#[derive(Drop)]
+pub(crate) struct NewMap {
+    pub(crate) keys: ScalarKind,
+    pub(crate) values: ScalarKind,
+}
+
+impl Filling for NewMap {
+    ghost content = { λ f. NoPairs f.keys f.values };
+
+    ghost stands = { λ f. ⊤ };
+
+    #[inline(always)]
+    fn shape(&self) -> Shape {
+        container(Kind::Map(self.keys, self.values))
+    }
+
+    // Without a pair it is a map of any types.
+    #[inline(always)]
+    fn fill(&self, heap: &mut Heap, place: Place) -> Result<(), Refusal> {
+        SegMap::<u8, u8>::new(heap, map_place(place));
+        Ok(())
+    }
+}
+
+/// An object of `count` numbers of a kind.
+#[inline(always)]
+pub(crate) fn numbers(kind: ScalarKind, count: u32) -> Shape
+    requires { count ≤ 1048576 }
+    ensures { result ≡ numbers_shape kind count }
+{
+    Shape {
+        kind: Kind::Scalar(kind),
+        count,
+        len: kind.size() * u64::from(count),
+    }
+}
+
+/// An object that is a container of a kind.
+#[inline(always)]
+fn container(kind: Kind) -> Shape
+    ensures { result ≡ container_shape kind }
+{
+    Shape {
+        kind,
+        count: 1,
+        len: CONTAINER_LEN,
+    }
+}

@@ -1,0 +1,241 @@
+//! The pairs of objects that are maps, read and changed.
+ghost use Rattle.std.specs.Prelude.{◌≡◌, OnErr};
+ghost use Rattle.seg_types.specs.Commands.{Lookup, Put, Remove, literal_of};
+ghost use Rattle.seg_types.specs.declared.kinds.Kind.TheVariants.{Map as MapOf};
+ghost use Rattle.segment_manager.specs.containers.Maps.{map_at, pair_above, pair_at_end, pair_below, pair_from};
+ghost use Rattle.segment_manager.specs.containers.Maps.{pair_result};
+ghost use Rattle.segment_manager.specs.State.{Answers, IsReplyOfKind, IsStepOfKind, truth_answer};
+ghost use Rattle.segment_manager.specs.{containers.Maps.pair_up_to, containers.Maps.told_of_map};
+ghost use Rattle.segment_manager.specs.{containers.Maps.value_answer, containers.Walks.pair_past};
+ghost use Rattle.segment_manager.specs.Keeping.{KeepsWhere, LacksPair};
+
+use crate::containers::vectors::judge;
+use crate::objects::targets::Target;
+use crate::segment::Segment;
+use raw_region::Steps;
+use seg_map::{Place as MapPlace, SegMap};
+use seg_types::{Kind, Refusal, Scalar};
+use seg_vector::Place;
+
+impl Segment {
+    /// The value of a key of the map of a key, a map of the types.
+    ///
+    /// Example: `let price: Option<i64> = segment.map_get(&name, 2i32)?`.
+    ///
+    /// # Errors
+    ///
+    /// `NotFound` where no object has the key, `WrongKind` where it is of another kind.
+    pub fn map_get<K: Scalar, V: Scalar, O: Target>(
+        &self,
+        key: &O,
+        at: K,
+    ) -> Result<Option<V>, Refusal>
+        requires { O.stands key.now self.now }
+        ensures { IsReplyOfKind self.now (O.key key.now) (MapOf K.kind V.kind)
+            (Lookup (O.key key.now) (literal_of K.kind (K.whole at))) (value_answer V.kind V.whole result) }
+    {
+        judge(at);
+        let place = self.find_map::<K, V, O>(key)?;
+        Ok(SegMap::<K, V>::at(place).get(&self.heap, at, &mut Steps::new()))
+    }
+
+    /// The pair with the least key that is not below `from`, of the map of a key, a map of the types.
+    ///
+    /// Example: `let first: Option<(i32, i64)> = segment.map_first_from(&name, 2)?`.
+    ///
+    /// # Errors
+    ///
+    /// `NotFound` where no object has the key, `WrongKind` where it is of another kind.
+    pub fn map_first_from<K: Scalar, V: Scalar, O: Target>(
+        &self,
+        key: &O,
+        from: K,
+    ) -> Result<Option<(K, V)>, Refusal>
+        requires { O.stands key.now self.now }
+        ensures { Answers self.now (λ d. told_of_map d (O.key key.now) K.kind V.kind (pair_from (K.whole from)))
+            (pair_result K.whole V.whole result) }
+    {
+        self.pair_past(key, from, false)
+    }
+
+    /// The pair with the least key above `after`, of the map of a key, a map of the types.
+    ///
+    /// Example: `let next: Option<(i32, i64)> = segment.map_next_after(&name, 2)?`.
+    ///
+    /// # Errors
+    ///
+    /// `NotFound` where no object has the key, `WrongKind` where it is of another kind.
+    pub fn map_next_after<K: Scalar, V: Scalar, O: Target>(
+        &self,
+        key: &O,
+        after: K,
+    ) -> Result<Option<(K, V)>, Refusal>
+        requires { O.stands key.now self.now }
+        ensures { Answers self.now (λ d. told_of_map d (O.key key.now) K.kind V.kind (pair_above (K.whole after)))
+            (pair_result K.whole V.whole result) }
+    {
+        self.pair_past(key, after, true)
+    }
+
+    /// The pair with the least key that is above a bound, or not below it. It is inlined, so which of the two costs no
+    /// test.
+    #[inline(always)]
+    pub(crate) fn pair_past<K: Scalar, V: Scalar, O: Target>(
+        &self,
+        key: &O,
+        bound: K,
+        above: bool,
+    ) -> Result<Option<(K, V)>, Refusal>
+        requires { O.stands key.now self.now }
+        ensures { Answers self.now (λ d. told_of_map d (O.key key.now) K.kind V.kind (pair_past above (K.whole bound)))
+            (pair_result K.whole V.whole result) }
+    {
+        let place = self.find_map::<K, V, O>(key)?;
+        let map = SegMap::<K, V>::at(place);
+        if above {
+            Ok(map.next_after(&self.heap, bound, &mut Steps::new()))
+        } else {
+            Ok(map.first_from(&self.heap, bound, &mut Steps::new()))
+        }
+    }
+
+    /// The pair with the greatest key, of the map of a key, a map of the types; `None` where it has no pair.
+    ///
+    /// Example: `let last: Option<(i32, i64)> = segment.map_last(&name)?`.
+    ///
+    /// # Errors
+    ///
+    /// `NotFound` where no object has the key, `WrongKind` where it is of another kind.
+    pub fn map_last<K: Scalar, V: Scalar, O: Target>(
+        &self,
+        key: &O,
+    ) -> Result<Option<(K, V)>, Refusal>
+        requires { O.stands key.now self.now }
+        ensures { Answers self.now (λ d. told_of_map d (O.key key.now) K.kind V.kind pair_at_end)
+            (pair_result K.whole V.whole result) }
+    {
+        let place = self.find_map::<K, V, O>(key)?;
+        Ok(SegMap::<K, V>::at(place).last(&self.heap, &mut Steps::new()))
+    }
+
+    /// The pair with the greatest key that is not above `to`, of the map of a key, a map of the types.
+    ///
+    /// Example: `let last: Option<(i32, i64)> = segment.map_last_up_to(&name, 2)?`.
+    ///
+    /// # Errors
+    ///
+    /// `NotFound` where no object has the key, `WrongKind` where it is of another kind.
+    pub fn map_last_up_to<K: Scalar, V: Scalar, O: Target>(
+        &self,
+        key: &O,
+        to: K,
+    ) -> Result<Option<(K, V)>, Refusal>
+        requires { O.stands key.now self.now }
+        ensures { Answers self.now (λ d. told_of_map d (O.key key.now) K.kind V.kind (pair_up_to (K.whole to)))
+            (pair_result K.whole V.whole result) }
+    {
+        let place = self.find_map::<K, V, O>(key)?;
+        Ok(SegMap::<K, V>::at(place).last_up_to(&self.heap, to, &mut Steps::new()))
+    }
+
+    /// The pair with the greatest key below `before`, of the map of a key, a map of the types. So all pairs are read by
+    /// falling keys from `map_last` on, each in a walk from the root of the tree.
+    ///
+    /// Example: `let previous: Option<(i32, i64)> = segment.map_previous_before(&name, 2)?`.
+    ///
+    /// # Errors
+    ///
+    /// `NotFound` where no object has the key, `WrongKind` where it is of another kind.
+    pub fn map_previous_before<K: Scalar, V: Scalar, O: Target>(
+        &self,
+        key: &O,
+        before: K,
+    ) -> Result<Option<(K, V)>, Refusal>
+        requires { O.stands key.now self.now }
+        ensures { Answers self.now (λ d. told_of_map d (O.key key.now) K.kind V.kind (pair_below (K.whole before)))
+            (pair_result K.whole V.whole result) }
+    {
+        let place = self.find_map::<K, V, O>(key)?;
+        Ok(SegMap::<K, V>::at(place).previous_before(&self.heap, before, &mut Steps::new()))
+    }
+
+    /// Puts the value of a key into the map of a key, a map of the types, and answers whether the key is new. All other
+    /// pairs keep their blocks, and so does this one where the key is not new.
+    ///
+    /// Example: `let is_new = segment.map_put(&name, 2i32, 1999i64)?`.
+    ///
+    /// # Errors
+    ///
+    /// `ReadOnly` where the segment is open for reading, and else `NotFound` where no object has the key, `WrongKind`
+    /// where it is of another kind, `NoSpace` where the key is new and no gap is long enough for its block. Nothing
+    /// changes.
+    pub fn map_put<K: Scalar, V: Scalar, O: Target>(
+        &mut self,
+        key: &O,
+        at: K,
+        value: V,
+    ) -> Result<bool, Refusal>
+        requires { O.stands key.now self.old }
+        ensures step { IsStepOfKind self.old self.new (O.key key.now) (MapOf K.kind V.kind)
+            (Put (O.key key.now) (literal_of K.kind (K.whole at)) (literal_of V.kind (V.whole value)))
+            (truth_answer result) }
+        ensures refused { OnErr result (self.new ≡ self.old) }
+    {
+        if self.is_read_only() {
+            return Err(Refusal::ReadOnly);
+        }
+        judge(at);
+        judge(value);
+        let place = self.find_map::<K, V, O>(key)?;
+        match SegMap::<K, V>::at(place).put(&mut self.heap, at, value, &mut Steps::new()) {
+            Err(_) => Err(Refusal::NoSpace),
+            Ok(new) => Ok(new),
+        }
+    }
+
+    /// Erases a key from the map of a key, a map of the types, and answers whether it was there. Its block is given
+    /// back; all other pairs keep theirs.
+    ///
+    /// Example: `let was_there = segment.map_erase::<i32, i64, _>(&name, 2)?`.
+    ///
+    /// # Errors
+    ///
+    /// `ReadOnly` where the segment is open for reading, and else `NotFound` where no object has the key, `WrongKind`
+    /// where it is of another kind. Nothing changes.
+    pub fn map_erase<K: Scalar, V: Scalar, O: Target>(
+        &mut self,
+        key: &O,
+        at: K,
+    ) -> Result<bool, Refusal>
+        requires { O.stands key.now self.old }
+        ensures step { IsStepOfKind self.old self.new (O.key key.now) (MapOf K.kind V.kind)
+            (Remove (O.key key.now) (literal_of K.kind (K.whole at))) (truth_answer result) }
+        ensures refused { OnErr result (self.new ≡ self.old) }
+        ensures absent { KeepsWhere self.old self.new (LacksPair (O.key key.now) (K.whole at)) }
+    {
+        if self.is_read_only() {
+            return Err(Refusal::ReadOnly);
+        }
+        judge(at);
+        let place = self.find_map::<K, V, O>(key)?;
+        Ok(SegMap::<K, V>::at(place).erase(&mut self.heap, at, &mut Steps::new()))
+    }
+
+    /// Where the map of a key stands, a map of the types.
+    fn find_map<K: Scalar, V: Scalar, O: Target>(&self, key: &O) -> Result<MapPlace, Refusal>
+        requires { O.stands key.now self.now }
+        ensures { Answers self.now (λ d. map_at d (O.key key.now) K.kind V.kind) result }
+    {
+        let place = self.find_container(key, Kind::Map(K::kind(), V::kind()))?;
+        Ok(map_place(place))
+    }
+}
+
+/// Where a container stands, as the place of a map.
+pub(crate) fn map_place(place: Place) -> MapPlace
+    ensures handle { result.handle ≡ place.handle }
+    ensures at { result.at ≡ place.at }
+{
+    let Place { handle, at } = place;
+    MapPlace { handle, at }
+}

@@ -1,0 +1,65 @@
+//! What the values of objects have blocks for, given back.
+ghost use Rattle.segment_manager.specs.{objects.Destroyed.Empties, objects.Destroyed.HoldsObject};
+ghost use Rattle.segment_manager.specs.{containers.Maps.HasPairs, containers.Maps.ReleasesPairs};
+
+use crate::containers::maps::map_place;
+use crate::containers::storages::element_len;
+use crate::layout::value_at;
+use crate::objects::head::read_head;
+use best_fit::Heap;
+use seg_map::{Place as MapPlace, SegMap};
+use seg_types::{Kind, Scalar, ScalarKind, by_kind};
+use seg_vector::{Place, SegTexts, give_back};
+
+/// Gives back the blocks that the value of the object of a handle has. A container has nothing in it and no place then,
+/// and numbers stay as they are.
+pub(crate) fn release_contents(heap: &mut Heap, handle: u64)
+    requires { HoldsObject heap.old.bytes handle }
+    ensures { Empties heap.old heap.new handle }
+{
+    let head = read_head(heap, handle);
+    let place = Place {
+        handle,
+        at: value_at(u64::from(head.name_len)),
+    };
+    match head.kind {
+        Kind::Scalar(_) => {}
+        Kind::Map(keys, values) => release_pairs(heap, map_place(place), keys, values),
+        Kind::Strings => SegTexts { place }.release(heap),
+        kind => give_back(heap, place, element_len(kind)),
+    }
+}
+
+/// Gives back the blocks of the pairs of a map of two kinds.
+fn release_pairs(heap: &mut Heap, place: MapPlace, keys: ScalarKind, values: ScalarKind)
+    requires { HasPairs keys values heap.old.bytes place }
+    ensures { ReleasesPairs keys values heap.old heap.new place }
+{
+    macro_rules! released {
+        ($type:ty, $kind:ident) => {
+            release_pairs_of::<$type>(heap, place, values)
+        };
+    }
+    by_kind!(keys, released)
+}
+
+/// The same of a map whose keys are of a type.
+fn release_pairs_of<K: Scalar>(heap: &mut Heap, place: MapPlace, values: ScalarKind)
+    requires { HasPairs K.kind values heap.old.bytes place }
+    ensures { ReleasesPairs K.kind values heap.old heap.new place }
+{
+    macro_rules! released {
+        ($type:ty, $kind:ident) => {
+            release_map::<K, $type>(heap, place)
+        };
+    }
+    by_kind!(values, released)
+}
+
+/// The same of a map of two types.
+fn release_map<K: Scalar, V: Scalar>(heap: &mut Heap, place: MapPlace)
+    requires { HasPairs K.kind V.kind heap.old.bytes place }
+    ensures { ReleasesPairs K.kind V.kind heap.old heap.new place }
+{
+    SegMap::<K, V>::at(place).release(heap);
+}

@@ -1,0 +1,189 @@
+//! The places of vectors and strings of objects, vectors of strings among them: reserved, given back and left empty;
+//! and how many elements containers have.
+ghost use Rattle.std.specs.Prelude.{◌≡◌, OnErr, true};
+ghost use Rattle.seg_types.specs.declared.kinds.Kind.TheVariants.{Map as MapOf, Vector as VectorOf};
+ghost use Rattle.seg_types.specs.declared.kinds.Kind.TheVariants.{Strings as StringsKind};
+ghost use Rattle.seg_types.specs.Commands.{Clear, Reserve, Shrink};
+ghost use Rattle.segment_manager.specs.containers.Contents.{has_sizes, sizes_at, sizes_at_kind};
+ghost use Rattle.segment_manager.specs.{Keeping.HasPlaces, containers.Stored.HasEnough, containers.Stored.command_of};
+ghost use Rattle.segment_manager.specs.{Keeping.KeepsWhere, State.Answers, State.IsStep, State.done_answer};
+ghost use Rattle.segment_manager.specs.objects.ElementLists.{array_length_at, length_at_kind};
+
+use crate::containers::storages::{Change, change_elements, change_texts, element_len};
+use crate::objects::targets::{Target, locate};
+use crate::segment::Segment;
+use seg_types::{Kind, Refusal, Scalar};
+use seg_vector::SegTexts;
+
+/// Where the number of elements or pairs stands in a container, a vector, string or map, and behind it that of places.
+const LEN: u64 = 8;
+
+const CAPACITY: u64 = 16;
+
+impl Segment {
+    /// How many elements the vector or string of a key has, and how many places; or how many pairs its map has, and 0.
+    ///
+    /// Example: `let (count, places) = segment.measure(&name)?`.
+    ///
+    /// # Errors
+    ///
+    /// `NotFound` where no object has the key, `WrongKind` where it is no container.
+    pub fn measure<O: Target>(&self, key: &O) -> Result<(u64, u64), Refusal>
+        requires { O.stands key.now self.now }
+        ensures { Answers self.now (λ d. sizes_at d (O.key key.now)) result }
+    {
+        let object = locate(self, key)?;
+        match object.kind {
+            Kind::Scalar(_) => Err(Refusal::WrongKind),
+            kind => self.measure_kind(&object, kind),
+        }
+    }
+
+    /// The same of a container of a kind.
+    fn measure_kind<O: Target>(&self, key: &O, kind: Kind) -> Result<(u64, u64), Refusal>
+        requires target { O.stands key.now self.now }
+        requires container { has_sizes kind ≡ true }
+        ensures { Answers self.now (λ d. sizes_at_kind d (O.key key.now) kind) result }
+    {
+        let place = self.find_container(key, kind)?;
+        let len = self.heap.word(place.handle, place.at + LEN);
+        match kind {
+            Kind::Map(_, _) => Ok((len, 0)),
+            _ => Ok((len, self.heap.word(place.handle, place.at + CAPACITY))),
+        }
+    }
+
+    /// Gives the vector or string of a key places for `n` elements, where it has fewer.
+    ///
+    /// Example: `segment.reserve(&name, 1000)?`.
+    ///
+    /// # Errors
+    ///
+    /// `ReadOnly` where the segment is open for reading, and else `NotFound` where no object has the key, `WrongKind`
+    /// where it has no storage, `NoSpace` where its storage cannot be regrown. Nothing changes.
+    pub fn reserve<O: Target>(&mut self, key: &O, n: u64) -> Result<(), Refusal>
+        requires { O.stands key.now self.old }
+        ensures step { IsStep self.old self.new (Reserve (O.key key.now) n) (done_answer result) }
+        ensures refused { OnErr result (self.new ≡ self.old) }
+        ensures enough { KeepsWhere self.old self.new (HasPlaces (O.key key.now) n) }
+    {
+        self.change_storage(key, Change::Reserve(n))
+    }
+
+    /// Gives back the places of the vector or string of a key that have no element.
+    ///
+    /// Example: `segment.shrink(&name)?`.
+    ///
+    /// # Errors
+    ///
+    /// `ReadOnly` where the segment is open for reading, and else `NotFound` where no object has the key, `WrongKind`
+    /// where it has no storage. Nothing changes.
+    pub fn shrink<O: Target>(&mut self, key: &O) -> Result<(), Refusal>
+        requires { O.stands key.now self.old }
+        ensures step { IsStep self.old self.new (Shrink (O.key key.now)) (done_answer result) }
+        ensures refused { OnErr result (self.new ≡ self.old) }
+    {
+        self.change_storage(key, Change::Shrink)
+    }
+
+    /// Takes all elements out of the vector or string of a key. The places stay.
+    ///
+    /// Example: `segment.clear(&name)?`.
+    ///
+    /// # Errors
+    ///
+    /// `ReadOnly` where the segment is open for reading, and else `NotFound` where no object has the key, `WrongKind`
+    /// where it has no storage. Nothing changes.
+    pub fn clear<O: Target>(&mut self, key: &O) -> Result<(), Refusal>
+        requires { O.stands key.now self.old }
+        ensures step { IsStep self.old self.new (Clear (O.key key.now)) (done_answer result) }
+        ensures refused { OnErr result (self.new ≡ self.old) }
+    {
+        self.change_storage(key, Change::Clear)
+    }
+
+    /// Changes the storage of the vector or string of a key. It is inlined, so the change costs no test.
+    #[inline(always)]
+    fn change_storage<O: Target>(&mut self, key: &O, change: Change) -> Result<(), Refusal>
+        requires { O.stands key.now self.old }
+        ensures step { IsStep self.old self.new (command_of change (O.key key.now)) (done_answer result) }
+        ensures refused { OnErr result (self.new ≡ self.old) }
+        ensures enough { KeepsWhere self.old self.new (HasEnough change (O.key key.now)) }
+    {
+        if self.is_read_only() {
+            return Err(Refusal::ReadOnly);
+        }
+        let object = locate(self, key)?;
+        match object.kind {
+            Kind::Scalar(_) | Kind::Map(_, _) => Err(Refusal::WrongKind),
+            Kind::Strings => {
+                let place = self.find_container(&object, Kind::Strings)?;
+                change_texts(&mut self.heap, SegTexts { place }, change)
+            }
+            kind => {
+                let place = self.find_container(&object, kind)?;
+                change_elements(&mut self.heap, place, element_len(kind), change)
+            }
+        }
+    }
+
+    /// How many elements the array of a key has, one scalar or an array of a type.
+    ///
+    /// Example: `let count = segment.array_len::<u8, _>(&name)?`.
+    ///
+    /// # Errors
+    ///
+    /// `NotFound` where no object has the key, `WrongKind` where it is of another kind.
+    pub fn array_len<T: Scalar, O: Target>(&self, key: &O) -> Result<u64, Refusal>
+        requires { O.stands key.now self.now }
+        ensures { Answers self.now (λ d. array_length_at d (O.key key.now) T.kind) result }
+    {
+        let object = locate(self, key)?;
+        if Kind::Scalar(T::kind()).code() != object.kind.code() {
+            return Err(Refusal::WrongKind);
+        }
+        Ok(u64::from(object.count))
+    }
+
+    /// How many elements the vector of a key has, a vector of the type.
+    ///
+    /// Example: `let count = segment.vec_len::<i64, _>(&name)?`.
+    ///
+    /// # Errors
+    ///
+    /// `NotFound` where no object has the key, `WrongKind` where it is of another kind.
+    pub fn vec_len<T: Scalar, O: Target>(&self, key: &O) -> Result<u64, Refusal>
+        requires { O.stands key.now self.now }
+        ensures { Answers self.now (λ d. length_at_kind d (O.key key.now) (VectorOf T.kind)) result }
+    {
+        Ok(self.measure_kind(key, Kind::Vector(T::kind()))?.0)
+    }
+
+    /// How many texts the vector of strings of a key has.
+    ///
+    /// Example: `let count = segment.texts_len(&name)?`.
+    ///
+    /// # Errors
+    ///
+    /// `NotFound` where no object has the key, `WrongKind` where it is of another kind.
+    pub fn texts_len<O: Target>(&self, key: &O) -> Result<u64, Refusal>
+        requires { O.stands key.now self.now }
+        ensures { Answers self.now (λ d. length_at_kind d (O.key key.now) StringsKind) result }
+    {
+        Ok(self.measure_kind(key, Kind::Strings)?.0)
+    }
+
+    /// How many pairs the map of a key has, a map of the types.
+    ///
+    /// Example: `let count = segment.map_len::<i32, i64, _>(&name)?`.
+    ///
+    /// # Errors
+    ///
+    /// `NotFound` where no object has the key, `WrongKind` where it is of another kind.
+    pub fn map_len<K: Scalar, V: Scalar, O: Target>(&self, key: &O) -> Result<u64, Refusal>
+        requires { O.stands key.now self.now }
+        ensures { Answers self.now (λ d. length_at_kind d (O.key key.now) (MapOf K.kind V.kind)) result }
+    {
+        Ok(self.measure_kind(key, Kind::Map(K::kind(), V::kind()))?.0)
+    }
+}

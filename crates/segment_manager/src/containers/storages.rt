@@ -1,0 +1,63 @@
+//! The storage of containers of objects: reserved, given back and left empty. What has elements in it differs in their
+//! length alone.
+ghost use Rattle.std.specs.Prelude.{◌≡◌};
+ghost use Rattle.seg_vector.specs.TextsCalls.{IsSomeTexts};
+ghost use Rattle.segment_manager.specs.containers.Stored.{ChangesElements, ChangesTexts, IsElements, each_of};
+
+use best_fit::Heap;
+use seg_types::{Kind, Refusal};
+use seg_vector::{Place, SegTexts, fit, reserve, truncate};
+
+/// What is done with the storage of a container.
+#[derive(Clone, Copy)]
+pub(crate) enum Change {
+    /// It gets places for so many elements, where it has fewer.
+    Reserve(u64),
+    /// Its places that have no element are given back.
+    Shrink,
+    /// All its elements are taken out. The places stay.
+    Clear,
+}
+
+/// The bytes of an element of a vector of scalars, or of a string.
+pub(crate) fn element_len(kind: Kind) -> u64
+    ensures { result ≡ each_of kind }
+{
+    match kind {
+        Kind::Vector(element) => element.size(),
+        _ => 1,
+    }
+}
+
+/// Changes the storage of a vector of strings.
+#[inline(always)]
+pub(crate) fn change_texts(heap: &mut Heap, texts: SegTexts, change: Change) -> Result<(), Refusal>
+    requires { IsSomeTexts heap.old.bytes texts.place }
+    ensures { ChangesTexts change heap.old heap.new texts.place result }
+{
+    match change {
+        Change::Reserve(n) => return texts.reserve(heap, n),
+        Change::Shrink => texts.shrink(heap),
+        Change::Clear => texts.clear(heap),
+    }
+    Ok(())
+}
+
+/// The same of elements of `each` bytes.
+#[inline(always)]
+pub(crate) fn change_elements(
+    heap: &mut Heap,
+    place: Place,
+    each: u64,
+    change: Change,
+) -> Result<(), Refusal>
+    requires { IsElements heap.old.bytes place each }
+    ensures { ChangesElements change heap.old heap.new place each result }
+{
+    match change {
+        Change::Reserve(n) => return reserve(heap, place, each, n),
+        Change::Shrink => fit(heap, place, each),
+        Change::Clear => truncate(heap, place, each, 0),
+    }
+    Ok(())
+}

@@ -1,0 +1,171 @@
+//! The texts of objects that are vectors of strings, read and changed.
+ghost use Rattle.std.specs.{Prelude.◌≡◌, Prelude.IsTrue, Prelude.OnErr, Prelude.map, List.list_all};
+ghost use Rattle.seg_types.specs.declared.kinds.Kind.TheVariants.{Strings as StringsKind};
+ghost use Rattle.seg_types.specs.Commands.{Assign, Erase, Get, Insert, Pop, Push, Quoted, Set};
+ghost use Rattle.segment_manager.specs.{Answers.TextElement, containers.Contents.are_bytes};
+ghost use Rattle.segment_manager.specs.{containers.TextLists.LeadsOnOfKind};
+ghost use Rattle.segment_manager.specs.State.{IsReplyOfKind, IsStepOfKind, KeepsRefused, answer_of, done_answer};
+ghost use Rattle.segment_manager.specs.State.{refusal_in};
+
+use crate::objects::targets::Target;
+use crate::segment::Segment;
+use seg_types::{Kind, Refusal};
+use seg_vector::SegTexts;
+
+impl Segment {
+    /// The bytes of the text at `index` in the vector of strings of a key, lent.
+    ///
+    /// Example: `let text = segment.texts_get(&name, 0)?`.
+    ///
+    /// # Errors
+    ///
+    /// `NotFound` where no object has the key, `WrongKind` where it is of another kind, `OutOfRange` where it has no
+    /// text there.
+    pub fn texts_get<O: Target>(&self, key: &O, index: u64) -> Result<&[u8], Refusal>
+        requires { O.stands key.now self.now }
+        ensures { IsReplyOfKind self.now (O.key key.now) StringsKind
+            (Get (O.key key.now) index) (answer_of (λ text. TextElement text.now) result) }
+    {
+        let place = self.find_container(key, Kind::Strings)?;
+        SegTexts { place }.get(&self.heap, index)
+    }
+
+    /// Makes bytes the text at `index` in the vector of strings of a key. Its block is asked for while the old text has
+    /// its own.
+    ///
+    /// Example: `segment.texts_set(&name, 0, b"plums")?`.
+    ///
+    /// # Errors
+    ///
+    /// `ReadOnly` where the segment is open for reading, and else `NotFound` where no object has the key, `WrongKind`
+    /// where it is of another kind, `OutOfRange` where it has no text there, `NoSpace` where the text has no fit.
+    /// Nothing changes.
+    pub fn texts_set<O: Target>(&mut self, key: &O, index: u64, text: &[u8]) -> Result<(), Refusal>
+        requires { O.stands key.now self.old }
+        ensures step { IsStepOfKind self.old self.new (O.key key.now) StringsKind
+            (Set (O.key key.now) index (Quoted text.now)) (done_answer result) }
+        ensures refused { OnErr result (self.new ≡ self.old) }
+    {
+        let place = self.find_to_change(key, Kind::Strings)?;
+        SegTexts { place }.set(&mut self.heap, index, text)
+    }
+
+    /// Puts bytes behind the last text of the vector of strings of a key. A full vector gets twice its places first,
+    /// and at least 4.
+    ///
+    /// Example: `segment.texts_push(&name, b"plums")?`.
+    ///
+    /// # Errors
+    ///
+    /// `ReadOnly` where the segment is open for reading, and else `NotFound` where no object has the key, `WrongKind`
+    /// where it is of another kind, and nothing changes; `NoSpace` where it is full and its array cannot be regrown, or
+    /// the text has no fit: all objects and blocks are as they were, but bytes of gaps may differ.
+    pub fn texts_push<O: Target>(&mut self, key: &O, text: &[u8]) -> Result<(), Refusal>
+        requires { O.stands key.now self.old }
+        ensures step { IsStepOfKind self.old self.new (O.key key.now) StringsKind
+            (Push (O.key key.now) (Quoted text.now)) (done_answer result) }
+        ensures refused { KeepsRefused self.old self.new result }
+    {
+        let place = self.find_to_change(key, Kind::Strings)?;
+        SegTexts { place }.push(&mut self.heap, text)
+    }
+
+    /// Makes texts those of the vector of strings of a key. One or more get a new array of just so many places and then
+    /// their blocks, while the old ones are in use; none leave the array that there is.
+    ///
+    /// Example: `segment.texts_assign(&name, &[b"apples", b"pears"])?`.
+    ///
+    /// # Errors
+    ///
+    /// `ReadOnly` where the segment is open for reading, and else `NotFound` where no object has the key, `WrongKind`
+    /// where it is of another kind, and nothing changes; `NoSpace` where the array or a text has no fit: all objects
+    /// and blocks are as they were, but bytes of gaps may differ.
+    pub fn texts_assign<O: Target>(&mut self, key: &O, texts: &[&[u8]]) -> Result<(), Refusal>
+        requires { O.stands key.now self.old }
+        ensures step { IsStepOfKind self.old self.new (O.key key.now) StringsKind
+            (Assign (O.key key.now) (map Quoted (map (λ text. text.now) texts.now))) (done_answer result) }
+        ensures refused { KeepsRefused self.old self.new result }
+    {
+        judge_all(texts);
+        let place = self.find_to_change(key, Kind::Strings)?;
+        SegTexts { place }.assign(&mut self.heap, texts)
+    }
+
+    /// Takes the last text out of the vector of strings of a key, and gives back its block. The places stay.
+    ///
+    /// Example: `segment.texts_pop(&name)?`.
+    ///
+    /// # Errors
+    ///
+    /// `ReadOnly` where the segment is open for reading, and else `NotFound` where no object has the key, `WrongKind`
+    /// where it is of another kind, `OutOfRange` where it is empty. Nothing changes.
+    pub fn texts_pop<O: Target>(&mut self, key: &O) -> Result<(), Refusal>
+        requires { O.stands key.now self.old }
+        ensures step { LeadsOnOfKind self.old self.new (O.key key.now) StringsKind (Pop (O.key key.now))
+            (refusal_in result) }
+        ensures refused { OnErr result (self.new ≡ self.old) }
+    {
+        let place = self.find_to_change(key, Kind::Strings)?;
+        SegTexts { place }.pop(&mut self.heap)
+    }
+
+    /// Puts bytes where `index` other texts stand before them in the vector of strings of a key. Those from there on
+    /// move up. A full vector gets twice its places first, and at least 4.
+    ///
+    /// Example: `segment.texts_insert(&name, 0, b"plums")?`.
+    ///
+    /// # Errors
+    ///
+    /// `ReadOnly` where the segment is open for reading, and else `NotFound` where no object has the key, `WrongKind`
+    /// where it is of another kind, `OutOfRange` where there are not so many others, and nothing changes; `NoSpace`
+    /// where it is full and its array cannot be regrown, or the text has no fit: all objects and blocks are as they
+    /// were, but bytes of gaps may differ.
+    pub fn texts_insert<O: Target>(
+        &mut self,
+        key: &O,
+        index: u64,
+        text: &[u8],
+    ) -> Result<(), Refusal>
+        requires { O.stands key.now self.old }
+        ensures step { IsStepOfKind self.old self.new (O.key key.now) StringsKind
+            (Insert (O.key key.now) index (Quoted text.now)) (done_answer result) }
+        ensures refused { KeepsRefused self.old self.new result }
+    {
+        let place = self.find_to_change(key, Kind::Strings)?;
+        SegTexts { place }.insert(&mut self.heap, index, text)
+    }
+
+    /// Leaves out the text at `index` in the vector of strings of a key, and gives back its block. Those behind it move
+    /// down, and the places stay.
+    ///
+    /// Example: `segment.texts_erase(&name, 0)?`.
+    ///
+    /// # Errors
+    ///
+    /// `ReadOnly` where the segment is open for reading, and else `NotFound` where no object has the key, `WrongKind`
+    /// where it is of another kind, `OutOfRange` where it has no text there. Nothing changes.
+    pub fn texts_erase<O: Target>(&mut self, key: &O, index: u64) -> Result<(), Refusal>
+        requires { O.stands key.now self.old }
+        ensures step { IsStepOfKind self.old self.new (O.key key.now) StringsKind
+            (Erase (O.key key.now) index) (done_answer result) }
+        ensures refused { OnErr result (self.new ≡ self.old) }
+    {
+        let place = self.find_to_change(key, Kind::Strings)?;
+        SegTexts { place }.erase(&mut self.heap, index)
+    }
+}
+
+/// Says that a text is of bytes. Its type knows it, and says it of one slice at a time.
+#[inline(always)]
+pub(crate) fn judge(text: &[u8])
+    ensures { IsTrue (are_bytes text.now) }
+{}
+
+/// The same of each of some.
+pub(crate) fn judge_all(texts: &[&[u8]])
+    ensures { IsTrue (list_all are_bytes (map (λ text. text.now) texts.now)) }
+{
+    for text in texts {
+        judge(text);
+    }
+}

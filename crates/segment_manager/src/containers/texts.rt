@@ -1,0 +1,85 @@
+//! The bytes of objects that are strings, read and changed.
+ghost use Rattle.std.specs.Prelude.{◌≡◌, Ok, Err, MatchResult, [], ◌∷◌, OnErr, pos};
+ghost use Rattle.seg_types.specs.declared.kinds.Kind.TheVariants.{String as StringKind};
+ghost use Rattle.seg_types.specs.declared.kinds.ScalarKind.TheVariants.{U8 as ByteKind};
+ghost use Rattle.seg_types.specs.Commands.{Append, Assign, Quoted, Set, literal_of};
+ghost use Rattle.segment_manager.specs.{containers.Contents.bytes_at, State.Answers, State.IsStepOfKind};
+ghost use Rattle.segment_manager.specs.{State.done_answer};
+
+use crate::objects::targets::Target;
+use crate::segment::Segment;
+use seg_types::{Kind, Refusal};
+use seg_vector::SegString;
+
+impl Segment {
+    /// The bytes of the string of a key.
+    ///
+    /// Example: `let bytes = segment.string_bytes(&name)?`.
+    ///
+    /// # Errors
+    ///
+    /// `NotFound` where no object has the key, `WrongKind` where it is no string.
+    pub fn string_bytes<O: Target>(&self, key: &O) -> Result<&[u8], Refusal>
+        requires { O.stands key.now self.now }
+        ensures { MatchResult result (λ bytes. Answers self.now (λ d. bytes_at d (O.key key.now)) (Ok bytes.now))
+            (λ why. Answers self.now (λ d. bytes_at d (O.key key.now)) (Err why)) }
+    {
+        let place = self.find_container(key, Kind::String)?;
+        Ok(SegString { place }.as_bytes(&self.heap))
+    }
+
+    /// Makes a byte the one at `index` in the string of a key.
+    ///
+    /// Example: `segment.string_set(&name, 0, b'R')?`.
+    ///
+    /// # Errors
+    ///
+    /// `ReadOnly` where the segment is open for reading, and else `NotFound` where no object has the key, `WrongKind`
+    /// where it is no string, `OutOfRange` where it has no byte there. Nothing changes.
+    pub fn string_set<O: Target>(&mut self, key: &O, index: u64, byte: u8) -> Result<(), Refusal>
+        requires { O.stands key.now self.old }
+        ensures step { IsStepOfKind self.old self.new (O.key key.now) StringKind
+            (Set (O.key key.now) index (literal_of ByteKind (pos byte))) (done_answer result) }
+        ensures refused { OnErr result (self.new ≡ self.old) }
+    {
+        let place = self.find_to_change(key, Kind::String)?;
+        SegString { place }.set(&mut self.heap, index, byte)
+    }
+
+    /// Puts bytes behind those of the string of a key. Where they do not fit, it gets twice its places first, at least
+    /// 16, and as many as are needed.
+    ///
+    /// Example: `segment.string_append(&name, b"-black")?`.
+    ///
+    /// # Errors
+    ///
+    /// `ReadOnly` where the segment is open for reading, and else `NotFound` where no object has the key, `WrongKind`
+    /// where it is no string, `NoSpace` where its storage cannot be regrown. Nothing changes.
+    pub fn string_append<O: Target>(&mut self, key: &O, bytes: &[u8]) -> Result<(), Refusal>
+        requires { O.stands key.now self.old }
+        ensures step { IsStepOfKind self.old self.new (O.key key.now) StringKind
+            (Append (O.key key.now) bytes.now) (done_answer result) }
+        ensures refused { OnErr result (self.new ≡ self.old) }
+    {
+        let place = self.find_to_change(key, Kind::String)?;
+        SegString { place }.append(&mut self.heap, bytes)
+    }
+
+    /// Makes bytes those of the string of a key. Where they do not fit, it gets as many places as are needed.
+    ///
+    /// Example: `segment.string_assign(&name, b"splay")?`.
+    ///
+    /// # Errors
+    ///
+    /// `ReadOnly` where the segment is open for reading, and else `NotFound` where no object has the key, `WrongKind`
+    /// where it is no string, `NoSpace` where its storage cannot be regrown. Nothing changes.
+    pub fn string_assign<O: Target>(&mut self, key: &O, bytes: &[u8]) -> Result<(), Refusal>
+        requires { O.stands key.now self.old }
+        ensures step { IsStepOfKind self.old self.new (O.key key.now) StringKind
+            (Assign (O.key key.now) (Quoted bytes.now ∷ [])) (done_answer result) }
+        ensures refused { OnErr result (self.new ≡ self.old) }
+    {
+        let place = self.find_to_change(key, Kind::String)?;
+        SegString { place }.assign(&mut self.heap, bytes)
+    }
+}

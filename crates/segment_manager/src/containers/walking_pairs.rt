@@ -1,0 +1,127 @@
+//! The pairs of objects that are maps whose kinds are not known before, one after another by rising keys.
+ghost use Rattle.std.specs.Prelude.{◌≡◌, option_map};
+ghost use Rattle.seg_types.specs.{Kinds.lowest, Values.kind_of_scalar, Values.value_of_scalar};
+ghost use Rattle.seg_map.specs.Places.{item_of};
+ghost use Rattle.segment_manager.specs.{containers.Maps.pair_above, containers.Maps.told_of_map, State.Answers};
+ghost use Rattle.segment_manager.specs.containers.Walks.{AreOfKinds, HasValueOf, IsMap, first_of, item_of_kinds};
+ghost use Rattle.segment_manager.specs.containers.Walks.{item_seen, numbers_read, pair_past, pairs_at};
+
+use crate::objects::targets::Target;
+use crate::segment::Segment;
+use seg_types::{Refusal, Scalar, ScalarKind, ScalarValue, by_kind, by_value};
+
+impl Segment {
+    /// The pair with the least key that is above a bound, or not below it, of the map of a key, a map with keys of the
+    /// kind of the bound and values of a kind. It is inlined, so which of the two costs no test.
+    #[inline(always)]
+    fn pair_of_kinds<O: Target>(
+        &self,
+        key: &O,
+        bound: ScalarValue,
+        above: bool,
+        values: ScalarKind,
+    ) -> Result<Option<(ScalarValue, ScalarValue)>, Refusal>
+        requires { O.stands key.now self.now }
+        ensures pair { Answers self.now
+            (λ d. told_of_map d (O.key key.now) (kind_of_scalar bound) values (pair_past above (value_of_scalar bound)))
+            (numbers_read value_of_scalar value_of_scalar result) }
+        ensures kinds { AreOfKinds (kind_of_scalar bound) values result }
+    {
+        by_value!(bound, bound => match self.pair_by_key(key, bound, above, values)? {
+            None => Ok(None),
+            Some((at, value)) => Ok(Some((ScalarValue::from(at), value))),
+        })
+    }
+
+    /// The same of keys of a type.
+    #[inline(always)]
+    fn pair_by_key<K: Scalar, O: Target>(
+        &self,
+        key: &O,
+        bound: K,
+        above: bool,
+        values: ScalarKind,
+    ) -> Result<Option<(K, ScalarValue)>, Refusal>
+        requires { O.stands key.now self.now }
+        ensures pair { Answers self.now
+            (λ d. told_of_map d (O.key key.now) K.kind values (pair_past above (K.whole bound)))
+            (numbers_read K.whole value_of_scalar result) }
+        ensures kind { HasValueOf values result }
+    {
+        macro_rules! read {
+            ($type:ty, $kind:ident) => {
+                match self.pair_past::<K, $type, O>(key, bound, above)? {
+                    None => Ok(None),
+                    Some((at, value)) => Ok(Some((at, ScalarValue::$kind(value)))),
+                }
+            };
+        }
+        by_kind!(values, read)
+    }
+}
+
+/// The least value of a kind.
+fn least(kind: ScalarKind) -> ScalarValue
+    ensures kind { kind_of_scalar result ≡ kind }
+    ensures value { value_of_scalar result ≡ lowest kind }
+{
+    match kind {
+        ScalarKind::Bool => ScalarValue::Bool(false),
+        ScalarKind::U8 => ScalarValue::U8(u8::MIN),
+        ScalarKind::I32 => ScalarValue::I32(i32::MIN),
+        ScalarKind::I64 => ScalarValue::I64(i64::MIN),
+        ScalarKind::U64 => ScalarValue::U64(u64::MIN),
+    }
+}
+
+/// The pair with the least key of the map of a key, a map of the two kinds, or `None` where the map is empty.
+///
+/// Example: `let first = first_pair(&segment, &key, ScalarKind::I32, ScalarKind::I64)`.
+///
+/// # Conditions
+///
+/// The object of the key is a map of these kinds, as `kind_of` or `locate` say. `map_first_from` takes types,
+/// refuses every other object, and has no condition.
+pub fn first_pair<O: Target>(
+    segment: &Segment,
+    key: &O,
+    keys: ScalarKind,
+    values: ScalarKind,
+) -> Option<(ScalarValue, ScalarValue)>
+    requires target { O.stands key.now segment.now }
+    requires map { IsMap segment.now (O.key key.now) keys values }
+    ensures { Answers segment.now (λ d. option_map (item_of_kinds keys values)
+        (option_map item_of (first_of (pairs_at d (O.key key.now))))) (option_map item_seen result) }
+{
+    match segment.pair_of_kinds(key, least(keys), false, values) {
+        Ok(pair) => pair,
+        Err(_) => None,
+    }
+}
+
+/// The pair with the least key above `after` of the map of a key, a map with keys of the kind of `after` and values of
+/// a kind, or `None` where no key is above. So all pairs are read in rising order, each in a walk from the root of the
+/// tree.
+///
+/// Example: `let next = next_pair(&segment, &key, ScalarValue::I32(2), ScalarKind::I64)`.
+///
+/// # Conditions
+///
+/// The object of the key is a map of these kinds, as `kind_of` or `locate` say. `map_next_after` takes types,
+/// refuses every other object, and has no condition.
+pub fn next_pair<O: Target>(
+    segment: &Segment,
+    key: &O,
+    after: ScalarValue,
+    values: ScalarKind,
+) -> Option<(ScalarValue, ScalarValue)>
+    requires target { O.stands key.now segment.now }
+    requires map { IsMap segment.now (O.key key.now) (kind_of_scalar after) values }
+    ensures { Answers segment.now (λ d. option_map (item_of_kinds (kind_of_scalar after) values)
+        (pair_above (value_of_scalar after) (pairs_at d (O.key key.now)))) (option_map item_seen result) }
+{
+    match segment.pair_of_kinds(key, after, true, values) {
+        Ok(pair) => pair,
+        Err(_) => None,
+    }
+}

@@ -1,0 +1,3 @@
+//! The two indexes, of names and of kinds: their places, and what they lead to, one after another.
+pub(crate) mod iterating;
+pub(crate) mod reserving;

@@ -1,0 +1,150 @@
+//! The objects of an index, and the names of those that have one, one after another.
+ghost use Rattle.std.specs.{Prelude.◌≡◌, Prelude.◌-◌, Prelude.IfSome, Prelude.length, Iterator.UpTo, Iterator.at_most};
+ghost use Rattle.std.specs.Iterator.SizeHint.{IsExactHint, IsWithinCount};
+ghost use Rattle.seg_index.specs.declared.index.Index.TheVariants.{Named, Unique};
+ghost use Rattle.seg_index.specs.Held.{entry_count, place_of};
+ghost use Rattle.segment_manager.specs.{indexes.Indexed.objects_of, indexes.Iterating.GoesOn};
+ghost use Rattle.segment_manager.specs.{indexes.Iterating.GoesOnNames, State.Answers};
+
+use crate::objects::telling::Instance;
+use crate::segment::Segment;
+use seg_index::Index;
+use std::marker::Model;
+
+/// The objects of one of the two indexes in its order, one after another: what each says of itself. Nothing is looked
+/// up.
+///
+/// Contracts see the segment, the index, and how many objects came.
+#[derive(Drop)]
+pub struct Instances<'a> {
+    segment: &'a Segment,
+    index: Index,
+    at: u64,
+}
+
+impl<'a> Model for Instances<'a> {
+    ghost use Rattle.segment_manager.specs.indexes.Iterating.{Walk};
+
+    ghost Value = { Walk };
+
+    ghost view = { λ w. record { segment = w.segment.now; index = w.index; at = w.at } };
+}
+
+impl<'a> Iterator for Instances<'a> {
+    type Item = Instance<'a>;
+
+    ghost next_gives = { GoesOn };
+
+    ghost remaining = { λ w. at_most (entry_count w.segment.cut (place_of w.index) - w.at) };
+
+    fn next(&mut self) -> Option<Instance<'a>> {
+        let segment = self.segment;
+        if self.at >= segment.count_of(self.index) {
+            return None;
+        }
+        let said = segment.entered(self.index, self.at);
+        self.at += 1;
+        Some(said)
+    }
+
+    fn size_hint(&self) -> (usize, Option<usize>)
+        ensures lower { IsWithinCount result.0
+            (at_most (entry_count self.now.segment.cut (place_of self.now.index) - self.now.at)) }
+        ensures upper { IfSome result.1
+            (UpTo (at_most (entry_count self.now.segment.cut (place_of self.now.index) - self.now.at))) }
+        ensures exact { IsExactHint result (entry_count self.now.segment.cut (place_of self.now.index) - self.now.at) }
+    {
+        let left = self.segment.count_of(self.index).saturating_sub(self.at) as usize;
+        (left, Some(left))
+    }
+}
+
+/// The names of the objects that have one, in the order of their bytes, one after another. Nothing is looked up.
+///
+/// Contracts see the segment, and how many names came.
+#[derive(Drop)]
+pub struct Names<'a> {
+    instances: Instances<'a>,
+}
+
+impl<'a> Model for Names<'a> {
+    ghost use Rattle.std.specs.Prelude.{◌≡◌};
+    ghost use Rattle.seg_index.specs.declared.index.Index.TheVariants.{Named};
+    ghost use Rattle.segment_manager.specs.indexes.Iterating.{NameWalk};
+
+    ghost Value = { NameWalk };
+
+    ghost view = { λ w. record { segment = w.instances.segment; at = w.instances.at } };
+
+    ghost invariant = { λ w. w.instances.index ≡ Named };
+}
+
+impl<'a> Iterator for Names<'a> {
+    type Item = &'a [u8];
+
+    ghost next_gives = { GoesOnNames (λ name. name.now) };
+
+    ghost remaining = { λ w. at_most (entry_count w.segment.cut (place_of Named) - w.at) };
+
+    fn next(&mut self) -> Option<&'a [u8]> {
+        let said = self.instances.next()?;
+        Some(said.name)
+    }
+
+    fn size_hint(&self) -> (usize, Option<usize>)
+        ensures lower { IsWithinCount result.0
+            (at_most (entry_count self.now.segment.cut (place_of Named) - self.now.at)) }
+        ensures upper { IfSome result.1
+            (UpTo (at_most (entry_count self.now.segment.cut (place_of Named) - self.now.at))) }
+        ensures exact { IsExactHint result (entry_count self.now.segment.cut (place_of Named) - self.now.at) }
+    {
+        self.instances.size_hint()
+    }
+}
+
+impl Segment {
+    /// The names of the objects that have one, in the order of their bytes. A name is bytes, as `Name::new` takes them.
+    ///
+    /// Example: `for name in segment.names()`.
+    pub fn names(&self) -> Names<'_>
+        ensures { result ≡ record { segment = self.now; at = 0 } }
+    {
+        Names {
+            instances: self.named_instances(),
+        }
+    }
+
+    /// The objects with names, in the order of the bytes of their names.
+    ///
+    /// Example: `for said in segment.named_instances()`.
+    pub fn named_instances(&self) -> Instances<'_>
+        ensures { result ≡ record { segment = self.now; index = Named; at = 0 } }
+    {
+        Instances {
+            segment: self,
+            index: Index::Named,
+            at: 0,
+        }
+    }
+
+    /// The unique objects, in the order of the codes of their kinds.
+    ///
+    /// Example: `for said in segment.unique_instances()`.
+    pub fn unique_instances(&self) -> Instances<'_>
+        ensures { result ≡ record { segment = self.now; index = Unique; at = 0 } }
+    {
+        Instances {
+            segment: self,
+            index: Index::Unique,
+            at: 0,
+        }
+    }
+
+    /// How many objects an index has.
+    fn count_of(&self, index: Index) -> u64
+        ensures word { result ≡ entry_count self.now.cut (place_of index) }
+        ensures count { Answers self.now (λ d. length (objects_of index d)) result }
+    {
+        index.len(&self.heap)
+    }
+}

@@ -1,0 +1,122 @@
+//! The elements of objects of scalars, read and written.
+ghost use Rattle.std.specs.Prelude.{◌≡◌, OnErr, OnOk};
+ghost use Rattle.seg_types.specs.declared.kinds.Kind.TheVariants.{Scalar as ScalarOf};
+ghost use Rattle.seg_types.specs.Commands.{Get, Set, literal_of};
+ghost use Rattle.seg_types.specs.Values.{kind_of_scalar, value_of_scalar};
+ghost use Rattle.segment_manager.specs.{Answers.Element, Keeping.ChangesElement, objects.Standing.place_at};
+ghost use Rattle.segment_manager.specs.{State.Answers};
+ghost use Rattle.segment_manager.specs.State.{IsReplyOfKind, IsStepOfKind, answer_of, done_answer, scalar_answer};
+
+use crate::containers::fillings::LONGEST;
+use crate::objects::element::{element, place_of};
+use crate::objects::targets::Target;
+use crate::segment::Segment;
+use seg_types::theorems::scalar_is_number;
+use seg_types::{Refusal, Scalar, ScalarKind, ScalarValue, by_kind, by_value};
+use seg_vector::Place;
+
+impl Segment {
+    /// The element at `index` in the object of a key, an object of scalars of the type.
+    ///
+    /// Example: `let width: i64 = segment.get(&name, 0)?`.
+    ///
+    /// # Errors
+    ///
+    /// `NotFound` where no object has the key, `WrongKind` where it is of another kind, `OutOfRange` where it has no
+    /// element there.
+    pub fn get<T: Scalar, O: Target>(&self, key: &O, index: u64) -> Result<T, Refusal>
+        requires { O.stands key.now self.now }
+        ensures { IsReplyOfKind self.now (O.key key.now) (ScalarOf T.kind) (Get (O.key key.now) index)
+            (answer_of (λ x. Element T.kind (T.whole x)) result) }
+    {
+        let place = self.find_element(key, T::kind(), index)?;
+        scalar_is_number::<T>(element(&self.heap, place.handle, place.at, T::SIZE)).ok_or(
+            Refusal::WrongKind,
+        )
+    }
+
+    /// The same of a kind.
+    pub(crate) fn get_value<O: Target>(
+        &self,
+        key: &O,
+        kind: ScalarKind,
+        index: u64,
+    ) -> Result<ScalarValue, Refusal>
+        requires { O.stands key.now self.now }
+        ensures { IsReplyOfKind self.now (O.key key.now) (ScalarOf kind) (Get (O.key key.now) index)
+            (scalar_answer result) }
+    {
+        macro_rules! typed {
+            ($type:ty, $name:ident) => {
+                ScalarValue::$name(self.get::<$type, O>(key, index)?)
+            };
+        }
+        Ok(by_kind!(kind, typed))
+    }
+
+    /// Makes a value the element at `index` in the object of a key, an object of scalars of the type. No other byte
+    /// changes.
+    ///
+    /// Example: `segment.set(&name, 0, 640i64)?`.
+    ///
+    /// # Errors
+    ///
+    /// `ReadOnly` where the segment is open for reading, and else `NotFound` where no object has the key, `WrongKind`
+    /// where it is of another kind, `OutOfRange` where it has no element there. Nothing changes.
+    pub fn set<T: Scalar, O: Target>(
+        &mut self,
+        key: &O,
+        index: u64,
+        value: T,
+    ) -> Result<(), Refusal>
+        requires { O.stands key.now self.old }
+        ensures step { IsStepOfKind self.old self.new (O.key key.now) (ScalarOf T.kind)
+            (Set (O.key key.now) index (literal_of T.kind (T.whole value))) (done_answer result) }
+        ensures refused { OnErr result (self.new ≡ self.old) }
+        ensures element { OnOk result (ChangesElement self.old self.new (O.key key.now) T.kind index) }
+    {
+        let mut bytes = [0; LONGEST];
+        let spelling = &mut bytes[..T::SIZE as usize];
+        value.write(spelling);
+        if self.is_read_only() {
+            return Err(Refusal::ReadOnly);
+        }
+        let target = self.find_element(key, T::kind(), index)?;
+        self.heap.write(target.handle, target.at, spelling);
+        Ok(())
+    }
+
+    /// The same of a value's kind.
+    pub(crate) fn set_value<O: Target>(
+        &mut self,
+        key: &O,
+        index: u64,
+        value: ScalarValue,
+    ) -> Result<(), Refusal>
+        requires { O.stands key.now self.old }
+        ensures step { IsStepOfKind self.old self.new (O.key key.now) (ScalarOf (kind_of_scalar value))
+            (Set (O.key key.now) index (literal_of (kind_of_scalar value) (value_of_scalar value)))
+            (done_answer result) }
+        ensures refused { OnErr result (self.new ≡ self.old) }
+        ensures element { OnOk result (ChangesElement self.old self.new (O.key key.now) (kind_of_scalar value) index) }
+    {
+        by_value!(value, it => self.set(key, index, it))
+    }
+
+    /// Where the element at `index` stands in the object of a key, an object of scalars of a kind.
+    fn find_element<O: Target>(
+        &self,
+        key: &O,
+        kind: ScalarKind,
+        index: u64,
+    ) -> Result<Place, Refusal>
+        requires { O.stands key.now self.now }
+        ensures { Answers self.now (λ d. place_at d (O.key key.now) kind index) result }
+    {
+        let Some(handle) = key.handle_in(self) else {
+            return Err(Refusal::NotFound);
+        };
+        let at = place_of(&self.heap, handle, kind, index)?;
+        Ok(Place { handle, at })
+    }
+}

@@ -1,0 +1,198 @@
+//! Objects of numbers constructed from the items of an iterator.
+ghost use Rattle.std.specs.Prelude.{◌≡◌, ℤ, ◌+◌, ◌*◌, ◌≤◌, IsTrue, OnOk, length, true, false};
+ghost use Rattle.std.specs.{Iterator.HoldsAlong, List.AllByRecursion};
+ghost use Rattle.raw_region.specs.Format.{current};
+ghost use Rattle.best_fit.specs.Heap.{IsHeap, has_room, live_of};
+ghost use Rattle.seg_types.specs.declared.kinds.{Kind.TheVariants.Scalar as ScalarOf, ScalarKind.ScalarKind as AnyKind};
+ghost use Rattle.seg_types.specs.{Keys.new_key_seen, Kinds.is_value, Kinds.size_of, Kinds.spelling as spelling_of};
+ghost use Rattle.seg_types.specs.Values.{kind_of_scalar, value_of_scalar};
+ghost use Rattle.segment_manager.specs.objects.Begun.{Fills, IsNextOfKind, WritesNext};
+ghost use Rattle.segment_manager.specs.objects.Counted.{RefusesCount, is_count};
+ghost use Rattle.segment_manager.specs.{objects.Items.TakesItems, objects.NewObjects.IsOfItsKind};
+
+use crate::containers::fillings::{LONGEST, MOST, numbers};
+use crate::objects::beginning::{begin, end};
+use crate::objects::destinations::Destination;
+use crate::segment::Segment;
+use best_fit::Heap;
+use seg_types::{Handle, Kind, NewKey, Refusal, Scalar, ScalarKind, ScalarValue};
+
+impl Segment {
+    /// Makes an object of the next `count` items, and answers its handle. Items are taken only where each block that is
+    /// needed was found.
+    ///
+    /// Example: `segment.construct_it(&name, 5, &mut primes)?`.
+    ///
+    /// # Conditions
+    ///
+    /// The key suits the kind: one that says a kind says this one ([`Destination`]).
+    ///
+    /// # Errors
+    ///
+    /// `OutOfRange` where `count` is 0 or above 1048576, else `ReadOnly` where the segment is open for reading, else
+    /// `Exists` where an object has the key, and else `NoSpace` where no gap is long enough; then no item is taken.
+    /// `OutOfRange` where fewer items come. What the segment holds does not change.
+    pub fn construct_it<T: Scalar, I: Iterator<Item = T>, D: Destination>(
+        &mut self,
+        key: &D,
+        count: u32,
+        items: &mut I,
+    ) -> Result<Handle, Refusal>
+        requires kind { D.suits key.now (ScalarOf T.kind) }
+        requires ready { I.can_next items.old }
+        ensures count { RefusesCount count self.old self.new result }
+        ensures untaken { is_count count ≡ false → items.new ≡ items.old }
+        ensures items { is_count count ≡ true → TakesItems I.next_gives T.whole self.old self.new
+            (D.key key.now (ScalarOf T.kind)) T.kind count items.old items.new result }
+    {
+        if count == 0 || count > MOST {
+            return Err(Refusal::OutOfRange);
+        }
+        let key = key.key_for(Kind::Scalar(T::kind()));
+        self.construct_items::<OfType, T, I>(&key, T::kind(), count, items)
+    }
+
+    /// The same of values of a kind.
+    ///
+    /// Example: `segment.construct_values(&name, ScalarKind::I64, 5, &mut values)?`.
+    ///
+    /// # Conditions and errors
+    ///
+    /// `count` is from 1 to 1048576, and each item is of the kind. `construct_it` takes items of a type and has no such
+    /// condition. The other conditions are as of `construct_it`, and the errors are its others.
+    pub fn construct_values<I: Iterator<Item = ScalarValue>, D: Destination>(
+        &mut self,
+        key: &D,
+        kind: ScalarKind,
+        count: u32,
+        items: &mut I,
+    ) -> Result<Handle, Refusal>
+        requires kind { D.suits key.now (ScalarOf kind) }
+        requires some { 1 ≤ count }
+        requires few { count ≤ 1048576 }
+        requires ready { I.can_next items.old }
+        requires of_kind { HoldsAlong I.next_gives items.old (AllByRecursion (λ v. kind_of_scalar v ≡ kind)) }
+        ensures { TakesItems I.next_gives value_of_scalar self.old self.new (D.key key.now (ScalarOf kind)) kind count
+            items.old items.new result }
+    {
+        let key = key.key_for(Kind::Scalar(kind));
+        self.construct_items::<OfKind, ScalarValue, I>(&key, kind, count, items)
+    }
+
+    /// The same of numbers of a kind, under a key that suits them.
+    pub(crate) fn construct_items<S: Spelling<A>, A, I: Iterator<Item = A>>(
+        &mut self,
+        key: &NewKey,
+        kind: ScalarKind,
+        count: u32,
+        items: &mut I,
+    ) -> Result<Handle, Refusal>
+        requires kind { IsOfItsKind (new_key_seen key.now) kind }
+        requires some { 1 ≤ count }
+        requires few { count ≤ 1048576 }
+        requires ready { I.can_next items.old }
+        requires of_kind { HoldsAlong I.next_gives items.old (AllByRecursion (λ item. S.kind item ≡ kind)) }
+        ensures { TakesItems I.next_gives S.whole self.old self.new (new_key_seen key.now) kind count
+            items.old items.new result }
+    {
+        if self.is_read_only() {
+            return Err(Refusal::ReadOnly);
+        }
+        let begun = begin(&mut self.heap, key, numbers(kind, count))?;
+        let filled = fill_items::<S, A, I>(
+            &mut self.heap,
+            begun.handle,
+            begun.at,
+            kind,
+            count,
+            items,
+        );
+        end(&mut self.heap, begun, filled)
+    }
+}
+
+/// How the items of an iterator are spelled.
+pub(crate) trait Spelling<A> {
+    ghost kind: { A → AnyKind };
+
+    ghost whole: { A → ℤ };
+
+    /// Spells an item into `to`, which has as many bytes as one of its kind.
+    fn spell(item: A, to: &mut [u8])
+        requires { length to.old ≡ size_of (kind item) }
+        ensures value { IsTrue (is_value (kind item) (whole item)) }
+        ensures bytes { to.new ≡ spelling_of (kind item) (whole item) };
+}
+
+/// As values of their type.
+pub(crate) struct OfType;
+
+impl<T: Scalar> Spelling<T> for OfType {
+    ghost kind = { λ item. T.kind };
+
+    ghost whole = { λ item. T.whole item };
+
+    fn spell(item: T, to: &mut [u8]) {
+        item.write(to);
+    }
+}
+
+/// As values of a kind that is learnt when the program runs.
+pub(crate) struct OfKind;
+
+impl Spelling<ScalarValue> for OfKind {
+    ghost kind = { λ item. kind_of_scalar item };
+
+    ghost whole = { λ item. value_of_scalar item };
+
+    fn spell(item: ScalarValue, to: &mut [u8]) {
+        item.write(to);
+    }
+}
+
+/// Takes items until there are `count` of them, and writes each behind the one before it, from `at` on in the block of
+/// a handle: `OutOfRange` where fewer come.
+fn fill_items<S: Spelling<A>, A, I: Iterator<Item = A>>(
+    heap: &mut Heap,
+    handle: u64,
+    at: u64,
+    kind: ScalarKind,
+    count: u32,
+    items: &mut I,
+) -> Result<(), Refusal>
+    requires heap { IsHeap current heap.old.bytes }
+    requires room { IsTrue (has_room (live_of heap.old.bytes) handle (at + size_of kind * count)) }
+    requires ready { I.can_next items.old }
+    requires of_kind { HoldsAlong I.next_gives items.old (AllByRecursion (λ item. S.kind item ≡ kind)) }
+    ensures { Fills I.next_gives S.whole heap.old heap.new kind (handle + at) count items.old items.new result }
+{
+    let size = kind.size();
+    for i in 0..u64::from(count) {
+        write_item::<S, A, I>(heap, handle, at + size * i, kind, items)?;
+    }
+    Ok(())
+}
+
+/// Takes an item of a kind and writes it at `at` in the block of a handle: `OutOfRange` where none comes.
+fn write_item<S: Spelling<A>, A, I: Iterator<Item = A>>(
+    heap: &mut Heap,
+    handle: u64,
+    at: u64,
+    kind: ScalarKind,
+    items: &mut I,
+) -> Result<(), Refusal>
+    requires room { IsTrue (has_room (live_of heap.old.bytes) handle (at + size_of kind)) }
+    requires ready { I.can_next items.old }
+    requires of_kind { IsNextOfKind I.next_gives S.kind items.old kind }
+    ensures next { WritesNext I.next_gives S.whole heap.old heap.new kind (handle + at) items.old items.new result }
+    ensures ready { OnOk result (I.can_next items.new) }
+{
+    let Some(item) = items.next() else {
+        return Err(Refusal::OutOfRange);
+    };
+    let mut bytes = [0; LONGEST];
+    let spelling = &mut bytes[..kind.size() as usize];
+    S::spell(item, spelling);
+    heap.write(handle, at, spelling);
+    Ok(())
+}

@@ -1,0 +1,57 @@
+//! The elements of an object of scalars: each is the bytes that spell it, one after another behind the head and the
+//! name.
+ghost use Rattle.std.specs.Prelude.{◌≡◌, ◌+◌, ◌*◌, IsTrue, length};
+ghost use Rattle.raw_region.specs.{Format.current, Memory.Has, Memory.bytes_of, Memory.read};
+ghost use Rattle.best_fit.specs.Heap.{IsChanged, IsHeap, has_room, live_of};
+ghost use Rattle.segment_manager.specs.Directory.{Object};
+ghost use Rattle.segment_manager.specs.objects.Standing.{HasObject, StandsAt, place_in, repeated};
+
+use crate::layout::value_at;
+use crate::objects::head::read_head;
+use best_fit::Heap;
+use seg_types::{Kind, Refusal, ScalarKind};
+
+/// Writes the same bytes `count` times, from `at` on in the block of a handle.
+pub(crate) fn write_elements(heap: &mut Heap, handle: u64, at: u64, count: u32, bytes: &[u8])
+    requires heap { IsHeap current heap.old.bytes }
+    requires room { IsTrue (has_room (live_of heap.old.bytes) handle (at + length bytes.now * count)) }
+    ensures change { IsChanged current heap.old heap.new (handle + at) (length bytes.now * count) }
+    ensures content { Has (bytes_of heap.new.bytes) (handle + at) (repeated count bytes.now) }
+{
+    let len = bytes.len() as u64;
+    for i in 0..u64::from(count) {
+        heap.write(handle, at + len * i, bytes);
+    }
+}
+
+/// The `size` bytes at `at` in the block of a handle.
+pub(crate) fn element(heap: &Heap, handle: u64, at: u64, size: u64) -> &[u8]
+    requires heap { IsHeap current heap.now.bytes }
+    requires room { IsTrue (has_room (live_of heap.now.bytes) handle (at + size)) }
+    ensures bytes { result.now ≡ read (bytes_of heap.now.bytes) (handle + at) size }
+    ensures len { length result.now ≡ size }
+{
+    let payload = heap.block(handle);
+    &payload[at as usize..(at + size) as usize]
+}
+
+/// Where the element of an index stands in the block of an object of scalars, from the handle on: `WrongKind` where it
+/// is of another kind, `OutOfRange` where it has no such element.
+pub(crate) fn place_of(
+    heap: &Heap,
+    handle: u64,
+    kind: ScalarKind,
+    index: u64,
+) -> Result<u64, Refusal>
+    requires { HasObject heap.now.bytes handle }
+    ensures { (o : Object) → StandsAt heap.now.bytes handle o → result ≡ place_in o kind index }
+{
+    let head = read_head(heap, handle);
+    if head.kind != Kind::Scalar(kind) {
+        return Err(Refusal::WrongKind);
+    }
+    if index >= u64::from(head.count) {
+        return Err(Refusal::OutOfRange);
+    }
+    Ok(value_at(u64::from(head.name_len)) + kind.size() * index)
+}

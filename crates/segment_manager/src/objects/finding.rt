@@ -1,0 +1,136 @@
+//! Objects found by their keys, and the entries of the two indexes.
+ghost use Rattle.std.specs.Prelude.{length, slice_get, Some, ◌≡◌};
+ghost use Rattle.seg_types.specs.declared.kinds.{Kind.Kind as AnyKind, Kind.TheVariants.Scalar as ScalarOf};
+ghost use Rattle.seg_types.specs.{Commands.Find, Commands.NumNamed, Commands.NumUnique, Keys.index_key_seen};
+ghost use Rattle.seg_types.specs.{Keys.key_seen, Names.Key as AnyKey};
+ghost use Rattle.segment_manager.specs.{Answers.Number, Denotes.handles, State.Answers, State.IsReply};
+ghost use Rattle.segment_manager.specs.{indexes.Indexed.Seeks, objects.NewObjects.IsNewKeyOf};
+ghost use Rattle.segment_manager.specs.{objects.NewObjects.IsOfKind};
+ghost use Rattle.segment_manager.specs.Directory.{named_objects, unique_objects};
+ghost use Rattle.segment_manager.specs.objects.Found.{IsBelow, found_answer, handle_at};
+
+use crate::objects::finding_or_constructing::found_of;
+use crate::segment::Segment;
+use raw_region::Steps;
+use seg_index::{Index, Key as Entry, Lookup};
+use seg_types::{Handle, IndexKey, Key, Kind, Refusal, Scalar};
+
+impl Segment {
+    /// The handle of the object of a key, and how many elements it has (1 where it is a container), or nothing where no
+    /// object has the key.
+    ///
+    /// Example: `let found = segment.find_kind(&Key::Name(name), Kind::String)?`.
+    ///
+    /// # Errors
+    ///
+    /// `WrongKind` where the object is of another kind.
+    pub fn find_kind(&self, key: &Key, kind: Kind) -> Result<Option<(Handle, u32)>, Refusal>
+        ensures { IsReply self.now (Find (key_seen key.now) kind) (found_answer result) }
+    {
+        let Some(handle) = self.handle_of(key) else {
+            return Ok(None);
+        };
+        let found = found_of(&self.heap, handle, kind)?;
+        Ok(Some(found))
+    }
+
+    /// The handle of the scalars of a key, one or an array of a type, and how many they are, or nothing where no object
+    /// has the key.
+    ///
+    /// Example: `if let Some((handle, count)) = segment.find::<i64>(&Key::Name(name))?`.
+    ///
+    /// # Errors
+    ///
+    /// `WrongKind` where the object is of another kind.
+    pub fn find<T: Scalar>(&self, key: &Key) -> Result<Option<(Handle, u32)>, Refusal>
+        ensures { IsReply self.now (Find (key_seen key.now) (ScalarOf T.kind)) (found_answer result) }
+    {
+        self.find_kind(key, Kind::Scalar(T::kind()))
+    }
+
+    /// The number of objects with names.
+    ///
+    /// Example: `let count = segment.num_named()`.
+    pub fn num_named(&self) -> u64
+        ensures { IsReply self.now NumNamed (Number result) }
+    {
+        Index::Named.len(&self.heap)
+    }
+
+    /// The number of kinds with a unique object.
+    ///
+    /// Example: `let count = segment.num_unique()`.
+    pub fn num_unique(&self) -> u64
+        ensures { IsReply self.now NumUnique (Number result) }
+    {
+        Index::Unique.len(&self.heap)
+    }
+
+    /// The handle of the object that a key means, or nothing where no object has the key.
+    pub(crate) fn handle_of(&self, key: &Key) -> Option<Handle>
+        ensures { Answers self.now (λ d. handle_at d (key_seen key.now)) result }
+    {
+        match key {
+            Key::Name(name) => self.look_up(Index::Named, Entry::Name(name.as_bytes())),
+            Key::Unique(kind) => self.look_up(Index::Unique, Entry::Code(kind.code())),
+            Key::Handle(handle) => self.belongs(*handle).then_some(*handle),
+            Key::Anonymous => None,
+        }
+    }
+
+    /// The handle of the object under an entry of an index, or nothing where there is none.
+    fn look_up(&self, index: Index, entry: Entry<'_>) -> Option<Handle>
+        ensures { (key : AnyKey) → Seeks index entry.entry key → Answers self.now (λ d. handle_at d key) result }
+    {
+        match index.lookup(&self.heap, entry, &mut Steps::new()) {
+            Lookup::Found(place) => Some(index.at(&self.heap, place)),
+            Lookup::Absent(_) => None,
+        }
+    }
+}
+
+/// The index that has the entry of a key, the entry, and the name of the object that it leads to.
+#[inline(always)]
+pub(crate) fn entry_of<'a>(key: &IndexKey<'a>) -> (Index, Entry<'a>, &'a [u8])
+    ensures seeks { Seeks result.0 result.1 (index_key_seen key.now) }
+    ensures new { (kind : AnyKind) → IsOfKind (index_key_seen key.now) kind
+        → IsNewKeyOf result.0 result.1 (index_key_seen key.now) result.2.now kind }
+{
+    match key {
+        IndexKey::Name(name) => {
+            let bytes = name.as_bytes();
+            (Index::Named, Entry::Name(bytes), bytes)
+        }
+        IndexKey::Unique(kind) => (Index::Unique, Entry::Code(kind.code()), &[]),
+    }
+}
+
+/// The handle of the object with a name that has `i` others before it, in the order of the bytes of their names. There
+/// are more than `i` of them.
+///
+/// Example: `let handle = named_at(&segment, 0)`.
+///
+/// # Conditions
+///
+/// `i` is below `num_named`. `named_instances` goes over all of them without a condition.
+pub fn named_at(segment: &Segment, i: u64) -> Handle
+    requires { IsBelow segment.now (λ d. length (named_objects d)) i }
+    ensures { Answers segment.now (λ d. slice_get (handles (named_objects d)) i) (Some result) }
+{
+    Index::Named.at(&segment.heap, i)
+}
+
+/// The handle of the unique object that has `i` others before it, in the order of the codes of their kinds. There are
+/// more than `i` of them.
+///
+/// Example: `let handle = unique_at(&segment, 0)`.
+///
+/// # Conditions
+///
+/// `i` is below `num_unique`. `unique_instances` goes over all of them without a condition.
+pub fn unique_at(segment: &Segment, i: u64) -> Handle
+    requires { IsBelow segment.now (λ d. length (unique_objects d)) i }
+    ensures { Answers segment.now (λ d. slice_get (handles (unique_objects d)) i) (Some result) }
+{
+    Index::Unique.at(&segment.heap, i)
+}

@@ -1,0 +1,173 @@
+//! Objects found, or constructed where there are none, whatever they hold; those of one number, so many times.
+ghost use Rattle.std.specs.Prelude.{◌≡◌, ◌≤◌, true};
+ghost use Rattle.seg_types.specs.{declared.kinds.Kind.TheVariants.Scalar as ScalarOf, Names.Key as AnyKey};
+ghost use Rattle.seg_types.specs.Values.{kind_of_scalar, value_of_scalar};
+ghost use Rattle.segment_manager.specs.{objects.Counted.RefusesCount, objects.Counted.is_count, Directory.Object};
+ghost use Rattle.segment_manager.specs.{Directory.kind_of, Keeping.HasKey, Keeping.KeepsWhere};
+ghost use Rattle.segment_manager.specs.{objects.NewObjects.IsNewKeyOf, Plan.bare, objects.Standing.HasObject};
+ghost use Rattle.segment_manager.specs.{objects.Standing.StandsAt, objects.Standing.pair_of_kind};
+ghost use Rattle.segment_manager.specs.containers.Filled.{FindsOrConstructs, FindsOrMakes, alike, with_count};
+ghost use Rattle.segment_manager.specs.State.{IsSegment, KeepsRefused};
+
+use crate::containers::fillings::{Filling, MOST, NewNumbers};
+use crate::objects::beginning::begin_at;
+use crate::objects::constructing::build;
+use crate::objects::destinations::IndexDestination;
+use crate::objects::finding::entry_of;
+use crate::objects::head::read_head;
+use crate::segment::Segment;
+use best_fit::Heap;
+use raw_region::Steps;
+use seg_index::{Index, Key as Entry, Lookup};
+use seg_types::{Handle, Kind, Refusal, Scalar, ScalarValue, by_value};
+
+impl Segment {
+    /// The handle of the scalars of a key, and how many they are. Where no object has the key one is made, of `count`
+    /// times a value, from 1 to 1048576. An object that is found stays as it is, however many scalars it has. A key
+    /// that is a kind is the value's.
+    ///
+    /// Example: `let (handle, count) = segment.find_or_construct(&name, 1, 640i64)?`.
+    ///
+    /// # Conditions
+    ///
+    /// `count` is from 1 to 1048576. `find_or_construct_array` has no such condition, and refuses another count.
+    ///
+    /// The key suits the kind: one that says a kind says this one ([`Destination`]).
+    ///
+    /// # Errors
+    ///
+    /// `ReadOnly` where the segment is open for reading, else `WrongKind` where the object is of another kind: nothing
+    /// changes. Else `NoSpace` where none is there and no gap is long enough: what the segment holds does not change,
+    /// and the bytes of gaps may.
+    pub fn find_or_construct<T: Scalar, D: IndexDestination>(
+        &mut self,
+        key: &D,
+        count: u32,
+        value: T,
+    ) -> Result<(Handle, u32), Refusal>
+        requires kind { D.suits key.now (ScalarOf T.kind) }
+        requires some { 1 ≤ count }
+        requires few { count ≤ 1048576 }
+        ensures step { FindsOrMakes self.old self.new (D.key key.now (ScalarOf T.kind))
+            (alike T.kind count (T.whole value)) result }
+        ensures refused { KeepsRefused self.old self.new result }
+        ensures found { KeepsWhere self.old self.new (HasKey (D.key key.now (ScalarOf T.kind))) }
+    {
+        self.find_or_construct_under(key, &NewNumbers { count, value })
+    }
+
+    /// The same where the count is known only when the program runs.
+    ///
+    /// Example: `let (handle, count) = segment.find_or_construct_array(&name, count, 0u8)?`.
+    ///
+    /// # Conditions and errors
+    ///
+    /// `OutOfRange` where `count` is 0 or above 1048576: nothing changes. Else as of `find_or_construct`, but for the
+    /// count.
+    pub fn find_or_construct_array<T: Scalar, D: IndexDestination>(
+        &mut self,
+        key: &D,
+        count: u32,
+        value: T,
+    ) -> Result<(Handle, u32), Refusal>
+        requires kind { D.suits key.now (ScalarOf T.kind) }
+        ensures step { is_count count ≡ true
+            → FindsOrMakes self.old self.new (D.key key.now (ScalarOf T.kind))
+            (alike T.kind count (T.whole value)) result }
+        ensures count { RefusesCount count self.old self.new result }
+        ensures refused { KeepsRefused self.old self.new result }
+        ensures found { KeepsWhere self.old self.new (HasKey (D.key key.now (ScalarOf T.kind))) }
+    {
+        if count == 0 || count > MOST {
+            return Err(Refusal::OutOfRange);
+        }
+        self.find_or_construct(key, count, value)
+    }
+
+    /// The same for a value of a kind. Conditions and errors: as of `find_or_construct`.
+    ///
+    /// Example: `segment.find_or_construct_value(&name, 1, ScalarValue::I64(640))?`.
+    pub fn find_or_construct_value<D: IndexDestination>(
+        &mut self,
+        key: &D,
+        count: u32,
+        value: ScalarValue,
+    ) -> Result<(Handle, u32), Refusal>
+        requires kind { D.suits key.now (ScalarOf (kind_of_scalar value)) }
+        requires some { 1 ≤ count }
+        requires few { count ≤ 1048576 }
+        ensures step { FindsOrMakes self.old self.new (D.key key.now (ScalarOf (kind_of_scalar value)))
+            (alike (kind_of_scalar value) count (value_of_scalar value)) result }
+        ensures refused { KeepsRefused self.old self.new result }
+        ensures found { KeepsWhere self.old self.new (HasKey (D.key key.now (ScalarOf (kind_of_scalar value)))) }
+    {
+        by_value!(value, it => self.find_or_construct(key, count, it))
+    }
+
+    /// The same of what fills an object.
+    #[inline(always)]
+    pub(crate) fn find_or_construct_under<F: Filling, D: IndexDestination>(
+        &mut self,
+        key: &D,
+        filling: &F,
+    ) -> Result<(Handle, u32), Refusal>
+        requires stands { F.stands filling.now }
+        requires kind { D.suits key.now (kind_of (bare (F.content filling.now))) }
+        ensures step { FindsOrMakes self.old self.new (D.key key.now (kind_of (bare (F.content filling.now))))
+            (F.content filling.now) result }
+        ensures refused { KeepsRefused self.old self.new result }
+        ensures found { KeepsWhere self.old self.new (HasKey (D.key key.now (kind_of (bare (F.content filling.now))))) }
+    {
+        if self.is_read_only() {
+            return Err(Refusal::ReadOnly);
+        }
+        let key = key.entry_for(filling.shape().kind);
+        let (index, entry, name) = entry_of(&key);
+        find_or_construct_entered(&mut self.heap, index, entry, name, filling)
+    }
+}
+
+/// The same under an entry of an index, on the heap of a segment that may be changed.
+fn find_or_construct_entered<F: Filling>(
+    heap: &mut Heap,
+    index: Index,
+    entry: Entry<'_>,
+    name: &[u8],
+    filling: &F,
+) -> Result<(Handle, u32), Refusal>
+    requires segment { IsSegment heap.old.bytes }
+    requires stands { F.stands filling.now }
+    requires key { (key : AnyKey) × IsNewKeyOf index entry key name.now (kind_of (bare (F.content filling.now))) }
+    ensures { (key : AnyKey) → IsNewKeyOf index entry.entry key name.now (kind_of (bare (F.content filling.now)))
+        → FindsOrConstructs heap.old heap.new key (F.content filling.now) result }
+{
+    let shape = filling.shape();
+    let place = match index.lookup(heap, entry, &mut Steps::new()) {
+        Lookup::Found(place) => return found_of(heap, index.at(heap, place), shape.kind),
+        Lookup::Absent(place) => place,
+    };
+    let begun = begin_at(heap, index, place, name, shape)?;
+    counted(build(heap, begun, filling), shape.count)
+}
+
+/// A handle with the count of its object.
+#[inline(always)]
+pub(crate) fn counted(made: Result<Handle, Refusal>, count: u32) -> Result<(Handle, u32), Refusal>
+    ensures { result ≡ with_count count made }
+{
+    let handle = made?;
+    Ok((handle, count))
+}
+
+/// The handle of an object and how many elements it has (1 where it is a container): `WrongKind` where it is of another
+/// kind.
+pub(crate) fn found_of(heap: &Heap, handle: u64, kind: Kind) -> Result<(Handle, u32), Refusal>
+    requires { HasObject heap.now.bytes handle }
+    ensures { (o : Object) → StandsAt heap.now.bytes handle o → result ≡ pair_of_kind o kind }
+{
+    let head = read_head(heap, handle);
+    if head.kind.code() != kind.code() {
+        return Err(Refusal::WrongKind);
+    }
+    Ok((handle, head.count))
+}

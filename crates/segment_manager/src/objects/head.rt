@@ -1,0 +1,112 @@
+//! The head of an object, at the front of its block: its kind and count, its name and its class.
+ghost use Rattle.std.specs.Prelude.{◌≡◌, ◌+◌, ◌<◌, ◌≤◌, ◌^◌, IsTrue, length};
+ghost use Rattle.raw_region.specs.{Format.current, Memory.Has, Memory.bytes_of};
+ghost use Rattle.best_fit.specs.Heap.{IsChanged, IsHeap, has_room, live_of};
+ghost use Rattle.seg_types.specs.declared.kinds.Class.{Class as ClassOf};
+ghost use Rattle.seg_types.specs.{declared.kinds.Kind.Kind as KindOf, Kinds.class_code, Kinds.code_of};
+ghost use Rattle.segment_manager.specs.{Denotes.padded_name, Directory.Object, Directory.padded, Layout.head_len};
+ghost use Rattle.segment_manager.specs.objects.Standing.{HasObject, IsHeadAt, IsHeadOf, StandsAt};
+
+use crate::layout::{HALF, HEAD_LEN, NAME_CLASS_AT, padded};
+use best_fit::Heap;
+use seg_types::{Class, Kind};
+
+/// What the head of an object says.
+#[derive(Clone, Copy, Debug, PartialEq, Eq)]
+pub(crate) struct Head {
+    pub(crate) kind: Kind,
+    /// How many elements an object of scalars has, and else 1.
+    pub(crate) count: u32,
+    /// The bytes of the name.
+    pub(crate) name_len: u32,
+    pub(crate) class: Class,
+}
+
+/// The head of the object of a handle.
+pub(crate) fn read_head(heap: &Heap, handle: u64) -> Head
+    requires { HasObject heap.now.bytes handle }
+    ensures { (o : Object) → StandsAt heap.now.bytes handle o → IsHeadOf o result }
+{
+    let first = heap.word(handle, 0);
+    let second = heap.word(handle, NAME_CLASS_AT);
+    Head {
+        kind: kind_of_code((first % HALF) as u32),
+        count: (first / HALF) as u32,
+        name_len: (second % HALF) as u32,
+        class: class_of_code((second / HALF) as u32),
+    }
+}
+
+/// The name of the object of a handle.
+pub(crate) fn read_name(heap: &Heap, handle: u64) -> &[u8]
+    requires heap { IsHeap current heap.now.bytes }
+    requires object { HasObject heap.now.bytes handle }
+    ensures { (o : Object) → StandsAt heap.now.bytes handle o → result.now ≡ o.name }
+{
+    let len = heap.word(handle, NAME_CLASS_AT) % HALF;
+    let payload = heap.block(handle);
+    &payload[HEAD_LEN as usize..(HEAD_LEN + len) as usize]
+}
+
+/// Writes the head of an object and its name, with zeros up to a multiple of 8 bytes, at the front of a block.
+pub(crate) fn write_head(
+    heap: &mut Heap,
+    handle: u64,
+    kind: Kind,
+    count: u32,
+    class: Class,
+    name: &[u8],
+)
+    requires room { IsTrue (has_room (live_of heap.old.bytes) handle (head_len + padded (length name.now))) }
+    requires short { length name.now ≤ 255 }
+    ensures change { IsChanged current heap.old heap.new handle (head_len + padded (length name.now)) }
+    ensures head { IsHeadAt (bytes_of heap.new.bytes) handle kind count class name.now }
+{
+    let len = name.len() as u64;
+    heap.set_word(handle, 0, u64::from(kind.code()) + HALF * u64::from(count));
+    let second = len + HALF * u64::from(code_of_class(class));
+    heap.set_word(handle, NAME_CLASS_AT, second);
+    write_name(heap, handle, name);
+}
+
+/// Writes a name behind the two words of a head, with zeros up to a multiple of 8 bytes.
+fn write_name(heap: &mut Heap, handle: u64, name: &[u8])
+    requires room { IsTrue (has_room (live_of heap.old.bytes) handle (head_len + padded (length name.now))) }
+    requires short { length name.now ≤ 255 }
+    ensures change { IsChanged current heap.old heap.new (handle + head_len) (padded (length name.now)) }
+    ensures name { Has (bytes_of heap.new.bytes) (handle + head_len) (padded_name name.now) }
+{
+    let len = name.len() as u64;
+    heap.write(handle, HEAD_LEN, name);
+    let zeros = &[0; 8][..(padded(len) - len) as usize];
+    heap.write(handle, HEAD_LEN + len, zeros);
+}
+
+/// The kind of a code, or a string where no kind has it.
+fn kind_of_code(code: u32) -> Kind
+    ensures { (k : KindOf) → code ≡ code_of k → result ≡ k }
+{
+    Kind::from_code(code).unwrap_or(Kind::String)
+}
+
+/// The number that names a class in an image.
+fn code_of_class(class: Class) -> u32
+    ensures { result ≡ class_code class }
+{
+    match class {
+        Class::Anonymous => 0,
+        Class::Named => 1,
+        Class::Unique => 2,
+    }
+}
+
+/// The class that a number names. Only those three have one.
+fn class_of_code(code: u32) -> Class
+    ensures { (c : ClassOf) → code ≡ class_code c → result ≡ c }
+{
+    match code {
+        0 => Class::Anonymous,
+        1 => Class::Named,
+        _ => Class::Unique,
+    }
+}

@@ -7,3 +7,4 @@ pub mod Plain
 pub mod ScalarLaws
 pub mod Refusals
 pub mod Texts
+pub mod Literals

@@ -19,7 +19,8 @@ use Rattle.seg_map.specs.Map.{is_key, pair_at, put_pair}
 use Rattle.seg_vector.specs.Vector.{capacity_for_one, capacity_for_text}
 use Rattle.segment_manager.specs.Answers.{Refused}
 use Rattle.segment_manager.specs.Plan.{Regrown, with_capacity, with_owned_text}
-use Rattle.segment_manager.specs.Step.{and_then, map_of, pair_of, push, put, set, storage_of, text_of, with_table}
+use Rattle.segment_manager.specs.Step.{map_of, push, put, set, storage_of, text_of, with_table}
+use Rattle.seg_types.specs.Literals.{and_then, pair_of}
 use Rattle.segment_dump.proofs.Spaces.{IsRest, block-some}
 use Rattle.segment_dump.proofs.Steps.{at-object, block-more, filled-at, filled-kind, of-kind, requested, same-blocks}
 use Rattle.segment_dump.proofs.Steps.{writes}

@@ -3,14 +3,14 @@
 ghost use Rattle.std.specs.Prelude.{◌≡◌, option_map};
 ghost use Rattle.std.specs.Result.{result_ok};
 ghost use Rattle.seg_types.specs.Commands.{Whole, Truth, value_of_literal};
-ghost use Rattle.seg_types.specs.Values.{scalar_of as scalar_in};
+ghost use Rattle.seg_types.specs.{Literals.IsValueOf, Values.scalar_of as scalar_in};
 ghost use Rattle.segment_lang.specs.Words.{Bare, is, literal_of_word};
 ghost use Rattle.segment_lang.specs.Reading.{quoted_of, value_for};
 ghost use Rattle.segment_lang.specs.Seen.{literal_of, word_of};
 
 use crate::numbers::{WholeNumber, whole_of};
 use crate::words::{Quoted, Word};
-use seg_types::{ScalarKind, ScalarValue};
+use seg_types::{Refusal, ScalarKind, ScalarValue};
 
 /// A value as a line writes it.
 #[derive(Drop)]
@@ -91,5 +91,26 @@ pub fn scalar_of(kind: ScalarKind, word: Word<'_>) -> Option<ScalarValue>
         Literal::Whole(number) => whole_scalar(kind, number),
         Literal::Truth(truth) => truth_scalar(kind, truth),
         Literal::Quoted(_) => None,
+    }
+}
+
+/// The value of a kind that a literal is.
+///
+/// # Errors
+///
+/// `WrongKind` where the literal has another form, `OutOfRange` where it is a number outside the range of the kind.
+pub fn value_of(kind: ScalarKind, literal: Literal<'_>) -> Result<ScalarValue, Refusal>
+    ensures { IsValueOf kind (value_of_literal kind (literal_of literal.entry)) result }
+{
+    match literal {
+        Literal::Quoted(_) => Err(Refusal::WrongKind),
+        Literal::Truth(truth) => match kind {
+            ScalarKind::Bool => Ok(ScalarValue::Bool(truth)),
+            _ => Err(Refusal::WrongKind),
+        },
+        Literal::Whole(number) => match kind {
+            ScalarKind::Bool => Err(Refusal::WrongKind),
+            _ => ScalarValue::of_number(kind, number.get()).ok_or(Refusal::OutOfRange),
+        },
     }
 }

@@ -107,7 +107,8 @@ pub use Rattle.segment_manager.specs.objects.Begun.{Begins, IsAbsentAt, IsBegun,
 pub use Rattle.segment_manager.specs.objects.Begun.{IsLoose, IsLooseAlone, IsLooseEntry, IsNotBegun, IsReadyFor}
 pub use Rattle.segment_manager.specs.objects.Begun.{IsTakenKey, IsWanted, LeadsThere}
 pub use Rattle.segment_manager.specs.Calls.{IsTileOfIndex, elements_at, elements_of, kind_at}
-pub use Rattle.segment_manager.specs.containers.Changeable.{IsChangeable, IsToChange, IsUnchangeable, IsValueOf}
+pub use Rattle.segment_manager.specs.containers.Changeable.{IsChangeable, IsToChange, IsUnchangeable}
+pub use Rattle.seg_types.specs.Literals.{IsValueOf, and_then, pair_of, values_of}
 pub use Rattle.segment_manager.specs.containers.Contents.{Contents, IsRefilled, are_bytes, bytes_at, container_at}
 pub use Rattle.segment_manager.specs.containers.Contents.{container_place, contents_of, has_values, place_of_kind}
 pub use Rattle.segment_manager.specs.containers.Contents.{has_sizes, has_storage, sizes_at, sizes_at_kind, sizes_of}
@@ -153,8 +154,8 @@ pub use Rattle.segment_manager.specs.State.{Answers, IsReply, IsReplyOfKind, IsS
 pub use Rattle.segment_manager.specs.State.{KeepsRefused, LeadsOn, Moves, StandsFor, State, Stays, answer_of}
 pub use Rattle.segment_manager.specs.State.{done_answer, handle_answer, refusal_in, scalar_answer, truth_answer}
 pub use Rattle.segment_manager.specs.Staying.{is_elementwise}
-pub use Rattle.segment_manager.specs.Step.{and_then, changed, effect, element_at, found, found_at, get, is_read_only}
-pub use Rattle.segment_manager.specs.Step.{map_of, pair_of, plan, set, storage_of, texts_of, values_of, with_items}
+pub use Rattle.segment_manager.specs.Step.{changed, effect, element_at, found, found_at, get, is_read_only}
+pub use Rattle.segment_manager.specs.Step.{map_of, plan, set, storage_of, texts_of, with_items}
 pub use Rattle.segment_manager.specs.Step.{with_table}
 unfoldable pub use Rattle.segment_manager.specs.Step.{step, step_of_kind}
 pub use Rattle.segment_manager.specs.containers.Stored.{AnswersSafely, HasEnough, StepsSafely, command_of}

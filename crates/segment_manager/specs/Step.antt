@@ -83,21 +83,6 @@ map_of (Texts ps t) = Err WrongKind
 abbrev pub element_at : List ℤ → ℕ → Result ℤ Refusal
 element_at zs i = elim (slice_get zs i) [ None ↦ Err OutOfRange | Some z ↦ Ok z ]
 
--- the values of literals: a wrong form among them comes before a wrong range
-abbrev pub and_then : Result ℤ Refusal → Result (List ℤ) Refusal → Result (List ℤ) Refusal
-and_then (Ok z) (Ok zs) = Ok (z ∷ zs)
-and_then (Ok z) (Err r) = Err r
-and_then (Err WrongKind) zs = Err WrongKind
-and_then (Err r) (Err WrongKind) = Err WrongKind
-and_then (Err r) zs = Err r
-
-abbrev pub values_of : ScalarKind → List Literal → Result (List ℤ) Refusal
-values_of k [] = Ok []
-values_of k (l ∷ ls) = and_then (value_of_literal k l) (values_of k ls)
-
-abbrev pub pair_of : ScalarKind → ScalarKind → Literal → Literal → Result (List ℤ) Refusal
-pair_of k v key value = and_then (value_of_literal k key) (and_then (value_of_literal v value) (Ok []))
-
 -- the one text that a text is assigned
 abbrev pub text_among : List Literal → Result (List ℕ) Refusal
 text_among (asked.Quoted bs ∷ []) = Ok bs

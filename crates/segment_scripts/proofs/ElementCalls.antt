@@ -20,7 +20,8 @@ use Rattle.segment_manager.specs.Directory.{live, object_at}
 use Rattle.segment_manager.specs.Plan.{Plan, Refuse, perform, with}
 use Rattle.segment_manager.specs.State.{IsStep, IsStepOfKind, State, StandsFor}
 use Rattle.segment_manager.specs.Step as step
-use Rattle.segment_manager.specs.Step.{effect, found_at, is_read_only, step_of_kind, text_among, text_of, values_of}
+use Rattle.segment_manager.specs.Step.{effect, found_at, is_read_only, step_of_kind, text_among, text_of}
+use Rattle.seg_types.specs.Literals.{values_of}
 use Rattle.segment_manager.proofs.ElementLaws.{IsOfKindAt, append-other, assign-plan, assign-refused, literals-read}
 use Rattle.segment_manager.proofs.ElementLaws.{of_kind-steps, same_plan-steps, text-plan, text-refused, with-found}
 use Rattle.segment_manager.proofs.ElementLaws.{with-not_found}

@@ -16,7 +16,8 @@ use Rattle.seg_types.proofs.Laws.{scalar_of-kind, scalar_of-value}
 use Rattle.segment_lang.specs.declared.literals.Literal.{Literal as CodeLiteral}
 use Rattle.segment_lang.specs.Arguments.{Written, scalars_in}
 use Rattle.segment_lang.specs.Seen.{literal_held, literal_of, literals_held}
-use Rattle.segment_manager.specs.Step.{and_then, text_among, values_of}
+use Rattle.segment_manager.specs.Step.{text_among}
+use Rattle.seg_types.specs.Literals.{and_then, values_of}
 use Rattle.segment_scripts.specs.Replies.{bytes_taken}
 use Rattle.segment_scripts.proofs.ArrayCalls.{length-scalars, numbers-back}
 

@@ -14,7 +14,8 @@ use Rattle.segment_manager.specs.objects.Located.{IsLocated}
 use Rattle.segment_manager.specs.State.{State, StandsFor, Stays}
 use Rattle.segment_scripts.specs.declared.changing.NewElement.{NewElement}
 use Rattle.segment_scripts.specs.declared.changing.NewElement.TheVariants.{Scalar as ScalarElement, Text as TextElement}
-use Rattle.segment_manager.specs.Step.{step, values_of}
+use Rattle.segment_manager.specs.Step.{step}
+use Rattle.seg_types.specs.Literals.{values_of}
 -- the object that is to be changed, and what a literal of the line is for it
 pub use Rattle.segment_manager.proofs.CommandLaws.{IsChangeable, IsElement, IsNoElement, IsToChange, IsUnchangeable}
 

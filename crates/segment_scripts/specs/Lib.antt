@@ -13,7 +13,6 @@ pub mod Linting
 pub mod LintLaws
 pub mod Parts
 pub mod Shown
-pub mod Settings
 pub mod Changes
 pub mod TextRows
 pub mod ShownPairs

@@ -2,7 +2,7 @@
 ghost use Rattle.std.specs.Prelude.{◌≡◌, ◌≤◌, ◌∷◌, [], MatchResult, OnErr, length, map};
 ghost use Rattle.seg_types.specs.declared.kinds.Kind.TheVariants.{String as StringKind, Strings as StringsKind};
 ghost use Rattle.seg_types.specs.declared.kinds.Kind.TheVariants.{Vector as VectorOf};
-ghost use Rattle.seg_types.specs.Commands.{Append, Assign, Clear, Erase, Insert, Literal as AskedLiteral, Push};
+ghost use Rattle.seg_types.specs.Commands.{Append, Assign, Clear, Erase, Insert, Push};
 ghost use Rattle.seg_types.specs.Commands.{Quoted as AskedQuoted, Reserve, Shrink, literal_of as literal_for};
 ghost use Rattle.seg_types.specs.Keys.{key_seen};
 ghost use Rattle.seg_types.specs.Names.{ByHandle};
@@ -15,10 +15,9 @@ ghost use Rattle.segment_scripts.specs.Replies.{bytes_taken};
 
 use crate::machine::Room;
 use crate::rows::{Row, Rows, literal_row, on_row, only_text};
-use crate::setting::value_of;
 use crate::text_rows::{FEW, TextRow, literal_texts};
 use seg_types::{Key, Kind, Refusal, Scalar, ScalarKind, ScalarValue, by_kind, by_value};
-use segment_lang::{Literal, Literals, Quoted, Text};
+use segment_lang::{Literal, Literals, Quoted, Text, value_of};
 use segment_manager::{Mode, Object, Segment, locate};
 
 /// A new element of a vector.

@@ -5,13 +5,10 @@ ghost use Rattle.seg_types.specs.Keys.{key_seen};
 ghost use Rattle.segment_lang.specs.Seen.{literal_of};
 ghost use Rattle.segment_manager.specs.containers.Maps.{any_value_answer};
 ghost use Rattle.segment_manager.specs.State.{IsReply, IsStep, truth_answer};
-ghost use Rattle.segment_manager.specs.Step.{pair_of};
-ghost use Rattle.segment_scripts.specs.Settings.{IsPairOf};
 
 use crate::changing::object_to_change;
-use crate::setting::value_of;
-use seg_types::{Key, Kind, Refusal, ScalarKind, ScalarValue};
-use segment_lang::{Literal, Pair};
+use seg_types::{Key, Kind, Refusal, ScalarValue};
+use segment_lang::{Literal, Pair, new_pair, value_of};
 use segment_manager::{Segment, locate};
 
 /// Puts the pair that two literals are into the map of a key, and answers whether its key is new.
@@ -93,25 +90,5 @@ pub fn remove(segment: &mut Segment, key: &Key, at: Literal<'_>) -> Result<bool,
             segment.map_erase_any(&object, gone, values)
         }
         _ => Err(Refusal::WrongKind),
-    }
-}
-
-/// The pair of two kinds that two literals are.
-///
-/// # Errors
-///
-/// `WrongKind` where one has another form, and else `OutOfRange` where one is a number outside the range of its kind.
-fn new_pair(
-    keys: ScalarKind,
-    values: ScalarKind,
-    at: Literal<'_>,
-    value: Literal<'_>,
-) -> Result<(ScalarValue, ScalarValue), Refusal>
-    ensures { IsPairOf keys values (pair_of keys values (literal_of at.entry) (literal_of value.entry)) result }
-{
-    match (value_of(keys, at), value_of(values, value)) {
-        (Ok(new_key), Ok(new_value)) => Ok((new_key, new_value)),
-        (Err(Refusal::WrongKind), _) | (_, Err(Refusal::WrongKind)) => Err(Refusal::WrongKind),
-        (Err(why), _) | (_, Err(why)) => Err(why),
     }
 }

@@ -7,10 +7,9 @@ ghost use Rattle.segment_manager.specs.Step.{text_among};
 ghost use Rattle.segment_scripts.specs.Changes.{ReadsInto};
 ghost use Rattle.segment_scripts.specs.Replies.{bytes_taken};
 
-use crate::setting::value_of;
 use seg_types::theorems::scalar_is_number;
 use seg_types::{Refusal, Scalar, ScalarValue};
-use segment_lang::{Literal, Literals, Text, Values};
+use segment_lang::{Literal, Literals, Text, Values, value_of};
 use std::marker::Model;
 
 /// The most values that a line has: each takes a byte, and another parts it from the next.

@@ -1,7 +1,7 @@
 //! An element that becomes what a line writes.
 ghost use Rattle.std.specs.Prelude.{◌≡◌, ◌≤◌, ◌∷◌, [], Ok, OnErr, false};
 ghost use Rattle.seg_types.specs.declared.kinds.Kind.TheVariants.{Strings as StringsKind};
-ghost use Rattle.seg_types.specs.Commands.{Set, value_of_literal};
+ghost use Rattle.seg_types.specs.Commands.{Set};
 ghost use Rattle.seg_types.specs.Keys.{key_seen};
 ghost use Rattle.seg_types.specs.Names.{ByHandle};
 ghost use Rattle.segment_lang.specs.Seen.{literal_of};
@@ -11,12 +11,11 @@ ghost use Rattle.segment_manager.specs.State.{Answers, IsStep, done_answer};
 ghost use Rattle.segment_manager.specs.Step.{is_read_only};
 ghost use Rattle.segment_scripts.specs.Changes.{IsChangeable};
 ghost use Rattle.segment_scripts.specs.Replies.{bytes_taken};
-ghost use Rattle.segment_scripts.specs.Settings.{IsValueOf};
 
 use crate::changing::object_to_change;
 use crate::machine::Room;
-use seg_types::{Key, Kind, Refusal, ScalarKind, ScalarValue};
-use segment_lang::{Literal, Text};
+use seg_types::{Key, Kind, Refusal, ScalarKind};
+use segment_lang::{Literal, Text, value_of};
 use segment_manager::conditioned::set_any;
 use segment_manager::{Object, Segment};
 
@@ -86,26 +85,5 @@ fn set_text(
     match literal {
         Literal::Quoted(text) => segment.texts_set(&object, index, text.bytes(scratch)),
         _ => Err(Refusal::WrongKind),
-    }
-}
-
-/// The value of a kind that a literal is.
-///
-/// # Errors
-///
-/// `WrongKind` where the literal has another form, `OutOfRange` where it is a number outside the range of the kind.
-pub fn value_of(kind: ScalarKind, literal: Literal<'_>) -> Result<ScalarValue, Refusal>
-    ensures { IsValueOf kind (value_of_literal kind (literal_of literal.entry)) result }
-{
-    match literal {
-        Literal::Quoted(_) => Err(Refusal::WrongKind),
-        Literal::Truth(truth) => match kind {
-            ScalarKind::Bool => Ok(ScalarValue::Bool(truth)),
-            _ => Err(Refusal::WrongKind),
-        },
-        Literal::Whole(number) => match kind {
-            ScalarKind::Bool => Err(Refusal::WrongKind),
-            _ => ScalarValue::of_number(kind, number.get()).ok_or(Refusal::OutOfRange),
-        },
     }
 }

@@ -19,7 +19,7 @@ use Rattle.segment_manager.specs.State.{State}
 use Rattle.segment_manager.specs.containers.Walks.{pairs_of}
 use Rattle.segment_manager.proofs.Laws.{kind-by_key, same-object}
 use Rattle.segment_values.specs.Absent.{LacksLiteral}
-use Rattle.segment_values.specs.Literals.{IsValueOf}
+use Rattle.seg_types.specs.Literals.{IsValueOf}
 
 -- two kinds of maps that are one have the same keys
 same-keys : (k v l w : ScalarKind) → Map k v ≡ Map l w → k ≡ l

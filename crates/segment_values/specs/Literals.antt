@@ -2,7 +2,6 @@
 use Rattle.seg_types.specs.declared.values.ScalarValue.{ScalarValue}
 use Rattle.seg_types.specs.Commands.{Literal, literal_of}
 use Rattle.seg_types.specs.Values.{kind_of_scalar, value_of_scalar}
-pub use Rattle.segment_manager.specs.containers.Changeable.{IsPairOf, IsValueOf}
 
 -- the literal that a script writes for the value: its kind is forgotten but for whether it is a truth
 abbrev pub literal_seen : ScalarValue → Literal

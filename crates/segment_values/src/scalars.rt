@@ -1,8 +1,8 @@
 //! Scalars that become values of another kind.
 ghost use Rattle.std.specs.Prelude.{◌≡◌};
 ghost use Rattle.seg_types.specs.Commands.{Whole, value_of_literal};
-ghost use Rattle.segment_manager.specs.Step.{pair_of};
-ghost use Rattle.segment_values.specs.Literals.{IsPairOf, IsValueOf, literal_seen};
+ghost use Rattle.seg_types.specs.Literals.{pair_of, IsPairOf, IsValueOf};
+ghost use Rattle.segment_values.specs.Literals.{literal_seen};
 
 use seg_types::{Refusal, ScalarKind, ScalarValue};
 

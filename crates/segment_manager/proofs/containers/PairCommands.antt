@@ -14,7 +14,8 @@ use Rattle.segment_manager.proofs.objects.Locating.{kind-by_key, reply_of_kind-b
 use Rattle.segment_manager.proofs.Steps.{with-found, with-not_found}
 use Rattle.segment_manager.proofs.{objects.Stored.literal-read, ElementLaws.same_plan-steps}
 use Rattle.segment_manager.proofs.{containers.MapSteps.map-only, Common.found_at}
-use Rattle.segment_manager.specs.{Answers.Absent, containers.Changeable.IsPairOf}
+use Rattle.segment_manager.specs.{Answers.Absent}
+use Rattle.seg_types.specs.Literals.{IsPairOf}
 use Rattle.seg_types.specs.Commands as asked
 use Rattle.segment_manager.specs.Step as step
 

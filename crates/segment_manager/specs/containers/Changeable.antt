@@ -1,9 +1,8 @@
 -- Objects that a command changes, and literals that it changes them by: what is known of both where their kind is
 -- learnt late.
-use Rattle.std.specs.Prelude.{◌≡◌, ℕ, ℤ, true, false, None, Result, Ok, Err, List, ◌∷◌, []}
+use Rattle.std.specs.Prelude.{◌≡◌, ℕ, true, false, None, Ok}
 use Rattle.seg_types.specs.declared.kinds.Kind.{Kind}
 use Rattle.seg_types.specs.declared.kinds.Kind.TheVariants.{Vector}
-use Rattle.seg_types.specs.declared.kinds.ScalarKind.{ScalarKind}
 use Rattle.seg_types.specs.declared.refusals.Refusal.{Refusal}
 use Rattle.seg_types.specs.declared.refusals.Refusal.TheVariants.{NotFound}
 use Rattle.seg_types.specs.declared.values.ScalarValue.{ScalarValue}
@@ -38,23 +37,6 @@ pub record IsUnchangeable (s : State) (key : Key) (why : Refusal) : Type 0 where
       → ((d : Directory) → object_at d key ≡ None → effect d c ≡ Refuse NotFound) → IsStep s s c (Refused why)
 
 -- ---- what is known of literals
-
--- the value has the kind, and is the number that is wanted, or it is refused for the same reason
-abbrev pub IsValueOf : ScalarKind → Result ℤ Refusal → Result ScalarValue Refusal → Type 0
-IsValueOf k wanted (Ok v) = (kind_of_scalar v ≡ k) × (wanted ≡ Ok (value_of_scalar v))
-    × (is_value k (value_of_scalar v) ≡ true)
-IsValueOf k wanted (Err r) = wanted ≡ Err r
-
--- a value has the kind, and is in its range
-abbrev pub IsOfScalarKind : ScalarKind → ScalarValue → Type 0
-IsOfScalarKind k v = (kind_of_scalar v ≡ k) × (is_value k (value_of_scalar v) ≡ true)
-
--- key and value have the kinds, and are the numbers that are wanted, or they are refused for the same reason
-abbrev pub IsPairOf : ScalarKind → ScalarKind → Result (List ℤ) Refusal → Result (ScalarValue × ScalarValue) Refusal
-    → Type 0
-IsPairOf k v wanted (Ok p) = IsOfScalarKind k p.0 × IsOfScalarKind v p.1
-    × (wanted ≡ Ok (value_of_scalar p.0 ∷ value_of_scalar p.1 ∷ []))
-IsPairOf k v wanted (Err r) = wanted ≡ Err r
 
 -- the literal is a value for the vector of the key
 pub record IsElement (s : State) (key : Key) (l : Literal) (v : ScalarValue) : Type 0 where

@@ -1,0 +1,41 @@
+-- What a literal is as a value of a kind that is learnt late, and two as a pair of two kinds.
+use Rattle.std.specs.Prelude.{◌≡◌, ℤ, true, Result, Ok, Err, List, ◌∷◌, []}
+use Rattle.seg_types.specs.declared.kinds.ScalarKind.{ScalarKind}
+use Rattle.seg_types.specs.declared.refusals.Refusal.{Refusal}
+use Rattle.seg_types.specs.declared.refusals.Refusal.TheVariants.{WrongKind}
+use Rattle.seg_types.specs.declared.values.ScalarValue.{ScalarValue}
+use Rattle.seg_types.specs.Commands.{Literal, value_of_literal}
+use Rattle.seg_types.specs.Kinds.{is_value}
+use Rattle.seg_types.specs.Values.{kind_of_scalar, value_of_scalar}
+
+-- the values of literals: a wrong form among them comes before a wrong range
+abbrev pub and_then : Result ℤ Refusal → Result (List ℤ) Refusal → Result (List ℤ) Refusal
+and_then (Ok z) (Ok zs) = Ok (z ∷ zs)
+and_then (Ok z) (Err r) = Err r
+and_then (Err WrongKind) zs = Err WrongKind
+and_then (Err r) (Err WrongKind) = Err WrongKind
+and_then (Err r) zs = Err r
+
+abbrev pub values_of : ScalarKind → List Literal → Result (List ℤ) Refusal
+values_of k [] = Ok []
+values_of k (l ∷ ls) = and_then (value_of_literal k l) (values_of k ls)
+
+abbrev pub pair_of : ScalarKind → ScalarKind → Literal → Literal → Result (List ℤ) Refusal
+pair_of k v key value = and_then (value_of_literal k key) (and_then (value_of_literal v value) (Ok []))
+
+-- the value has the kind, and is the number that is wanted, or it is refused for the same reason
+abbrev pub IsValueOf : ScalarKind → Result ℤ Refusal → Result ScalarValue Refusal → Type 0
+IsValueOf k wanted (Ok v) = (kind_of_scalar v ≡ k) × (wanted ≡ Ok (value_of_scalar v))
+    × (is_value k (value_of_scalar v) ≡ true)
+IsValueOf k wanted (Err r) = wanted ≡ Err r
+
+-- a value has the kind, and is in its range
+abbrev pub IsOfScalarKind : ScalarKind → ScalarValue → Type 0
+IsOfScalarKind k v = (kind_of_scalar v ≡ k) × (is_value k (value_of_scalar v) ≡ true)
+
+-- key and value have the kinds, and are the numbers that are wanted, or they are refused for the same reason
+abbrev pub IsPairOf : ScalarKind → ScalarKind → Result (List ℤ) Refusal → Result (ScalarValue × ScalarValue) Refusal
+    → Type 0
+IsPairOf k v wanted (Ok p) = IsOfScalarKind k p.0 × IsOfScalarKind v p.1
+    × (wanted ≡ Ok (value_of_scalar p.0 ∷ value_of_scalar p.1 ∷ []))
+IsPairOf k v wanted (Err r) = wanted ≡ Err r

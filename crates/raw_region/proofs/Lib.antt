@@ -8,3 +8,5 @@ mod Pieces
 mod Words
 mod Writing
 pub mod Laws
+pub mod Bytes
+pub mod Facts

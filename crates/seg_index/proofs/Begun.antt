@@ -73,8 +73,7 @@ front_less (suc n) (x ∷ xs) (y ∷ ys) bx by l = elim (cases_lt x y) [
     | inr not_behind ↦
         let level : x ≡ y = omega arith in
         let worth : x * 256 ^ n ≡ y * 256 ^ n = ap (λ (z : ℕ). z * 256 ^ n) level in
-        then_rest x y xs ys Equal (nat_cmp_is x y Equal level)
-        ∙ front_less n xs ys (λ k. bx (suc k)) (λ k. by (suc k))
+        then_rest x y xs ys Equal (nat_cmp_is x y Equal level) ∙ front_less n xs ys (λ k. bx (suc k)) (λ k. by (suc k))
         (omega (arith, l, big_cons n x xs, big_cons n y ys, worth))
   ]
 ]
@@ -93,9 +92,8 @@ front_equal (suc n) (x ∷ xs) (y ∷ ys) bx by e few l = elim (cases_lt x y) [
     | inr not_behind ↦
         let level : x ≡ y = omega arith in
         let worth : x * 256 ^ n ≡ y * 256 ^ n = ap (λ (z : ℕ). z * 256 ^ n) level in
-        then_rest x y xs ys Equal (nat_cmp_is x y Equal level)
-        ∙ front_equal n xs ys (λ k. bx (suc k)) (λ k. by (suc k)) (omega (arith, e)) (omega (arith, few))
-        (omega (arith, l, big_cons n x xs, big_cons n y ys, worth))
+        then_rest x y xs ys Equal (nat_cmp_is x y Equal level) ∙ front_equal n xs ys (λ k. bx (suc k)) (λ k. by (suc k))
+        (omega (arith, e)) (omega (arith, few)) (omega (arith, l, big_cons n x xs, big_cons n y ys, worth))
   ]
 ]
 
@@ -104,8 +102,7 @@ pub front_order : (xs ys : List ℕ) → AreBytes xs → AreBytes ys → front x
 front_order xs ys bx by apart = elim (cases_lt (front xs) (front ys)) [
   | inl before ↦ sym (nat_cmp_is (front xs) (front ys) Less before) ∙ sym (front_less 8 xs ys bx by before)
   | inr not_before ↦ elim (cases_lt (front ys) (front xs)) [
-    | inl behind ↦
-        sym (nat_cmp_is (front xs) (front ys) Greater behind)
+    | inl behind ↦ sym (nat_cmp_is (front xs) (front ys) Greater behind)
         ∙ sym (nat_list_cmp_total.antisymm xs ys ∙ ap ordering_reverse (front_less 8 ys xs by bx behind))
     | inr not_behind ↦ absurd (apart (omega arith))
   ]
@@ -163,8 +160,7 @@ module _ (b : List ℕ) (bytes : AreBytes b) (h len word : ℕ)
     behind =
         let ones = ones_shr 64 (8 * len) (omega arith) in let e : 64 - 8 * len ≡ 8 * rest = omega arith in
         let size = pow256 rest in
-        let small : big_from len rest eight < 2 ^ (8 * rest) =
-        subst (λ (n : ℕ). big_from len rest eight < n) size
+        let small : big_from len rest eight < 2 ^ (8 * rest) = subst (λ (n : ℕ). big_from len rest eight < n) size
         (big_from-lt len rest eight (range_bytes b (h + 16) bytes)) in
         let parts : word ≡ big_from 0 len eight * 2 ^ (8 * rest) + big_from len rest eight =
         is ∙ split eight ∙ ap (λ (n : ℕ). big_from 0 len eight * n + big_from len rest eight) size in

@@ -76,14 +76,13 @@ rest_trans {a} {b} {c} {at} {xs} p q =
     }
 
 pub rest_others : {a b : Cut} {at : ℕ} {xs : List Extent} (h : ℕ) → KeepsRest a b at xs → KeepsRest a b at (others h xs)
-rest_others {a} {b} {xs = xs} h k =
-    record {
-      place = k.place;
-      front = k.front;
-      before = k.before;
-      behind = k.behind;
-      blocks = AllByRecursion-others (SameBlock (bytes_of a.bytes) (bytes_of b.bytes)) h xs k.blocks;
-    }
+rest_others {a} {b} {xs = xs} h k = record {
+  place = k.place;
+  front = k.front;
+  before = k.before;
+  behind = k.behind;
+  blocks = AllByRecursion-others (SameBlock (bytes_of a.bytes) (bytes_of b.bytes)) h xs k.blocks;
+}
 
 pub rest_without : {a b : Cut} {at : ℕ} (l : LiveSet) (o : Option ℕ) → KeepsRest a b at l.extents
     → KeepsRest a b at (without_link l o).extents

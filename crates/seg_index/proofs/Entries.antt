@@ -1,21 +1,19 @@
 -- Blocks in use, their links, and the entries of an index.
-use Rattle.seg_index.proofs.Common.{◌≡◌, refl, subst, ℕ, ◌+◌, ◌≤◌, List, [], ◌∷◌, length, arith, IsTrue, ◌==◌}
-use Rattle.seg_index.proofs.Common.{AllByRecursion, Option, Some, none-some, same_Some, current, Cut, Extent, handle}
-use Rattle.seg_index.proofs.Common.{IsHeap, extent_at, has_room, live_of, among, live-rises, room_block, sym, ap, ◌∙◌}
-use Rattle.seg_index.proofs.Common.{zero, suc, ◌-◌, ◌*◌, ◌%◌, ◌<◌, inl, inr, get_or, insert, remove, slice_get}
-use Rattle.seg_index.proofs.Common.{cases_lt, length-insert, length-remove, slice_get-get_or, Memory, link_at, AllLead}
-use Rattle.seg_index.proofs.Common.{KeepTargets, AreLinks, cases_Bool, None, unwrap_or, nat_lt, and_parts, leb-true}
-use Rattle.seg_index.proofs.Common.{bytes_of, word_at, holds, others, Table, same_role, serves, found-room, room-less}
-use Rattle.seg_index.proofs.Common.{Key, Lookup, Found, Absent, comparisons_in, order_at, beside_table, IsIndexOf}
-use Rattle.seg_index.proofs.Common.{place_of, AreKeys, IsPlaceIn, order, is_live_in, IndexRole}
-use Rattle.std.proofs.lemmas.Bool.{eqb-true}
-use Rattle.std.specs.{List.list_any, Prelude.find}
+use Rattle.seg_index.proofs as own
+use own.Common.{◌≡◌, refl, ◌+◌, List, arith, ◌==◌, Some, among, zero, None, holds, Table, Lookup, Found, Absent, order}
+use own.Common.{subst, slice_get, cases_lt, unwrap_or, and_parts, same_role, room-less, IsIndexOf, IsPlaceIn, IndexRole}
+use own.Common.{ℕ, ◌≤◌, [], ◌∷◌, Cut, sym, ap, ◌∙◌, suc, ◌-◌, ◌*◌, ◌%◌, ◌<◌, inl, inr, Key, length, IsTrue, Option}
+use own.Common.{Extent, handle, IsHeap, get_or, insert, remove, Memory, nat_lt, others, serves, AllByRecursion}
+use own.Common.{none-some, length-insert, length-remove, slice_get-get_or, comparisons_in, beside_table, same_Some}
+use own.Common.{extent_at, has_room, live-rises, room_block, KeepTargets, cases_Bool, found-room, is_live_in, current}
+use own.Common.{live_of, link_at, AllLead, AreLinks, leb-true, bytes_of, word_at, order_at, place_of, AreKeys}
+use own.{Changing.changed_used, Changing.changed_touches, Changing.InHeader, Orders.none_left, Orders.same_comparisons}
 use Rattle.std.proofs.lemmas.List.Edits.{get_or-insert_above, get_or-insert_at, get_or-insert_below}
-use Rattle.std.proofs.lemmas.{List.Edits.get_or-remove_above, List.Edits.get_or-remove_below, Option.slice_get_within}
-use Rattle.seg_index.proofs.Changing.{changed_used, changed_touches, InHeader}
-use Rattle.seg_index.specs.{Lookups.HasKey, Lookups.HasKeys, Lookups.IsPlace, Comparing.comparisons}
-use Rattle.seg_index.specs.declared.index.Index.{TheVariants.Named, TheVariants.Unique, Index}
-use Rattle.seg_index.proofs.Orders.{none_left, same_comparisons}
+use Rattle.std.proofs.lemmas.List.Edits.{get_or-remove_above, get_or-remove_below}
+use Rattle.std.proofs.{lemmas.Bool.eqb-true, lemmas.Option.slice_get_within}
+use Rattle.std.specs.{List.list_any, Prelude.find}
+use Rattle.seg_index.specs.{Lookups.HasKey, Lookups.HasKeys, Lookups.IsPlace, declared.index.Index.TheVariants.Named}
+use Rattle.seg_index.specs.{declared.index.Index.TheVariants.Unique, Comparing.comparisons, declared.index.Index.Index}
 use Rattle.best_fit.proofs.Laws.{changed-room}
 
 -- the first extent of a handle
@@ -129,9 +127,8 @@ insert_each P hs i h within low here high k l = elim (cases_lt k i) [
   | inr not_before ↦ elim (cases_lt i k) [
     | inl behind ↦
         let long = length-insert hs i h within in let e : k - 1 + 1 ≡ k = omega arith in
-        subst (λ j. P j (get_or (insert hs i h) j 0)) e
-        (subst (P (k - 1 + 1)) (sym (get_or-insert_above hs i h 0 (k - 1) (omega arith) within))
-        (high (k - 1) (omega arith) (omega arith)))
+        subst (λ j. P j (get_or (insert hs i h) j 0)) e (subst (P (k - 1 + 1)) (sym (get_or-insert_above hs i h 0
+        (k - 1) (omega arith) within)) (high (k - 1) (omega arith) (omega arith)))
     | inr not_behind ↦
         let e : i ≡ k = omega arith in
         subst (λ j. P j (get_or (insert hs i h) j 0)) e (subst (P i) (sym (get_or-insert_at hs i h 0 within)) here)
@@ -178,9 +175,8 @@ remove_all P hs i within a =
 pub remove_links : {m m' : Memory} (at i : ℕ) (hs : List ℕ) → AreLinks m at hs → i < length hs
     → ((k : ℕ) → k < i → link_at m' (at + 8 * k) ≡ link_at m (at + 8 * k))
     → KeepTargets m m' (at + (8 * i + 8)) (at + 8 * i) (length hs - i - 1) → AreLinks m' at (remove hs i)
-remove_links {m} {m'} at i hs a within low tail =
-    links_from m' at (remove hs i) (remove_each (λ k x. link_at m' (at + 8 * k) ≡ Some x) hs i within
-    (λ k l. low k l ∙ entry_here m at hs k a (omega arith)) (λ k f l.
+remove_links {m} {m'} at i hs a within low tail = links_from m' at (remove hs i) (remove_each (λ k x. link_at m'
+    (at + 8 * k) ≡ Some x) hs i within (λ k l. low k l ∙ entry_here m at hs k a (omega arith)) (λ k f l.
     let p : at + 8 * k ≡ at + 8 * i + 8 * (k - i) = omega arith in
     let q : at + (8 * i + 8) + 8 * (k - i) ≡ at + 8 * (k + 1) = omega arith in
     ap (λ j. link_at m' j) p ∙ tail.each (k - i) (omega arith) ∙ ap (λ j. link_at m j) q
@@ -253,9 +249,8 @@ beside {t = t} p xs = ap (λ k. others k xs) (sym p.begins) ∙ ap (λ (o : Opti
 -- without a block there is no place
 pub bare : {c : Cut} {at : ℕ} {t : Table} {hs : List ℕ} → IsIndexOf c at t hs → link_at (bytes_of c.bytes) at ≡ None
     → t.capacity ≡ 0
-bare {c} {at} {t} {hs} i leads = table_cases (λ u. IsIndexOf c at u hs → u.capacity ≡ 0)
-    (λ cap j. let p = j.places in eqb-true cap 0 p)
-    (λ cap x j. absurd (none-some (handle x) (sym leads ∙ j.stands.link))) t i
+bare {c} {at} {t} {hs} i leads = table_cases (λ u. IsIndexOf c at u hs → u.capacity ≡ 0) (λ cap j. let p = j.places
+    in eqb-true cap 0 p) (λ cap x j. absurd (none-some (handle x) (sym leads ∙ j.stands.link))) t i
 
 pub no_entries : {c : Cut} {at : ℕ} {t : Table} {hs : List ℕ} → IsIndexOf c at t hs
     → link_at (bytes_of c.bytes) at ≡ None → length hs ≡ 0
@@ -312,38 +307,32 @@ pub ruleset sizes = (
 
 pub keys_given : (c : Cut) (at : ℕ) (key : Key) (block count : ℕ) → (k : HasKeys c at key)
     → Placed c at k.table k.handles block → count ≡ word_at (bytes_of c.bytes) (at + 8) → AreKeys c block count key
-keys_given c at key block count k p e =
-    record {
-      room = room-less (live_of c.bytes) block (8 * k.table.capacity) (8 * count) (omega arith) p.room;
-      target = λ i l. (get_or k.handles i 0, entry_here (bytes_of c.bytes) block k.handles i p.links (omega arith));
-      keyed = λ i h l is. all_at (HasKey c key) k.handles i h k.keys
-          (at_links (bytes_of c.bytes) block k.handles i h p.links (omega arith) is);
-    }
+keys_given c at key block count k p e = record {
+  room = room-less (live_of c.bytes) block (8 * k.table.capacity) (8 * count) (omega arith) p.room;
+  target = λ i l. (get_or k.handles i 0, entry_here (bytes_of c.bytes) block k.handles i p.links (omega arith));
+  keyed = λ i h l is. all_at (HasKey c key) k.handles i h k.keys
+      (at_links (bytes_of c.bytes) block k.handles i h p.links (omega arith) is);
+}
 
 pub place_found : (m : Memory) (key : Key) (hs : List ℕ) (block count : ℕ) (r : Lookup) → AreLinks m block hs
     → count ≡ length hs → IsPlaceIn m key block count r → IsPlace m key hs r
 place_found m key hs block count (Found j) a long p = (
   get_or hs j 0,
   slice_get-get_or hs j 0 (omega arith),
-  p.1 (get_or hs j 0)
-      (entry_here m block hs j a (omega arith)),
+  p.1 (get_or hs j 0) (entry_here m block hs j a (omega arith)),
 )
 place_found m key hs block count (Absent j) a long p =
     let at = λ (x g : ℕ) (w : x < length hs). at_links m block hs x g a w in (
       omega arith,
-      λ rises k h e. p.1
-          (record {
-            each = λ x y g f lt within gx fy. rises.each x y g f lt (at x g (omega arith) gx)
-                (at y f (omega arith) fy);
-          })
-          k h (let w = slice_get_within hs k h e in omega arith) (links_at m block hs k h a e),
+      λ rises k h e. p.1 (record {
+        each = λ x y g f lt within gx fy. rises.each x y g f lt (at x g (omega arith) gx) (at y f (omega arith) fy);
+      }) k h (let w = slice_get_within hs k h e in omega arith) (links_at m block hs k h a e),
     )
 
 -- the comparisons over the links of the block are those over the handles
 pub comparisons_found : (m : Memory) (key : Key) (hs : List ℕ) (block count : ℕ) → AreLinks m block hs
     → count ≡ length hs → comparisons_in m key block count ≡ comparisons m key hs
-comparisons_found m key hs block count a long =
-    ap (λ n. comparisons_in m key block n) long
+comparisons_found m key hs block count a long = ap (λ n. comparisons_in m key block n) long
     ∙ same_comparisons (length hs) (order_at m key block) (λ j. order m key (unwrap_or (slice_get hs j) 0)) 0
     (length hs) (λ j l. ap (λ (o : Option ℕ). order m key (unwrap_or o 0))
     (entry_here m block hs j a l ∙ sym (slice_get-get_or hs j 0 l)))
@@ -354,6 +343,5 @@ comparisons_none m key hs z =
 
 pub entry_found : (m : Memory) (hs : List ℕ) (block j got : ℕ) (o : Option ℕ) → AreLinks m block hs → j < length hs
     → o ≡ link_at m (block + 8 * j) → got ≡ unwrap_or o 0 → slice_get hs j ≡ Some got
-entry_found m hs block j got o a l e g =
-    slice_get-get_or hs j 0 l
+entry_found m hs block j got o a l e g = slice_get-get_or hs j 0 l
     ∙ ap (λ k. Some k) (sym (g ∙ ap (λ (r : Option ℕ). unwrap_or r 0) (e ∙ entry_here m block hs j a l)))

@@ -39,12 +39,11 @@ bits_few n l = omega (arith, bits-le n (n + 1) (omega arith), bits_most n (omega
 
 -- by how the middle key stands
 abbrev turn : ℕ → (ℕ → Ordering) → ℕ → ℕ → Ordering → ℕ
-turn most stands low high o =
-    suc (elim o [
-      | Less ↦ comparisons_among most stands (middle low high + 1) high
-      | Equal ↦ 0
-      | Greater ↦ comparisons_among most stands low (middle low high)
-    ])
+turn most stands low high o = suc (elim o [
+  | Less ↦ comparisons_among most stands (middle low high + 1) high
+  | Equal ↦ 0
+  | Greater ↦ comparisons_among most stands low (middle low high)
+])
 
 one_turn : (most : ℕ) (stands : ℕ → Ordering) (low high : ℕ) (o : Ordering) → low < high → stands (middle low high) ≡ o
     → comparisons_among (suc most) stands low high ≡ turn most stands low high o
@@ -57,9 +56,8 @@ pub none_left : (most : ℕ) (stands : ℕ → Ordering) (low high : ℕ) → hi
     → comparisons_among most stands low high ≡ 0
 unfolding comparisons_among
 none_left zero stands low high l = refl
-none_left (suc most) stands low high l =
-    ap (λ (b : Bool). elim b [ false ↦ 0 | true ↦ turn most stands low high (stands (middle low high)) ])
-    (le-ltb low high l)
+none_left (suc most) stands low high l = ap (λ (b : Bool). elim b
+    [ false ↦ 0 | true ↦ turn most stands low high (stands (middle low high)) ]) (le-ltb low high l)
 
 -- ---- the comparisons that were made, with those among the keys that are left, are those among all
 
@@ -78,9 +76,8 @@ one_more : {stands : ℕ → Ordering} {count low high made : ℕ} (o : Ordering
     → low < high → stands (middle low high) ≡ o → More stands count low high made o
 one_more {stands} {count} {low} {high} {made} o k l is = by_most k.most k.enough k.all
   where
-    by_most : (most : ℕ) → high - low ≤ most
-        → made + comparisons_among most stands low high ≡ comparisons_among count stands 0 count
-        → More stands count low high made o
+    by_most : (most : ℕ) → high - low ≤ most → made + comparisons_among most stands low high ≡ comparisons_among count
+        stands 0 count → More stands count low high made o
     by_most zero e a = absurd (omega arith)
     by_most (suc most) e a = let turned = ap (λ n. made + n) (sym (one_turn most stands low high o l is)) in
         record { most = most; enough = e; all = turned ∙ a }
@@ -111,10 +108,9 @@ none_at_all : (p : ℕ → Ordering) (low high : ℕ) → comparisons_among 0 p 
 unfolding comparisons_among
 none_at_all p low high = refl
 
-same_turns : (most : ℕ) (p q : ℕ → Ordering) (low high : ℕ) (o : Ordering)
-    → comparisons_among most p (middle low high + 1) high ≡ comparisons_among most q (middle low high + 1) high
-    → comparisons_among most p low (middle low high) ≡ comparisons_among most q low (middle low high)
-    → turn most p low high o ≡ turn most q low high o
+same_turns : (most : ℕ) (p q : ℕ → Ordering) (low high : ℕ) (o : Ordering) → comparisons_among most p (middle low high
+    + 1) high ≡ comparisons_among most q (middle low high + 1) high → comparisons_among most p low (middle low high)
+    ≡ comparisons_among most q low (middle low high) → turn most p low high o ≡ turn most q low high o
 same_turns most p q low high Less up down = ap suc up
 same_turns most p q low high Equal up down = refl
 same_turns most p q low high Greater up down = ap suc down
@@ -125,10 +121,9 @@ same_comparisons zero p q low high same = none_at_all p low high ∙ sym (none_a
 same_comparisons (suc most) p q low high same = elim (cases_lt low high) [
   | inl l ↦
       let here = q (middle low high) in
-      one_turn most p low high here l (same (middle low high) (omega arith))
-      ∙ same_turns most p q low high here (same_comparisons most p q (middle low high + 1) high same)
-      (same_comparisons most p q low (middle low high) (λ i k. same i (omega arith)))
-      ∙ sym (one_turn most q low high here l refl)
+      one_turn most p low high here l (same (middle low high) (omega arith)) ∙ same_turns most p q low high here
+      (same_comparisons most p q (middle low high + 1) high same) (same_comparisons most p q low (middle low high)
+      (λ i k. same i (omega arith))) ∙ sym (one_turn most q low high here l refl)
   | inr l ↦ none_left (suc most) p low high l ∙ sym (none_left (suc most) q low high l)
 ]
 
@@ -149,8 +144,7 @@ few_comparisons (suc most) stands low high = elim (cases_lt low high) [
     by_order : low < high
         → comparisons_among most stands (middle low high + 1) high ≤ bits (high - (middle low high + 1))
         → comparisons_among most stands low (middle low high) ≤ bits (middle low high - low) → (o : Ordering)
-        → stands (middle low high) ≡ o
-        → comparisons_among (suc most) stands low high ≤ bits (high - low)
+        → stands (middle low high) ≡ o → comparisons_among (suc most) stands low high ≤ bits (high - low)
     by_order l up down Less e =
         omega (arith, half l (high - (middle low high + 1)) (omega arith), one_turn most stands low high Less l e)
     by_order l up down Equal e = omega (arith, half l 0 (omega arith), one_turn most stands low high Equal l e)
@@ -179,9 +173,8 @@ pub record IsLeft (c : Cut) (key : Key) (block count low high made : ℕ) : Type
 
 -- a key that stands before the one that is looked up, and so all before it do
 pub left_up : {c : Cut} {key : Key} {block count low high made : ℕ} → AreKeys c block count key
-    → IsLeft c key block count low high made → low < high
-    → order_at (bytes_of c.bytes) key block (middle low high) ≡ Less
-    → IsLeft c key block count (middle low high + 1) high (made + 1)
+    → IsLeft c key block count low high made → low < high → order_at (bytes_of c.bytes) key block
+    (middle low high) ≡ Less → IsLeft c key block count (middle low high + 1) high (made + 1)
 left_up {c} {key} {block} {low = low} {high} keys i l is =
     let m = bytes_of c.bytes in let mid = middle low high in let few = i.few in
     let t = keys.target mid (omega arith) in
@@ -200,9 +193,8 @@ left_up {c} {key} {block} {low = low} {high} keys i l is =
     }
 
 pub left_down : {c : Cut} {key : Key} {block count low high made : ℕ} → AreKeys c block count key
-    → IsLeft c key block count low high made → low < high
-    → order_at (bytes_of c.bytes) key block (middle low high) ≡ Greater
-    → IsLeft c key block count low (middle low high) (made + 1)
+    → IsLeft c key block count low high made → low < high → order_at (bytes_of c.bytes) key block
+    (middle low high) ≡ Greater → IsLeft c key block count low (middle low high) (made + 1)
 left_down {c} {key} {block} {low = low} {high} keys i l is =
     let m = bytes_of c.bytes in let mid = middle low high in let few = i.few in
     let t = keys.target mid (omega arith) in let half = bits_half (high - low) (mid - low) (omega arith) (omega arith)

@@ -27,9 +27,8 @@ use Rattle.best_fit.specs.Heap.{KeepsGaps}
 -- other links in the block, and then their number in the header
 counted : {a b c : Cut} {at block f n place count : ℕ} {t : Table} {hs : List ℕ} (gs : List ℕ) → Placed a at t hs block
     → InHeader at → IsChanged current a b f n → block ≤ f → AreLinks (bytes_of b.bytes) block gs
-    → length gs ≤ t.capacity → AllByRecursion (λ h. h % 16 ≡ 0) gs → place ≡ at
-    → IsChanged current b c (place + 8) 8 → word_at (bytes_of c.bytes) (place + 8) ≡ count → count ≡ length gs
-    → IsIndexOf c at t gs
+    → length gs ≤ t.capacity → AllByRecursion (λ h. h % 16 ≡ 0) gs → place ≡ at → IsChanged current b c (place + 8) 8
+    → word_at (bytes_of c.bytes) (place + 8) ≡ count → count ≡ length gs → IsIndexOf c at t gs
 counted {a} {b} {c} {at} {block} {f} {n} {place} {count} {t} gs p w one low links few whole e change word long =
     let A = bytes_of a.bytes in let B = bytes_of b.bytes in let C = bytes_of c.bytes in let i = p.index in
     let two : IsChanged current b c (at + 8) 8 = subst (λ k. IsChanged current b c (k + 8) 8) e change in
@@ -56,10 +55,9 @@ counted {a} {b} {c} {at} {block} {f} {n} {place} {count} {t} gs p w one low link
 pub inserted : {a b c : Cut} {at block here place count h : ℕ} {t : Table} {hs : List ℕ} → Placed a at t hs block
     → InHeader at → count ≡ length hs → here ≤ count → count < t.capacity → h % 16 ≡ 0
     → IsChanged current a b (block + 8 * here) (8 * (count - here) + 8)
-    → link_at (bytes_of b.bytes) (block + 8 * here) ≡ Some h
-    → KeepTargets (bytes_of a.bytes) (bytes_of b.bytes) (block + 8 * here) (block + 8 * here + 8) (count - here)
-    → place ≡ at → IsChanged current b c (place + 8) 8 → word_at (bytes_of c.bytes) (place + 8) ≡ count + 1
-    → IsIndexOf c at t (insert hs here h)
+    → link_at (bytes_of b.bytes) (block + 8 * here) ≡ Some h → KeepTargets (bytes_of a.bytes) (bytes_of b.bytes)
+    (block + 8 * here) (block + 8 * here + 8) (count - here) → place ≡ at → IsChanged current b c (place + 8) 8
+    → word_at (bytes_of c.bytes) (place + 8) ≡ count + 1 → IsIndexOf c at t (insert hs here h)
 inserted {a} {b} {block = block} {here} {count = count} {h} {hs = hs} p w long within room even one there tail e two
     word =
     let A = bytes_of a.bytes in let B = bytes_of b.bytes in
@@ -71,8 +69,7 @@ inserted {a} {b} {block = block} {here} {count = count} {h} {hs = hs} p w long w
     (insert_all (λ k. k % 16 ≡ 0) hs here h (omega arith) p.index.whole even) e two word (omega arith)
 
 pub removed : {a b c : Cut} {at block here place count : ℕ} {t : Table} {hs : List ℕ} → Placed a at t hs block
-    → InHeader at → count ≡ length hs → here < count
-    → IsChanged current a b (block + 8 * here) (8 * (count - here - 1))
+    → InHeader at → count ≡ length hs → here < count → IsChanged current a b (block + 8 * here) (8 * (count - here - 1))
     → KeepTargets (bytes_of a.bytes) (bytes_of b.bytes) (block + (8 * here + 8)) (block + 8 * here) (count - here - 1)
     → place ≡ at → IsChanged current b c (place + 8) 8 → word_at (bytes_of c.bytes) (place + 8) ≡ count - 1
     → IsIndexOf c at t (remove hs here)
@@ -103,9 +100,8 @@ pub gaps_kept : {a b c : Cut} {at block n place : ℕ} {t : Table} {hs : List �
 gaps_kept {a} {b} {c} {at} {block} {n} {t = t} p w k one few e two =
     let room = room-less (live_of a.bytes) block (8 * t.capacity) (k + n) few p.room in
     let word : IsChanged current b c (at + 8) 8 = subst (λ j. IsChanged current b c (j + 8) 8) e two in
-    gaps-then a b c (block + k) n one
-    (gaps-payload a b block (k + n) (block + k) n one room (omega arith) (omega arith))
-    (gaps-header b c (at + 8) 8 word (omega arith))
+    gaps-then a b c (block + k) n one (gaps-payload a b block (k + n) (block + k) n one room (omega arith)
+    (omega arith)) (gaps-header b c (at + 8) 8 word (omega arith))
 
 -- ---- a block that is offered
 
@@ -183,9 +179,8 @@ settled {a} {d} {at} {block} {count} {capacity} hs h w heap f within some links 
 -- as many places as were meant, in a block that was in use before
 pub index_in : (b d e : Cut) (h : ℕ) {at k places : ℕ} {hs : List ℕ} → live_of d.bytes ≡ live_of b.bytes → k ≡ places
     → IsIndexIn d e at h k hs → IsIndexIn b e at h places hs
-index_in b d e h {at} {places = places} {hs} same is i =
-    subst (λ (l : LiveSet). IsIndexOf e at (record { capacity = places; extent = extent_at l h }) hs) same
-    (subst (λ n. IsIndexIn d e at h n hs) is i)
+index_in b d e h {at} {places = places} {hs} same is i = subst (λ (l : LiveSet). IsIndexOf e at
+    (record { capacity = places; extent = extent_at l h }) hs) same (subst (λ n. IsIndexIn d e at h n hs) is i)
 
 -- what is known of the block that they led to before
 pub gone : (c : Cut) {link : Option ℕ} {block : ℕ} (old : ℕ) → link ≡ Some old
@@ -203,9 +198,8 @@ settled_released {block = block} {old = old} h w r other i =
 
 -- ---- what stays
 
-pub headed_released_keeps : {a d e : Cut} {at count capacity : ℕ} {to : Option ℕ} (h : ℕ)
-    → Headed a d at to count capacity → IsReleased current d e h → InHeader at
-    → KeepsRest a e at (others h (live_of a.bytes).extents)
+pub headed_released_keeps : {a d e : Cut} {at count capacity : ℕ} {to : Option ℕ} (h : ℕ) → Headed a d at to count
+    capacity → IsReleased current d e h → InHeader at → KeepsRest a e at (others h (live_of a.bytes).extents)
 headed_released_keeps {a} {d} {e} {at} h w r in_header =
     rest_trans (rest_others h (keeps_words at w.change in_header (omega arith) (omega arith)))
     (subst (λ (l : LiveSet). KeepsRest d e at (others h l.extents)) (same_live w.change) (rest_of r.keeps in_header))
@@ -307,10 +301,9 @@ moved {m} {m'} from to hs a long lead = links_moved m m' from to hs a (λ k l.
 -- and where they are moved round a new one
 pub filled : {A : Memory} {b d : Cut} {place count n h : ℕ} (from to : ℕ) (hs : List ℕ) → AreLinks A from hs
     → AreLinks (bytes_of b.bytes) from hs → count ≡ length hs → place ≤ count
-    → KeepTargets A (bytes_of b.bytes) (from + 0) (to + 0) place
-    → IsChanged current b d (to + 8 * place) n → link_at (bytes_of d.bytes) (to + 8 * place) ≡ Some h
-    → KeepTargets (bytes_of b.bytes) (bytes_of d.bytes) (from + 8 * place) (to + 8 * place + 8) (count - place)
-    → AreLinks (bytes_of d.bytes) to (insert hs place h)
+    → KeepTargets A (bytes_of b.bytes) (from + 0) (to + 0) place → IsChanged current b d (to + 8 * place) n
+    → link_at (bytes_of d.bytes) (to + 8 * place) ≡ Some h → KeepTargets (bytes_of b.bytes) (bytes_of d.bytes)
+    (from + 8 * place) (to + 8 * place + 8) (count - place) → AreLinks (bytes_of d.bytes) to (insert hs place h)
 filled {A} {b} {d} {place} {count} {n} {h} from to hs la lb long within lead two here tail =
     let B = bytes_of b.bytes in let D = bytes_of d.bytes in
     insert_links from to place h hs lb (omega arith) (λ k l.
@@ -388,25 +381,23 @@ shrunk_bare {a} {at} {t} {hs} i leads w = table_cases (λ u. IsIndexOf a at u hs
 
 pub empty_index : {a c : Cut} {at : ℕ} (hs : List ℕ) → Headed a c at None 0 0 → length hs ≡ 0
     → AllByRecursion (λ h. h % 16 ≡ 0) hs → IsIndexOf c at no_table hs
-empty_index hs w zero whole =
-    record {
-      heap = changed_heap w.change;
-      stands = record {
-        link = w.link;
-        count = w.count_word ∙ sym zero;
-        capacity = w.capacity_word;
-        entries = nil_from_length hs zero;
-      };
-      places = refl;
-      few = omega arith;
-      held = tt;
-      whole = whole;
-    }
+empty_index hs w zero whole = record {
+  heap = changed_heap w.change;
+  stands = record {
+    link = w.link;
+    count = w.count_word ∙ sym zero;
+    capacity = w.capacity_word;
+    entries = nil_from_length hs zero;
+  };
+  places = refl;
+  few = omega arith;
+  held = tt;
+  whole = whole;
+}
 
 pub emptied : {a b c : Cut} {place at n : ℕ} → place ≡ at → IsChanged current a b (place + 16) 8
     → word_at (bytes_of b.bytes) (place + 16) ≡ n → IsChanged current b c place 8
-    → link_at (bytes_of c.bytes) place ≡ None → n ≡ word_at (bytes_of a.bytes) (at + 8) → n ≡ 0
-    → Headed a c at None 0 0
+    → link_at (bytes_of c.bytes) place ≡ None → n ≡ word_at (bytes_of a.bytes) (at + 8) → n ≡ 0 → Headed a c at None 0 0
 emptied {a} {b} {c} {place} {at} e one word two leads count zero =
     let A = bytes_of a.bytes in let B = bytes_of b.bytes in let C = bytes_of c.bytes in
     let was : word_at A (place + 8) ≡ 0 = ap (λ k. word_at A (k + 8)) e ∙ sym count ∙ zero in
@@ -421,8 +412,7 @@ emptied {a} {b} {c} {place} {at} e one word two leads count zero =
 
 cut_zero : {a : Cut} {at : ℕ} {t : Table} {hs : List ℕ} {block : ℕ} → Placed a at t hs block → (l : LiveSet) (n : ℕ)
     → n ≡ 0 → released l block ≡ with_cut l n t
-cut_zero {t = t} p l n z =
-    ap (released l) (sym p.begins)
+cut_zero {t = t} p l n z = ap (released l) (sym p.begins)
     ∙ sym (cond-true (n == 0) (released l (handle p.extent)) (resized l (shorter l p.extent (8 * n))) (eq-eqb n 0 z))
     ∙ ap (λ (o : Option Extent). with_cut l n (record { capacity = t.capacity; extent = o })) (sym p.is)
 
@@ -485,31 +475,26 @@ found_cut l x y rises found begins =
     (others k l.extents)) (sym begins) f.differs))
 
 shrunk_some : (a b e : Cut) (at cap : ℕ) (x : Extent) (hs : List ℕ)
-    → Placed a at (record { capacity = cap; extent = Some x }) hs (handle x) → (length hs ≡ 0 → ⊥)
-    → IsChanged current a b (at + 16) 8 → word_at (bytes_of b.bytes) (at + 16) ≡ length hs
-    → IsShortened current b e (handle x) (8 * length hs) → InHeader at
-    → IsShrunk a e at (record { capacity = cap; extent = Some x }) hs
+    → Placed a at (record { capacity = cap; extent = Some x }) hs (handle x) → (length hs ≡ 0 → ⊥) → IsChanged current a
+    b (at + 16) 8 → word_at (bytes_of b.bytes) (at + 16) ≡ length hs → IsShortened current b e (handle x)
+    (8 * length hs) → InHeader at → IsShrunk a e at (record { capacity = cap; extent = Some x }) hs
 shrunk_some a b e at cap x hs p some one word s w =
     let A = bytes_of a.bytes in let B = bytes_of b.bytes in let E = bytes_of e.bytes in let i = p.index in
     let l = live_of a.bytes in let n = length hs in let y = shorter l x (8 * n) in
     let few = i.few in let live : live_of b.bytes ≡ l = same_live one in
     let r : IsResized current b e x y = resized_here live i.held s in
     let two = and_parts (nat_lt 0 cap) (serves x IndexRole (8 * cap)) i.places in
-    let h : Short x y (8 * n) = short l x cap n few two.1 in
-    let begins = h.begins in
-    let now : live_of e.bytes ≡ resized l y =
-    resized-live current b e x y r ∙ ap (λ (k : LiveSet). resized k y) live in
+    let h : Short x y (8 * n) = short l x cap n few two.1 in let begins = h.begins in
+    let now : live_of e.bytes ≡ resized l y = resized-live current b e x y r ∙ ap (λ (k : LiveSet). resized k y) live in
     let links : AreLinks E (handle y) hs = links_moved A E (handle x) (handle y) hs i.stands.entries (λ k f.
     let q : handle y + 8 * k ≡ handle x + 8 * k = omega arith in
-    ap (λ j. link_at E j) q
-    ∙ Same-link B E (handle x) (x.offset + min x.len y.len) (handle x + 8 * k) r.still.payload (omega arith)
-    (omega arith) ∙ SameBut-link A B (at + 16) 8 (handle x + 8 * k) one.rest (inr (omega arith))) in
+    ap (λ j. link_at E j) q ∙ Same-link B E (handle x) (x.offset + min x.len y.len) (handle x + 8 * k) r.still.payload
+    (omega arith) (omega arith) ∙ SameBut-link A B (at + 16) 8 (handle x + 8 * k) one.rest (inr (omega arith))) in
     let index : IsIndexOf e at (record { capacity = n; extent = Some y }) hs = record {
       heap = laid-heap e.bytes (resized (live_of b.bytes) y) r.live;
       stands = record {
-        link = Same-link B E 32 128 at r.keeps.behind w.behind (omega arith)
-            ∙ SameBut-link A B (at + 16) 8 at one.rest (inl (omega arith)) ∙ i.stands.link
-            ∙ ap (λ k. Some k) (sym begins);
+        link = Same-link B E 32 128 at r.keeps.behind w.behind (omega arith) ∙ SameBut-link A B (at + 16) 8 at one.rest
+            (inl (omega arith)) ∙ i.stands.link ∙ ap (λ k. Some k) (sym begins);
         count = Same-word B E 32 128 (at + 8) r.keeps.behind (omega arith) (omega arith)
             ∙ SameBut-word A B (at + 16) 8 (at + 8) one.rest (inl (omega arith)) ∙ i.stands.count;
         capacity = Same-word B E 32 128 (at + 16) r.keeps.behind (omega arith) (omega arith) ∙ word;
@@ -532,10 +517,9 @@ shrunk_some a b e at cap x hs p some one word s w =
           (subst (λ (k : LiveSet). KeepsRest b e at (others (handle x) k.extents)) live (rest_of r.keeps w));
     }
 
-pub shrunk_short : {a b e : Cut} {at block place n : ℕ} {t : Table} {hs : List ℕ} → Placed a at t hs block
-    → (n ≡ 0 → ⊥) → n ≡ length hs → place ≡ at → IsChanged current a b (place + 16) 8
-    → word_at (bytes_of b.bytes) (place + 16) ≡ n → IsShortened current b e block (8 * n) → InHeader at
-    → IsShrunk a e at t hs
+pub shrunk_short : {a b e : Cut} {at block place n : ℕ} {t : Table} {hs : List ℕ} → Placed a at t hs block → (n ≡ 0 → ⊥)
+    → n ≡ length hs → place ≡ at → IsChanged current a b (place + 16) 8 → word_at (bytes_of b.bytes) (place + 16) ≡ n
+    → IsShortened current b e block (8 * n) → InHeader at → IsShrunk a e at t hs
 shrunk_short {a} {b} {e} {at} {block} {place} {n} {t} {hs} p some long there change word s w =
     let one : IsChanged current a b (at + 16) 8 = subst (λ k. IsChanged current a b (k + 16) 8) there change in
     let is : word_at (bytes_of b.bytes) (at + 16) ≡ length hs =

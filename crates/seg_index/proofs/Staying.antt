@@ -1,14 +1,13 @@
 -- An index stays where its words and its block do, and a growth may still be used; the block that a request took.
-use Rattle.seg_index.proofs.Common.{◌≡◌, refl, ap, subst, ◌∙◌, ℕ, ◌+◌, ◌*◌, ◌≤◌, List, [], ◌∷◌, arith, IsTrue, Option}
-use Rattle.seg_index.proofs.Common.{Some, None, IfSome, AllByRecursion, none-some, same_Some, current, Cut, Same}
-use Rattle.seg_index.proofs.Common.{bytes_of, Same-part, Same-word, Role, link_at, Same-link, Extent, LiveSet, handle}
-use Rattle.seg_index.proofs.Common.{added, others, IsAllocated, IsChanged, IsHeap, IsReleased, SameBlock, extent_at}
-use Rattle.seg_index.proofs.Common.{has_room, live_of, Table, changed-keeps, found-less, laid-heap, released-live}
-use Rattle.seg_index.proofs.Common.{IsIndexOf, AreEntries, sym, ◌-◌, ◌^◌, inl, inr, min, cases_lt, place, serves}
-use Rattle.seg_index.proofs.Common.{allocated-live, found-new, live-rises, rising-insert, IsBlockFor, IndexRole, ◌<◌}
-use Rattle.seg_index.proofs.Common.{capacity_at, grown_capacity, LaysOut, Keeps}
-use Rattle.seg_index.proofs.Entries.{all_found, first, links_moved, long_enough, table_cases, placed}
-use Rattle.seg_index.proofs.Changing.{InHeader, same_live}
+use Rattle.seg_index.proofs as own
+use own.Common.{◌≡◌, refl, ap, subst, ◌∙◌, ℕ, ◌+◌, ◌*◌, ◌≤◌, List, [], ◌∷◌, arith, IsTrue, Option, Some, None, IfSome}
+use own.Common.{AllByRecursion, none-some, same_Some, current, Cut, Same, bytes_of, Same-part, Same-word, Role, link_at}
+use own.Common.{Same-link, Extent, LiveSet, handle, added, others, IsAllocated, IsChanged, IsHeap, IsReleased}
+use own.Common.{SameBlock, extent_at, has_room, live_of, Table, changed-keeps, found-less, laid-heap, released-live}
+use own.Common.{IsIndexOf, AreEntries, sym, ◌-◌, ◌^◌, inl, inr, min, cases_lt, place, serves, allocated-live, found-new}
+use own.Common.{live-rises, rising-insert, IsBlockFor, IndexRole, ◌<◌, capacity_at, grown_capacity, LaysOut, Keeps}
+use own.Entries.{all_found, first, links_moved, long_enough, table_cases, placed}
+use own.Changing.{InHeader, same_live}
 use Rattle.seg_index.specs.{Growth.CanGrow, Growth.IsGrowth, Held.entry_count}
 use Rattle.best_fit.proofs.Laws.{exchange-taken, kept-found, IsFresh, place-serves, too_long}
 use Rattle.best_fit.specs.{Extents.end_of, Fit.insert}
@@ -33,9 +32,8 @@ stays a b at t hs i r =
         entries = table_cases (λ u. IsIndexOf a at u hs → Around a b at u → AreEntries B u hs)
             (λ cap j q. j.stands.entries) (λ cap x j q.
             let few = j.few in let long = long_enough j in
-            links_moved A B (handle x) (handle x) hs j.stands.entries
-            (λ k l. Same-link A B (handle x) (end_of x) (handle x + 8 * k) q.block.1 (omega arith) (omega arith)))
-            t i r;
+            links_moved A B (handle x) (handle x) hs j.stands.entries (λ k l. Same-link A B (handle x) (end_of x)
+            (handle x + 8 * k) q.block.1 (omega arith) (omega arith))) t i r;
       };
       places = i.places;
       few = i.few;
@@ -47,10 +45,8 @@ stays a b at t hs i r =
 -- the block of an index is among those that stay, and in use
 pub Around-kept : (a b : Cut) (at : ℕ) (t : Table) (xs : List Extent) → IsHeap current b.bytes
     → Same (bytes_of a.bytes) (bytes_of b.bytes) at (at + 24)
-    → AllByRecursion (SameBlock (bytes_of a.bytes) (bytes_of b.bytes)) xs
-    → ((x : Extent) → t.extent ≡ Some x
-    → (first (handle x) xs ≡ Some x) × (extent_at (live_of b.bytes) (handle x) ≡ Some x))
-    → Around a b at t
+    → AllByRecursion (SameBlock (bytes_of a.bytes) (bytes_of b.bytes)) xs → ((x : Extent) → t.extent ≡ Some x
+    → (first (handle x) xs ≡ Some x) × (extent_at (live_of b.bytes) (handle x) ≡ Some x)) → Around a b at t
 Around-kept a b at t xs heap words same found = record { heap = heap; words = words; block = by_case t.extent refl }
   where
     by_case : (o : Option Extent) → t.extent ≡ o → IfSome o (λ x. (extent_at (live_of b.bytes) (handle x) ≡ Some x)
@@ -73,13 +69,11 @@ block_of {c} {at} {t} {hs} x i e = table_cases (λ u. IsIndexOf c at u hs → u.
 
 -- where these blocks stay, and that of the index is one of them and in use
 still_kept : {a b : Cut} {at : ℕ} {t : Table} {hs : List ℕ} {l : LiveSet} (xs : List Extent) → InHeader at
-    → IsIndexOf a at t hs → LaysOut current b.bytes l → Keeps a b xs
-    → ((x : Extent) → HasBlock a at x
+    → IsIndexOf a at t hs → LaysOut current b.bytes l → Keeps a b xs → ((x : Extent) → HasBlock a at x
     → (first (handle x) xs ≡ Some x) × (extent_at (live_of b.bytes) (handle x) ≡ Some x)) → IsIndexOf b at t hs
-still_kept {a} {b} {at} {t} {hs} {l} xs w i laid keeps found =
-    stays a b at t hs i (Around-kept a b at t xs (laid-heap b.bytes l laid)
-    (Same-part (bytes_of a.bytes) (bytes_of b.bytes) 32 128 at (at + 24) keeps.behind w.behind w.small) keeps.blocks
-    (λ x e. found x (block_of x i e)))
+still_kept {a} {b} {at} {t} {hs} {l} xs w i laid keeps found = stays a b at t hs i (Around-kept a b at t xs
+    (laid-heap b.bytes l laid) (Same-part (bytes_of a.bytes) (bytes_of b.bytes) 32 128 at (at + 24) keeps.behind
+    w.behind w.small) keeps.blocks (λ x e. found x (block_of x i e)))
 
 -- ---- where a block is taken
 
@@ -103,9 +97,8 @@ other_block o e n q = n (e ∙ ap (λ k. Some k) q)
 -- and it is found among the others
 among_others : {a : Cut} {at h : ℕ} → (link_at (bytes_of a.bytes) at ≡ Some h → ⊥) → (x : Extent) → HasBlock a at x
     → first (handle x) (others h (live_of a.bytes).extents) ≡ Some x
-among_others {a} {at} {h} other x q =
-    found-less (handle x) h x (live_of a.bytes).extents (other_block (link_at (bytes_of a.bytes) at) q.leads other)
-    q.found
+among_others {a} {at} {h} other x q = found-less (handle x) h x (live_of a.bytes).extents
+    (other_block (link_at (bytes_of a.bytes) at) q.leads other) q.found
 
 pub still_released : {a b : Cut} {at h : ℕ} {t : Table} {hs : List ℕ} → InHeader at → IsReleased current a b h
     → (link_at (bytes_of a.bytes) at ≡ Some h → ⊥) → IsIndexOf a at t hs → IsIndexOf b at t hs
@@ -144,13 +137,12 @@ is_found {a} {b} {n} {h} {role} i =
 
 pub taken_block : (a b : Cut) (n places h : ℕ) → IsAllocated current a b n IndexRole h → n ≡ 8 * places
     → IsBlockFor b h places
-taken_block a b n places h i e =
-    record {
-      extent = i.extent;
-      found = is_found i;
-      fits = subst (λ k. IsTrue (serves i.extent IndexRole k)) e
-          (place-serves (live_of a.bytes) n IndexRole i.extent i.placed);
-    }
+taken_block a b n places h i e = record {
+  extent = i.extent;
+  found = is_found i;
+  fits = subst (λ k. IsTrue (serves i.extent IndexRole k)) e
+      (place-serves (live_of a.bytes) n IndexRole i.extent i.placed);
+}
 
 -- ---- how much is asked for
 
@@ -192,9 +184,8 @@ still_grows : {a b : Cut} {at : ℕ} (g : Option ℕ) → Words a b at → ((h :
 still_grows None w f can = omega arith
 still_grows {b = b} {at} (Some h) w f can =
     let k = can.0 in
-    let block : IsBlockFor b h (grown_capacity (capacity_at b at)) = subst (λ n. IsBlockFor b h n)
-    (ap grown_capacity (sym w.capacity))
-    (record { extent = k.extent; found = f h k.extent refl k.found; fits = k.fits }) in
+    let block : IsBlockFor b h (grown_capacity (capacity_at b at)) = subst (λ n. IsBlockFor b h n) (ap grown_capacity
+    (sym w.capacity)) (record { extent = k.extent; found = f h k.extent refl k.found; fits = k.fits }) in
     (block, λ e. can.1 (sym w.link ∙ e))
 
 pub prepared : (a b : Cut) (at : ℕ) (g : Option ℕ) (t : Table) (hs : List ℕ) → IsIndexOf a at t hs → IsGrowth a b at g

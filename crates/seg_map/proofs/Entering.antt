@@ -68,14 +68,12 @@ found_in (y ∷ ys) h x e =
 -- a block stays where all but another do
 pub other_block : {c d : Cut} (live : LiveSet) (h g : ℕ) {x : Extent} → Keeps c d (others h live.extents)
     → extent_at live g ≡ Some x → handle x ≢ h → SameBlock (bytes_of c.bytes) (bytes_of d.bytes) x
-other_block {c} {d} live h g {x} k f o =
-    all_in (SameBlock (bytes_of c.bytes) (bytes_of d.bytes)) (others h live.extents) x k.blocks
-    (in_others h x live.extents (found_in live.extents g x f) o)
+other_block {c} {d} live h g {x} k f o = all_in (SameBlock (bytes_of c.bytes) (bytes_of d.bytes))
+    (others h live.extents) x k.blocks (in_others h x live.extents (found_in live.extents g x f) o)
 
 module _ {K V : Type 0} (less : K → K → Bool) where
   pub rising_nodes : Chains less → (keys : ℕ → Option K) (ps : List (Pair K V)) → HaveKeys keys ps
-      → is_rising less ps ≡ true
-      → rises (comes_before less keys) (nodes_of_pairs ps) ≡ true
+      → is_rising less ps ≡ true → rises (comes_before less keys) (nodes_of_pairs ps) ≡ true
   rising_nodes on keys [] k r = refl
   rising_nodes on keys (p ∷ []) k r = refl
   rising_nodes on keys (p ∷ q ∷ qs) k r =
@@ -94,16 +92,14 @@ module _ {K V : Type 0} (less : K → K → Bool) where
   pub first_node : (keys : ℕ → Option K) (past : Bool) (key : K) (ps : List (Pair K V)) → HaveKeys keys ps
       → first_not (stands_before less keys past key) (nodes_of_pairs ps) ≡ option_map pair_node
       (first_pair less past key ps)
-  first_node keys past key ps k =
-      find_mapped pair_node (λ n. not (stands_before less keys past key n)) (λ p. not (is_passed less past key p)) ps
-      (each ps k (λ p e. ap (λ o. not (stands less past key o)) e))
+  first_node keys past key ps k = find_mapped pair_node (λ n. not (stands_before less keys past key n))
+      (λ p. not (is_passed less past key p)) ps (each ps k (λ p e. ap (λ o. not (stands less past key o)) e))
 
   -- and the last node that of the last pair
   pub last_node : (keys : ℕ → Option K) (past : Bool) (key : K) (ps : List (Pair K V)) → HaveKeys keys ps
       → last_before (stands_before less keys past key) (nodes_of_pairs ps) ≡ option_map pair_node
       (last_pair less past key ps)
-  last_node keys past key ps k =
-      ap (find (stands_before less keys past key)) (map_reversed pair_node ps)
+  last_node keys past key ps k = ap (find (stands_before less keys past key)) (map_reversed pair_node ps)
       ∙ find_mapped pair_node (stands_before less keys past key) (is_passed less past key) (reverse ps)
       (all_reversed (λ (p : Pair K V). stands_before less keys past key (pair_node p) ≡ is_passed less past key p) ps
       (each ps k (λ p e. ap (stands less past key) e)))
@@ -132,8 +128,7 @@ module _ {K V : Type 0} {kp : Plain K} {vp : Plain V} (laws : Laws kp) (c : Cut)
       record {
         proper = s.heap.proper;
         blocks = rw s.map.tree.lists (pairs_all (is_block_in (16 + kp.SIZE) (live_of c.bytes))
-            (IsPairIn kp vp (live_of c.bytes) h) ps
-            pair_block s.pairs);
+            (IsPairIn kp vp (live_of c.bytes) h) ps pair_block s.pairs);
         links = all_from (links_among (bytes_of c.bytes) ns) ns (λ m i.
             let k = holds_closed (cells_of (bytes_of c.bytes)) s.map.tree.tree m s.map.tree.linked.holds i in
             rw (k.left, k.right) refl);

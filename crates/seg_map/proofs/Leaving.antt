@@ -1,22 +1,20 @@
 -- A pair leaves the map, and all of them.
-use Rattle.seg_map.proofs.Common.{◌≡◌, refl, sym, ap, subst, ◌∙◌, ℕ, ◌+◌, ◌≢◌, false, List, length, arith, ◌==◌, IsTrue}
-use Rattle.seg_map.proofs.Common.{Option, Some, None, IfSome, both_ways, eq-eqb, current, Cut, bytes_of, link_at}
-use Rattle.seg_map.proofs.Common.{nodes_of, is_in, without, Extent, LiveSet, handle, released, LaysOut, is_live_in}
-use Rattle.seg_map.proofs.Common.{live_of, found-less, found-room, laid-heap, lay_out_one, roomy, Pair, pair_at}
-use Rattle.seg_map.proofs.Common.{remove_pair, HoldsMap, IsPairIn, nodes_of_pairs, pair_node, own_nodes, Relinked}
-use Rattle.seg_map.proofs.Common.{keys_in, IsErased, IsHeaded, exit_in, ◌⊎◌, ◌<◌, inl, inr, Bool, true, ◌∷◌, map}
-use Rattle.seg_map.proofs.Common.{AllByRecursion, cases_Bool, cases_eq, ne_eqb, word_at, IsTree, Tree, fork, leaf}
-use Rattle.seg_map.proofs.Common.{root_of, root_in, SameBlockBut, is_proper, others, cells_of, extent_at, live-rises}
-use Rattle.seg_map.proofs.Common.{Chains, In, IsStrict, is_key, is_rising, IsBesideMap, Rising, Plain, [], not}
-use Rattle.seg_map.proofs.{Common.or_right, Common.false_from_ne_true, PairLists.without_nodes, PairLists.in_from}
-use Rattle.seg_map.proofs.PairSteps.{any_at, begins_behind, own_handle}
-use Rattle.seg_map.proofs.Searching.{lent_own, lent_tree}
-use Rattle.seg_map.proofs.PairLists.{nodes_in, Below, rising_below, rising_rest, each_both, pair_of, in_nodes}
-use Rattle.seg_map.proofs.PairLists.{none_left, other_nodes, removed_all, removed_length, apart_all, removed_rising}
+use Rattle.seg_map.proofs as own
+use own.Common.{◌≡◌, refl, sym, ap, subst, ◌∙◌, ℕ, ◌+◌, ◌≢◌, false, List, length, arith, ◌==◌, IsTrue, Option, Some}
+use own.Common.{None, IfSome, both_ways, eq-eqb, current, Cut, bytes_of, link_at, nodes_of, is_in, without, Extent}
+use own.Common.{LiveSet, handle, released, LaysOut, is_live_in, live_of, found-less, found-room, laid-heap, lay_out_one}
+use own.Common.{roomy, Pair, pair_at, remove_pair, HoldsMap, IsPairIn, nodes_of_pairs, pair_node, own_nodes, Relinked}
+use own.Common.{keys_in, IsErased, IsHeaded, exit_in, ◌⊎◌, ◌<◌, inl, inr, Bool, true, ◌∷◌, map, AllByRecursion}
+use own.Common.{cases_Bool, cases_eq, ne_eqb, word_at, IsTree, Tree, fork, leaf, root_of, root_in, SameBlockBut}
+use own.Common.{is_proper, others, cells_of, extent_at, live-rises, Chains, In, IsStrict, is_key, is_rising}
+use own.Common.{IsBesideMap, Rising, Plain, [], not, or_right, false_from_ne_true}
+use own.PairLists.{without_nodes, in_from, nodes_in, Below, rising_below, rising_rest, each_both, pair_of, in_nodes}
+use own.PairLists.{none_left, other_nodes, removed_all, removed_length, apart_all, removed_rising}
+use own.Entering.{Laws, found_in, good, keys, other_block}
+use own.Staying.{at_node, map_stays, AtNode, beside_then, keeps_beside, relaid}
+use own.{PairSteps.any_at, PairSteps.begins_behind, PairSteps.own_handle, Searching.lent_own, Searching.lent_tree}
 use Rattle.seg_map.specs.{Changing.IsTaken, Changing.IsGivenUp, Linking.CanUnlink}
-use Rattle.seg_map.proofs.Entering.{Laws, found_in, good, keys, other_block}
 use Rattle.best_fit.proofs.Laws.{released-live, others-comm, rising-weak}
-use Rattle.seg_map.proofs.Staying.{at_node, map_stays, AtNode, beside_then, keeps_beside, relaid}
 use Rattle.best_fit.specs.{Exchange.exchanged, Exchange.without_all, Heap.IsReleased}
 
 module _ {K V : Type 0} {kp : Plain K} {vp : Plain V} (kl : Laws kp) (c : Cut) {h at : ℕ} {root : Option ℕ}
@@ -40,11 +38,9 @@ module _ {K V : Type 0} {kp : Plain K} {vp : Plain V} (kl : Laws kp) (c : Cut) {
   -- the map without the pair
   pub taken : {d e : Cut} {top : Option ℕ} {n steps : ℕ} → Relinked kp lent c d root top (without node) steps → Laws vp
       → n + 1 ≡ length ps → IsHeaded d e (h + at) top n → IsTaken kp vp c e h at ps key
-  taken u vl count head =
-      relaid s (lent_tree kl c s is refl) u kl vl ps s.pairs s.map.pairs (ns_is ∙ s.map.tree.lists)
-      (rw ns_is (good kl c s)) head ((λ i. without (sym here i) (s.map.tree.lists i))
-      ∙ without_nodes kp.order kl.irreflexive kl.transitive (keys_in kp (nodes_of s.map.tree.tree) c) p key ps
-      (keys kl c s) s.rising has)
+  taken u vl count head = relaid s (lent_tree kl c s is refl) u kl vl ps s.pairs s.map.pairs (ns_is ∙ s.map.tree.lists)
+      (rw ns_is (good kl c s)) head ((λ i. without (sym here i) (s.map.tree.lists i)) ∙ without_nodes kp.order
+      kl.irreflexive kl.transitive (keys_in kp (nodes_of s.map.tree.tree) c) p key ps (keys kl c s) s.rising has)
       (λ P a. removed_all kp.order P ps key a) (removed_rising kp.order kl.transitive ps key s.rising)
       (let gone = removed_length kp.order ps key p has in omega (arith, gone, count))
 
@@ -57,8 +53,7 @@ module _ {K V : Type 0} {kp : Plain K} {vp : Plain V} (kl : Laws kp) (vl : Laws 
   live_is = lay_out_one _ _ _ t.live
 
   other : (g : ℕ) → is_in g (nodes_of_pairs ps) ≡ false → g ≢ node
-  other g o e' = both_ways _ o
-      (ap (λ n. is_in n (nodes_of_pairs ps)) (e' ∙ sym here) ∙ in_nodes kp.order ps key p has)
+  other g o e' = both_ways _ o (ap (λ n. is_in n (nodes_of_pairs ps)) (e' ∙ sym here) ∙ in_nodes kp.order ps key p has)
 
   pub erased : IsErased kp vp c f h at ps p key
   erased =
@@ -67,15 +62,13 @@ module _ {K V : Type 0} {kp : Plain K} {vp : Plain V} (kl : Laws kp) (vl : Laws 
       let same = other_block (live_of e.bytes) node h r.keeps room.found (λ g. apart (sym begins ∙ g)) in
       record {
         live = subst (λ l. LaysOut current f.bytes l) (λ i. released (live_is i) (sym here i)) r.live;
-        beside = beside_then t.beside (keeps_beside r.keeps (λ x found o.
-            other_block (live_of e.bytes) node (handle x) r.keeps found (other (handle x) o)))
-            (λ x found o. (rw live_is found, o));
-        map = map_stays kl vl e f t.map (laid-heap _ _ r.live)
-            (rw (released-live _ _ _ _ r) (found-room (released (live_of e.bytes) node) h (at + 24) room.extent
-            (found-less h node room.extent (live_of e.bytes).extents apart room.found) room.room))
-            (record { at = λ n a b. same.payload.at n (omega arith) (omega arith) })
-            (each_both (remove_pair kp.order ps key) t.map.pairs (other_nodes node (remove_pair kp.order ps key) gone)
-            (λ q i o. record {
+        beside = beside_then t.beside (keeps_beside r.keeps (λ x found o. other_block (live_of e.bytes) node (handle x)
+            r.keeps found (other (handle x) o))) (λ x found o. (rw live_is found, o));
+        map = map_stays kl vl e f t.map (laid-heap _ _ r.live) (rw (released-live _ _ _ _ r)
+            (found-room (released (live_of e.bytes) node) h (at + 24) room.extent (found-less h node room.extent
+            (live_of e.bytes).extents apart room.found) room.room))
+            (record { at = λ n a b. same.payload.at n (omega arith) (omega arith) }) (each_both (remove_pair kp.order ps
+            key) t.map.pairs (other_nodes node (remove_pair kp.order ps key) gone) (λ q i o. record {
               found = rw (released-live _ _ _ _ r) (found-less (handle q.node) node q.node
                   (live_of e.bytes).extents o i.listed);
               same = other_block (live_of e.bytes) node (handle q.node) r.keeps i.listed o;
@@ -114,10 +107,8 @@ module _ {K V : Type 0} (less : K → K → Bool) where
         | inl y ↦
             let same : p ≡ q = cc in
             rw y (ap (λ (x : Pair K V). without_all (blocks_of qs) (others (handle x.node) zs)) same)
-        | inr z ↦
-            rw z (ap (without_all (blocks_of (remove_pair less qs key)))
-            (others-comm (handle q.node) (handle p.node) zs)
-            ∙ without_removed qs key p (others (handle q.node) zs) (rw z at e))
+        | inr z ↦ rw z (ap (without_all (blocks_of (remove_pair less qs key))) (others-comm (handle q.node)
+            (handle p.node) zs) ∙ without_removed qs key p (others (handle q.node) zs) (rw z at e))
       ]
 
   -- each pair is the one of its key
@@ -129,9 +120,8 @@ module _ {K V : Type 0} (less : K → K → Bool) where
     behind qs (rising_below less on q qs r) (own_found strict on qs (rising_rest less on q qs r)),
   )
     where
-      behind : (xs : List (Pair K V)) → Below less q.key xs
-          → AllByRecursion (λ (x : Pair K V). pair_at less qs x.key ≡ Some x) xs
-          → AllByRecursion (λ (x : Pair K V). pair_at less (q ∷ qs) x.key ≡ Some x) xs
+      behind : (xs : List (Pair K V)) → Below less q.key xs → AllByRecursion (λ (x : Pair K V). pair_at less qs x.key
+          ≡ Some x) xs → AllByRecursion (λ (x : Pair K V). pair_at less (q ∷ qs) x.key ≡ Some x) xs
       behind [] b a = tt
       behind (x ∷ xs) b a = (rw (ap not (or_right (less x.key q.key) (less q.key x.key) b.0)) a.0, behind xs b.1 a.1)
 
@@ -198,9 +188,8 @@ module _ {K V : Type 0} {k : Plain K} {v : Plain V} (kl : Laws k) {old now : Cut
       let s = g.holds in
       let i = root_in (cells_of (bytes_of now.bytes)) node s.map.tree.tree
       (subst (λ (o : Option ℕ). IsTree (cells_of (bytes_of now.bytes)) o s.map.tree.tree) e s.map.tree.linked) in
-      at_node (λ (q : Pair K V). pair_at k.order g.pairs q.key ≡ Some q) g.pairs node
-      (ap (λ ms. is_in node ms) (sym s.map.tree.lists) ∙ i)
-      (own_found k.order kl.irreflexive kl.transitive g.pairs s.rising)
+      at_node (λ (q : Pair K V). pair_at k.order g.pairs q.key ≡ Some q) g.pairs node (ap (λ ms. is_in node ms)
+      (sym s.map.tree.lists) ∙ i) (own_found k.order kl.irreflexive kl.transitive g.pairs s.rising)
 
   module _ {new : Cut} {key : K} {p : Pair K V} (has : pair_at k.order g.pairs key ≡ Some p)
       (e : IsErased k v now new h at g.pairs p key) where
@@ -217,24 +206,22 @@ module _ {K V : Type 0} {k : Plain K} {v : Plain V} (kl : Laws k) {old now : Cut
 
     fewer_nodes : (m : ℕ) → is_in m (nodes_of_pairs (remove_pair k.order g.pairs key)) ≡ true
         → is_in m (nodes_of_pairs g.pairs) ≡ true
-    fewer_nodes =
-        in_from (nodes_of_pairs g.pairs) (remove_pair k.order g.pairs key)
+    fewer_nodes = in_from (nodes_of_pairs g.pairs) (remove_pair k.order g.pairs key)
         (removed_all k.order (λ q. is_in (pair_node q) (nodes_of_pairs g.pairs) ≡ true) g.pairs key
         (nodes_in (nodes_of_pairs g.pairs) g.pairs (λ m i. i)))
 
     pub going_on : IsGoing k v old new h at ps
-    going_on =
-        record {
-          pairs = remove_pair k.order g.pairs key;
-          holds = e.map;
-          among = λ m i. g.among m (fewer_nodes m i);
-          beside = beside_then g.beside e.beside (λ x f o. (g.there x f o, off x o));
-          there = λ x f o. rw live_new (found-less (handle x) (handle p.node) x (live_of now.bytes).extents (apart x o)
-              (g.there x f o));
-          size = ap (λ (l : LiveSet). l.size) live_new ∙ g.size;
-          left = ap (λ (l : LiveSet). without_all (blocks_of (remove_pair k.order g.pairs key)) l.extents) live_new
-              ∙ without_removed k.order g.pairs key p (live_of now.bytes).extents has ∙ g.left;
-        }
+    going_on = record {
+      pairs = remove_pair k.order g.pairs key;
+      holds = e.map;
+      among = λ m i. g.among m (fewer_nodes m i);
+      beside = beside_then g.beside e.beside (λ x f o. (g.there x f o, off x o));
+      there = λ x f o. rw live_new (found-less (handle x) (handle p.node) x (live_of now.bytes).extents (apart x o)
+          (g.there x f o));
+      size = ap (λ (l : LiveSet). l.size) live_new ∙ g.size;
+      left = ap (λ (l : LiveSet). without_all (blocks_of (remove_pair k.order g.pairs key)) l.extents) live_new
+          ∙ without_removed k.order g.pairs key p (live_of now.bytes).extents has ∙ g.left;
+    }
 
     -- there is a pair less
     pub one_less : word_at (bytes_of new.bytes) (h + at + 8) < word_at (bytes_of now.bytes) (h + at + 8)

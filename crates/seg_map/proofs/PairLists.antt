@@ -30,21 +30,18 @@ all_append P (x ∷ xs) ys a b = (a.0, all_append P xs ys a.1 b)
 -- what holds of each holds of each of them the other way round
 pub all_reversed : {A : Type 0} (P : A → Type 0) (xs : List A) → AllByRecursion P xs → AllByRecursion P (reverse xs)
 all_reversed P [] a = tt
-all_reversed P (x ∷ xs) a =
-    subst (AllByRecursion P) (sym (reverse-cons x xs)) (all_append P (reverse xs) (x ∷ []) (all_reversed P xs a.1)
-    (a.0, tt))
+all_reversed P (x ∷ xs) a = subst (AllByRecursion P) (sym (reverse-cons x xs))
+    (all_append P (reverse xs) (x ∷ []) (all_reversed P xs a.1) (a.0, tt))
 
 pub map_reversed : {A B : Type 0} (f : A → B) (xs : List A) → reverse (map f xs) ≡ map f (reverse xs)
 map_reversed f [] = refl
-map_reversed f (x ∷ xs) =
-    reverse-cons (f x) (map f xs) ∙ ap (λ zs. zs ++ f x ∷ []) (map_reversed f xs)
+map_reversed f (x ∷ xs) = reverse-cons (f x) (map f xs) ∙ ap (λ zs. zs ++ f x ∷ []) (map_reversed f xs)
     ∙ sym (ap (map f) (reverse-cons x xs) ∙ map-append f (reverse xs) (x ∷ []))
 
 -- where a test says of what is made of each what another says of it, the first that passes is made of the first that
 -- passes
 pub find_mapped : {A B : Type 0} (f : A → B) (test : B → Bool) (test' : A → Bool) (xs : List A)
-    → AllByRecursion (λ x. test (f x) ≡ test' x) xs
-    → find test (map f xs) ≡ option_map f (find test' xs)
+    → AllByRecursion (λ x. test (f x) ≡ test' x) xs → find test (map f xs) ≡ option_map f (find test' xs)
 find_mapped f test test' [] a = refl
 find_mapped f test test' (x ∷ xs) a =
     let rest = find_mapped f test test' xs a.1 in
@@ -78,8 +75,7 @@ by_key less key (Some p) = if less key p.key then None else Some p
 
 module _ {K V : Type 0} (less : K → K → Bool) (on : Chains less) where
   pub none_above : (key : K) (q : Pair K V) (qs : List (Pair K V)) → is_rising less (q ∷ qs) ≡ true → less key q.key
-      ≡ true
-      → pair_at less qs key ≡ None
+      ≡ true → pair_at less qs key ≡ None
   none_above key q [] r l = refl
   none_above key q (p ∷ ps) r l =
       let two = and_parts _ _ r in
@@ -128,9 +124,8 @@ pub apart_all : {K V : Type 0} (kp : Plain K) (vp : Plain V) (live : LiveSet) (h
     → AreIn kp vp live h ps → is_in h (nodes_of_pairs ps) ≡ false
 apart_all kp vp live h ps a = not_among h ps (each ps a (λ q i. i.apart))
 
-pub in_from : {K V : Type 0} (ms : List ℕ) (ps : List (Pair K V))
-    → AllByRecursion (λ p. is_in (pair_node p) ms ≡ true) ps → (m : ℕ) → is_in m (nodes_of_pairs ps) ≡ true
-    → is_in m ms ≡ true
+pub in_from : {K V : Type 0} (ms : List ℕ) (ps : List (Pair K V)) → AllByRecursion (λ p. is_in (pair_node p) ms ≡ true)
+    ps → (m : ℕ) → is_in m (nodes_of_pairs ps) ≡ true → is_in m ms ≡ true
 in_from ms [] a m i = absurd (false≢true i)
 in_from ms (p ∷ ps) a m i =
     elim (or_cases _ _ i) [
@@ -139,9 +134,8 @@ in_from ms (p ∷ ps) a m i =
     ]
 
 -- each pair's node is among the nodes
-pub nodes_in : {K V : Type 0} (ms : List ℕ) (ps : List (Pair K V))
-    → ((m : ℕ) → is_in m (nodes_of_pairs ps) ≡ true → is_in m ms ≡ true)
-    → AllByRecursion (λ p. is_in (pair_node p) ms ≡ true) ps
+pub nodes_in : {K V : Type 0} (ms : List ℕ) (ps : List (Pair K V)) → ((m : ℕ) → is_in m (nodes_of_pairs ps) ≡ true
+    → is_in m ms ≡ true) → AllByRecursion (λ p. is_in (pair_node p) ms ≡ true) ps
 nodes_in ms [] f = tt
 nodes_in ms (p ∷ ps) f = (
   f (pair_node p) (or_left _ _ (eq-eqb (pair_node p) (pair_node p) refl)),
@@ -205,9 +199,8 @@ module _ {K V : Type 0} (less : K → K → Bool) where
         let rest = rising_rest less on q qs r in
         elim (cases_Bool (is_key less key q)) [
           | inl y ↦ rw y rest
-          | inr z ↦ rw z (below_rising q (remove_pair less qs key)
-              (removed_all (λ (p : Pair K V). less q.key p.key ≡ true) qs key (rising_below on q qs r))
-              (removed_rising qs key rest))
+          | inr z ↦ rw z (below_rising q (remove_pair less qs key) (removed_all (λ (p : Pair K V). less q.key p.key
+              ≡ true) qs key (rising_below on q qs r)) (removed_rising qs key rest))
         ]
 
 -- behind a pair all nodes have greater keys
@@ -215,9 +208,8 @@ none_behind : {K V : Type 0} (less : K → K → Bool) → IsStrict less
     → (keys : ℕ → Option K) (q : Pair K V) (qs : List (Pair K V)) → keys (pair_node q) ≡ Some q.key → HaveKeys keys qs
     → Below less q.key qs → is_in (pair_node q) (nodes_of_pairs qs) ≡ false
 none_behind less strict keys q [] e k b = refl
-none_behind {K} {V} less strict keys q (p ∷ ps) e k b =
-    ap (λ (x : Bool). x || is_in (pair_node q) (nodes_of_pairs ps)) (ne_eqb _ _ differs)
-    ∙ none_behind less strict keys q ps e k.1 b.1
+none_behind {K} {V} less strict keys q (p ∷ ps) e k b = ap (λ (x : Bool). x || is_in (pair_node q) (nodes_of_pairs ps))
+    (ne_eqb _ _ differs) ∙ none_behind less strict keys q ps e k.1 b.1
   where
     differs : pair_node q ≡ pair_node p → ⊥
     differs f =
@@ -300,9 +292,8 @@ module _ {K V : Type 0} (less : K → K → Bool) where
         | inl y ↦ rw y (rw (y, r) refl)
         | inr n ↦
             let below = either_one _ _ two.0 n in
-            rw (n, below) (below_rising less q (put_pair less p qs)
-            (put_all (λ (x : Pair K V). less q.key x.key ≡ true) p qs below (rising_below less on q qs r))
-            (put_rising on p qs two.1 (rising_rest less on q qs r)))
+            rw (n, below) (below_rising less q (put_pair less p qs) (put_all (λ (x : Pair K V). less q.key x.key ≡ true)
+            p qs below (rising_below less on q qs r)) (put_rising on p qs two.1 (rising_rest less on q qs r)))
       ]
 
   module _ (keys : ℕ → Option K) (p : Pair K V) (own : keys (pair_node p) ≡ Some p.key) where
@@ -427,9 +418,8 @@ module _ {K : Type 0} (less : K → K → Bool) (irreflexive : IsStrict less) (t
 
   -- the nodes that stand before a key are those that its node does not come before
   pub beside : {V : Type 0} (keys : ℕ → Option K) (p : Pair K V) → keys (pair_node p) ≡ Some p.key
-      → (ps : List (Pair K V)) → HaveKeys keys ps → pair_at less ps p.key ≡ None
-      → (m : ℕ) → is_in m (nodes_of_pairs ps) ≡ true → stands_before less keys false p.key m ≡ not
-      (comes_before less keys (pair_node p) m)
+      → (ps : List (Pair K V)) → HaveKeys keys ps → pair_at less ps p.key ≡ None → (m : ℕ) → is_in m (nodes_of_pairs ps)
+      ≡ true → stands_before less keys false p.key m ≡ not (comes_before less keys (pair_node p) m)
   beside keys p own [] k absent m i = absurd (false≢true i)
   beside keys p own (q ∷ qs) k absent m i =
       let two = absent_here less p.key q qs absent in

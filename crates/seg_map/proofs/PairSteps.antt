@@ -73,17 +73,15 @@ module _ {len : ℕ} {ns : List ℕ} {c d : Cut} {n : ℕ} (g : PairNode len ns 
     where
       by_place : (m ≡ n) ⊎ (m ≡ n → ⊥) → links_among (bytes_of d.bytes) ns m ≡ true
       by_place (inl e) = rw e h.links
-      by_place (inr o) =
-          subst (λ (x : Cell). (leads (λ k. is_in k ns) x.left && leads (λ k. is_in k ns) x.right) ≡ true)
-          (sym (h.others m i o)) (links_at len ns c m (record { good = g.good; listed = i }))
+      by_place (inr o) = subst (λ (x : Cell). (leads (λ k. is_in k ns) x.left && leads (λ k. is_in k ns) x.right)
+          ≡ true) (sym (h.others m i o)) (links_at len ns c m (record { good = g.good; listed = i }))
 
   pub good_stays : Good len ns d
-  good_stays =
-      record {
-        proper = rw h.live g.good.proper;
-        blocks = rw h.live g.good.blocks;
-        links = all_from (links_among (bytes_of d.bytes) ns) ns links_d;
-      }
+  good_stays = record {
+    proper = rw h.live g.good.proper;
+    blocks = rw h.live g.good.blocks;
+    links = all_from (links_among (bytes_of d.bytes) ns) ns links_d;
+  }
 
   pub nodes_stay : is_pair_node len ns d ≡ is_pair_node len ns c
   unfolding is_pair_node
@@ -132,8 +130,7 @@ module _ {len : ℕ} {ns : List ℕ} {c d : Cut} {n : ℕ} (g : PairNode len ns 
     where
       other : (m : ℕ) → (m ≡ n → ⊥) → (is_pair_node len ns c m ≡ true) ⊎ (is_pair_node len ns c m ≡ false)
           → pair_cells len ns d m ≡ pair_cells len ns c m
-      other m o (inl e) =
-          cells_at len ns d m (ap (λ (p : ℕ → Bool). p m) nodes_stay ∙ e)
+      other m o (inl e) = cells_at len ns d m (ap (λ (p : ℕ → Bool). p m) nodes_stay ∙ e)
           ∙ h.others m (is_pair_node-PairNode len ns c m e).listed o ∙ sym (cells_at len ns c m e)
       other m o (inr e) = cells_off len ns d m (ap (λ (p : ℕ → Bool). p m) nodes_stay ∙ e)
           ∙ sym (cells_off len ns c m e)
@@ -151,15 +148,12 @@ module _ {len : ℕ} {ns : List ℕ} {c d : Cut} {n : ℕ} (g : PairNode len ns 
 -- ---- the keys stay
 
 module _ {K : Type 0} (value : List ℕ → Option K) (size : ℕ) {ns : List ℕ} {c d : Cut} {n : ℕ}
-    (g : PairNode (16 + size) ns c n)
-    (h : Changed (16 + size) ns c d n) where
+    (g : PairNode (16 + size) ns c n) (h : Changed (16 + size) ns c d n) where
   key_stays : (m : ℕ) → (is_pair_node (16 + size) ns c m ≡ true) ⊎ (is_pair_node (16 + size) ns c m ≡ false)
       → key_of value size ns d m ≡ key_of value size ns c m
   unfolding key_of key_at
-  key_stays m (inl e) =
-      rw (ap (λ (p : ℕ → Bool). p m) (nodes_stay g h) ∙ e, e)
-      (ap value (Same-read _ _ _ _ (m + 16) size (h.keys m (is_pair_node-PairNode (16 + size) ns c m e).listed)
-      (le_refl (m + 16)) (omega arith)))
+  key_stays m (inl e) = rw (ap (λ (p : ℕ → Bool). p m) (nodes_stay g h) ∙ e, e) (ap value (Same-read _ _ _ _ (m + 16)
+      size (h.keys m (is_pair_node-PairNode (16 + size) ns c m e).listed) (le_refl (m + 16)) (omega arith)))
   key_stays m (inr e) = rw (ap (λ (p : ℕ → Bool). p m) (nodes_stay g h) ∙ e, e) refl
 
   pub keys_stay : key_of value size ns d ≡ key_of value size ns c
@@ -208,8 +202,7 @@ kept_away ns live n k i t =
 
 -- another block lies away from a node's payload
 pub block_apart : {len : ℕ} {ns : List ℕ} {c : Cut} {n : ℕ} (x : Extent) → PairNode len ns c n
-    → In x (live_of c.bytes).extents → (handle x ≡ n → ⊥)
-    → (x.offset + x.len ≤ n - 16) ⊎ (n + len ≤ x.offset)
+    → In x (live_of c.bytes).extents → (handle x ≡ n → ⊥) → (x.offset + x.len ≤ n - 16) ⊎ (n + len ≤ x.offset)
 block_apart {len} {ns} {c} {n} x g i o =
     let p = node_place len ns c n g in let b = p.block in let at = b.at in
     let r = is_proper-IsProper (live_of c.bytes) g.good.proper in
@@ -232,8 +225,7 @@ record LinksSet (len : ℕ) (ns : List ℕ) (c d : Cut) (n : ℕ) (left right : 
   changed : Changed len ns c d n
 
 module _ {len : ℕ} {ns : List ℕ} {c d : Cut} {n from : ℕ} (g : PairNode len ns c n)
-    (change : IsChanged current c d from 8)
-    (long : 16 ≤ len) (low : n ≤ from) (high : from + 8 ≤ n + 16) where
+    (change : IsChanged current c d from 8) (long : 16 ≤ len) (low : n ≤ from) (high : from + 8 ≤ n + 16) where
   p : Place len c n
   p = node_place len ns c n g
 
@@ -243,17 +235,16 @@ module _ {len : ℕ} {ns : List ℕ} {c d : Cut} {n from : ℕ} (g : PairNode le
       beside_cell _ _ _ _ m change.rest least (grind (arith, nodes_apart g q o))
 
   link_changed : links_among (bytes_of d.bytes) ns n ≡ true → Changed len ns c d n
-  link_changed links =
-      record {
-        place = change.place;
-        live = lay_out_one _ _ _ change.live;
-        bytes = λ k t. change.rest.at k (elim (kept_away ns (live_of c.bytes) n k g.listed t)
-            [ inl l ↦ inl (lt_of_lt_of_le l low) | inr l ↦ inr (le_trans high l) ]);
-        colours = λ x i o. ap (λ w. w % 16) (SameBut-word _ _ _ _ (x.offset + 8) change.rest (tag_apart x i o));
-        links = links;
-        others = other_cell;
-        keys = λ m i. SameBut-Same _ _ _ _ (m + 16) (m + len) change.rest (key_apart m i (cases_eq m n));
-      }
+  link_changed links = record {
+    place = change.place;
+    live = lay_out_one _ _ _ change.live;
+    bytes = λ k t. change.rest.at k (elim (kept_away ns (live_of c.bytes) n k g.listed t)
+        [ inl l ↦ inl (lt_of_lt_of_le l low) | inr l ↦ inr (le_trans high l) ]);
+    colours = λ x i o. ap (λ w. w % 16) (SameBut-word _ _ _ _ (x.offset + 8) change.rest (tag_apart x i o));
+    links = links;
+    others = other_cell;
+    keys = λ m i. SameBut-Same _ _ _ _ (m + 16) (m + len) change.rest (key_apart m i (cases_eq m n));
+  }
     where
       tag_apart : (x : Extent) → In x (live_of c.bytes).extents → (handle x ≡ n → ⊥)
           → (x.offset + 8 + 8 ≤ from) ⊎ (from + 8 ≤ x.offset + 8)
@@ -327,8 +318,7 @@ module _ {len : ℕ} {ns : List ℕ} {c d : Cut} {n : ℕ} {red : Bool} (g : Pai
 
   colour_at : (x : Extent) → In x (live_of c.bytes).extents → (handle x ≡ n → ⊥)
       → word_at (bytes_of d.bytes) (x.offset + 8) % 16 ≡ word_at (bytes_of c.bytes) (x.offset + 8) % 16
-  colour_at x i o =
-      (all_in (SameBlock (bytes_of c.bytes) (bytes_of d.bytes))
+  colour_at x i o = (all_in (SameBlock (bytes_of c.bytes) (bytes_of d.bytes))
       (others n (live_of c.bytes).extents) x change.keeps.blocks (in_others n x (live_of c.bytes).extents i o)).colour
 
   other_red : (m : ℕ) → PairNode len ns c m → (m ≡ n → ⊥) → is_red (bytes_of d.bytes) m ≡ is_red (bytes_of c.bytes) m
@@ -355,19 +345,18 @@ module _ {len : ℕ} {ns : List ℕ} {c d : Cut} {n : ℕ} {red : Bool} (g : Pai
       ]
 
   pub red_changed : Changed len ns c d n
-  red_changed =
-      record {
-        place = change.keeps.place;
-        live = lay_out_one _ _ _ change.live;
-        bytes = byte_kept;
-        colours = colour_at;
-        links = subst (λ (x : Cell). (leads (λ k. is_in k ns) x.left && leads (λ k. is_in k ns) x.right) ≡ true)
-            (sym red_own) (links_at len ns c n g);
-        others = λ m i o. let q : PairNode len ns c m = record { good = g.good; listed = i } in
-            cell_stays (bytes_of c.bytes) (bytes_of d.bytes) m (left_link m q) (right_link m q) (other_red m q o);
-        keys = λ m i. let s = node_same m (record { good = g.good; listed = i }) in
-            record { at = λ k l h. s.at k (omega arith) h };
-      }
+  red_changed = record {
+    place = change.keeps.place;
+    live = lay_out_one _ _ _ change.live;
+    bytes = byte_kept;
+    colours = colour_at;
+    links = subst (λ (x : Cell). (leads (λ k. is_in k ns) x.left && leads (λ k. is_in k ns) x.right) ≡ true)
+        (sym red_own) (links_at len ns c n g);
+    others = λ m i o. let q : PairNode len ns c m = record { good = g.good; listed = i } in
+        cell_stays (bytes_of c.bytes) (bytes_of d.bytes) m (left_link m q) (right_link m q) (other_red m q o);
+    keys = λ m i. let s = node_same m (record { good = g.good; listed = i }) in
+        record { at = λ k l h. s.at k (omega arith) h };
+  }
 
 -- ---- what a setter leaves
 
@@ -440,9 +429,8 @@ module _ (len : ℕ) (ns : List ℕ) (c w : Cut) (n : ℕ) (h : is_pair_node len
       (eq-eqb _ _ b.at))
 
   pub node_marked : IsTrue (is_node_in (live_of w.bytes) n)
-  node_marked =
-      rw same (any_at (λ (x : Extent). (handle x == n) && is_node_role x.role) (live_of c.bytes).extents b.extent
-      b.listed (rw (eq-eqb _ _ b.at, ap is_node_role b.node) refl))
+  node_marked = rw same (any_at (λ (x : Extent). (handle x == n) && is_node_role x.role) (live_of c.bytes).extents
+      b.extent b.listed (rw (eq-eqb _ _ b.at, ap is_node_role b.node) refl))
 
   cell_is : cells_of (bytes_of w.bytes) n ≡ pair_cells len ns c n
   cell_is = rw same (sym (cells_at len ns c n h))

@@ -1,26 +1,25 @@
 -- What is written of a map, and pairs that are put.
-use Rattle.seg_map.proofs.Common.{◌≡◌, refl, subst, ◌∙◌, ℕ, ◌+◌, ◌%◌, inl, arith, IsTrue, Option, None, current, Cut}
-use Rattle.seg_map.proofs.Common.{bytes_of, word_at, SameBut-word, SamePlace-trans, link_at, SameBut-link, leaf}
-use Rattle.seg_map.proofs.Common.{IsChanged, LaysOut, has_room, live_of, changed-live, laid-heap, IsHeaded, ◌≤◌, true}
-use Rattle.seg_map.proofs.Common.{Has, Has-same, SameBut-Same, Node, IsAllocated, IsMade, node_len, Plain}
-use Rattle.seg_map.proofs.Common.{allocated-room, sym, ap, ◌≢◌, Bool, false, ◌||◌, List, Some, IfSome, ne_eqb, is_in}
-use Rattle.seg_map.proofs.Common.{nodes_of, entry_of, entry_same, Extent, handle, SameBlock, extent_at, live-rises}
-use Rattle.seg_map.proofs.Common.{roomy, Pair, pair_at, HoldsMap, nodes_of_pairs, stands, stands_before, keys_in}
-use Rattle.seg_map.proofs.Common.{entry_in, IsLoose, IsPlanted, inr, not, ◌&&◌, ◌∷◌, length, and_parts, eqb-true}
-use Rattle.seg_map.proofs.Common.{eq-eqb, or_cases, or_left, or_right, has_place, leads, put, all_from, cells_of}
-use Rattle.seg_map.proofs.Common.{pair_node, comes_before, is_pair_node, links_among, own_nodes, Good}
-use Rattle.seg_map.proofs.Common.{PairNode-is_pair_node, IsKeyTree, Relinked, ◌⊎◌, AllByRecursion, both_ways, cases_eq}
-use Rattle.seg_map.proofs.Common.{Same, others, Keeps, beside_cell, changed-keeps, changed-room, found-room, IsPairAt}
-use Rattle.seg_map.proofs.Common.{put_pair, IsPairIn, PairNode, node_place, or_parts, not-true}
-use Rattle.seg_map.proofs.{Entering.other_block, Entering.Laws, Entering.found_in, Entering.keys, Searching.lent_own}
-use Rattle.seg_map.proofs.{PairSteps.all_in, Staying.at_node}
-use Rattle.seg_map.proofs.Staying.{block_cells, map_over, pair_stays, beside_then, keeps_beside, map_stays, relaid}
-use Rattle.seg_map.proofs.Entering.{good, keys_among, key_is, pair_block, pair_parts, tree_among, with_bytes}
-use Rattle.seg_map.specs.Changing.{IsNew, IsPut, IsPutAgain, CanPutIn, PutsIn}
-use Rattle.seg_map.specs.Linking.{CanLink}
+use Rattle.seg_map.proofs.Common.{◌≡◌, true, Node, Bool, ◌||◌, List, Some, roomy, Pair, ◌&&◌, leads, Good, Same, Keeps}
+use Rattle.seg_map.proofs.Common.{refl, IsAllocated, comes_before, is_pair_node, links_among, beside_cell, changed-room}
+use Rattle.seg_map.proofs.Common.{subst, entry_in, eqb-true, or_cases, or_right, all_from, cells_of, Relinked, cases_eq}
+use Rattle.seg_map.proofs.Common.{◌∙◌, ◌+◌, ◌%◌, inl, Cut, ◌≤◌, Has, sym, ap, ◌≢◌, inr, not, ◌∷◌, put, ◌⊎◌}
+use Rattle.seg_map.proofs.Common.{ℕ, arith, Plain, false, ne_eqb, is_in, Extent, handle, stands, length, eq-eqb, others}
+use Rattle.seg_map.proofs.Common.{IsTrue, Option, LaysOut, live_of, IsMade, IfSome, pair_at, keys_in, IsLoose, or_left}
+use Rattle.seg_map.proofs.Common.{None, IsChanged, laid-heap, entry_same, SameBlock, live-rises, found-room, node_place}
+use Rattle.seg_map.proofs.Common.{current, word_at, link_at, IsPairAt, put_pair, IsPairIn, PairNode, or_parts, not-true}
+use Rattle.seg_map.proofs.Common.{bytes_of, extent_at, IsPlanted, and_parts, has_place, pair_node, own_nodes, IsKeyTree}
+use Rattle.seg_map.proofs.Common.{SameBut-word, SameBut-link, changed-live, SameBut-Same, AllByRecursion, changed-keeps}
+use Rattle.seg_map.proofs.Common.{SamePlace-trans, allocated-room, nodes_of_pairs, stands_before, PairNode-is_pair_node}
+use Rattle.seg_map.proofs.Common.{leaf, has_room, IsHeaded, Has-same, node_len, nodes_of, entry_of, HoldsMap, both_ways}
+use Rattle.seg_map.proofs.Entering.{other_block, Laws, found_in, keys, good, keys_among, key_is, pair_block, pair_parts}
+use Rattle.seg_map.proofs.Entering.{tree_among, with_bytes}
+use Rattle.seg_map.proofs.Staying.{at_node, block_cells, map_over, pair_stays, beside_then, keeps_beside, map_stays}
 use Rattle.seg_map.proofs.PairLists.{replaced_nodes, replaced_rising, in_nodes, not_among, place_of, put_all}
 use Rattle.seg_map.proofs.PairLists.{put_length, put_nodes, put_rising, HaveKeys, keys_agree, known}
 use Rattle.seg_map.proofs.PairLists.{beside as not_beside, each, each_both, pair_of, replaced_all}
+use Rattle.seg_map.proofs.{Searching.lent_own, PairSteps.all_in, Staying.relaid}
+use Rattle.seg_map.specs.Changing.{IsNew, IsPut, IsPutAgain, CanPutIn, PutsIn}
+use Rattle.seg_map.specs.Linking.{CanLink}
 use Rattle.raw_region.proofs.Laws.{SameBut-trans, SameBut-wider}
 use Rattle.best_fit.proofs.Laws.{still_allocated-block, Differs, allocated-live, allocated-room_before, found-more}
 use Rattle.best_fit.proofs.Laws.{found-new, place-serves, rising-insert}
@@ -53,38 +52,35 @@ module _ {a b c d : Cut} {at : ℕ} {root : Option ℕ} {count : ℕ} (first : I
 -- a map without pairs
 pub is_new : {K V : Type 0} (k : Plain K) (v : Plain V) {a d : Cut} (h at : ℕ) → at % 8 ≡ 0
     → IsTrue (has_room (live_of a.bytes) h (at + 24)) → IsHeaded a d (h + at) None 0 → IsNew k v a d h at
-is_new {K} {V} k v {a} {d} h at whole room w =
-    record {
-      change = w.change;
-      map = record {
-        heap = laid-heap _ _ w.change.live;
-        map = record {
-          count = w.counted;
-          third = w.third;
-          tree = record {
-            tree = leaf;
-            linked = record { root = w.link; holds = tt };
-            red_black = record { root = refl; no_red_pair = refl; black = (0, refl) };
-            lists = refl;
-          };
-          pairs = tt;
-        };
-        aligned = whole;
-        room = rw (changed-live _ _ _ _ _ w.change) room;
-        rising = refl;
-        pairs = tt;
+is_new {K} {V} k v {a} {d} h at whole room w = record {
+  change = w.change;
+  map = record {
+    heap = laid-heap _ _ w.change.live;
+    map = record {
+      count = w.counted;
+      third = w.third;
+      tree = record {
+        tree = leaf;
+        linked = record { root = w.link; holds = tt };
+        red_black = record { root = refl; no_red_pair = refl; black = (0, refl) };
+        lists = refl;
       };
-    }
+      pairs = tt;
+    };
+    aligned = whole;
+    room = rw (changed-live _ _ _ _ _ w.change) room;
+    rising = refl;
+    pairs = tt;
+  };
+}
 
 -- ---- a node is made: its four parts are written in a new block
 
 -- a new block, once a part of it is written
-still : {a b c : Cut} {n node from k : ℕ} (room : ℕ) → IsAllocated current a b n Node node
-    → IsChanged current b c from k
-    → room ≤ n → node ≤ from → from + k ≤ node + room → IsAllocated current a c n Node node
-still {a} {b} {c} {n} {node} {from} {k} room new change long low high =
-    still_allocated-block current a b c n Node node from k room new change
-    (allocated-room _ _ _ _ _ _ room new long) low high
+still : {a b c : Cut} {n node from k : ℕ} (room : ℕ) → IsAllocated current a b n Node node → IsChanged current b c from
+    k → room ≤ n → node ≤ from → from + k ≤ node + room → IsAllocated current a c n Node node
+still {a} {b} {c} {n} {node} {from} {k} room new change long low high = still_allocated-block current a b c n Node node
+    from k room new change (allocated-room _ _ _ _ _ _ room new long) low high
 
 module _ {K V : Type 0} {kp : Plain K} (kl : Laws kp) (vp : Plain V) {a b : Cut} {node : ℕ}
     (new : IsAllocated current a b (node_len kp.SIZE vp.SIZE) Node node) where
@@ -112,17 +108,15 @@ module _ {K V : Type 0} {kp : Plain K} (kl : Laws kp) (vp : Plain V) {a b : Cut}
             let behind : node + (16 + kp.SIZE) ≡ node + 16 + kp.SIZE = omega arith in
             record {
               block = still (16 + kp.SIZE + vp.SIZE) three fourth (omega arith) (omega arith) (omega arith);
-              left = SameBut-link _ _ _ _ node fourth.rest (inl (omega arith))
-                  ∙ SameBut-link _ _ _ _ node third.rest (inl (omega arith))
-                  ∙ SameBut-link _ _ _ _ node second.rest (inl (omega arith))
+              left = SameBut-link _ _ _ _ node fourth.rest (inl (omega arith)) ∙ SameBut-link _ _ _ _ node third.rest
+                  (inl (omega arith)) ∙ SameBut-link _ _ _ _ node second.rest (inl (omega arith))
                   ∙ subst (λ k. link_at (bytes_of c.bytes) k ≡ None) begin left;
               right = SameBut-link _ _ _ _ (node + 8) fourth.rest (inl (omega arith))
                   ∙ SameBut-link _ _ _ _ (node + 8) third.rest (inl (omega arith)) ∙ right;
               is_a_key = is_key;
               is_a_value = is_value;
-              key_there = Has-same _ _ _ _ (node + 16) (kp.spelling key)
-                  (SameBut-Same _ _ _ _ (node + 16) (node + 16 + kp.SIZE) fourth.rest (inl (omega arith)))
-                  (omega arith) (omega arith) spelled;
+              key_there = Has-same _ _ _ _ (node + 16) (kp.spelling key) (SameBut-Same _ _ _ _ (node + 16)
+                  (node + 16 + kp.SIZE) fourth.rest (inl (omega arith))) (omega arith) (omega arith) spelled;
               value_there = subst (λ k. Has (bytes_of f.bytes) k (vp.spelling value)) behind there;
             }
 
@@ -158,11 +152,9 @@ module _ {K V : Type 0} {kp : Plain K} {vp : Plain V} (kl : Laws kp) (vl : Laws 
   -- the map is as it was, beside the new block
   pub map_there : HoldsMap kp vp d.bytes h at ps
   map_there =
-      let r = roomy c h (at + 24) s.heap s.room in
-      let same = kept _ r.found in
-      map_stays kl vl c d s (laid-heap _ _ m.block.live) (allocated-room_before current c d
-      (node_len kp.SIZE vp.SIZE) Node node h (at + 24) m.block s.room)
-      (record { at = λ n a b. same.payload.at n (omega arith) (omega arith) })
+      let r = roomy c h (at + 24) s.heap s.room in let same = kept _ r.found in
+      map_stays kl vl c d s (laid-heap _ _ m.block.live) (allocated-room_before current c d (node_len kp.SIZE vp.SIZE)
+      Node node h (at + 24) m.block s.room) (record { at = λ n a b. same.payload.at n (omega arith) (omega arith) })
       (each ps s.pairs (λ q i. record { found = still_there q.node i.listed; same = kept _ i.listed }))
 
   there_tree : map_there.map.tree.tree ≡ s.map.tree.tree
@@ -202,9 +194,8 @@ module _ {K V : Type 0} {kp : Plain K} {vp : Plain V} (kl : Laws kp) (vl : Laws 
       let before = keys kl c s in let after = keys kl d map_there in
       record {
         there = record { pairs = ps; pair = new_pair; map = map_there; loose = loose; is = sym m.block.at };
-        begins = known start (entry_in kp d key map_there.map.tree.tree) (e
-            ∙ entry_same (stands_before kp.order old false key) (stands_before kp.order new false key) s.map.tree.tree
-            (λ n i. ap (stands kp.order false key)
+        begins = known start (entry_in kp d key map_there.map.tree.tree) (e ∙ entry_same (stands_before kp.order old
+            false key) (stands_before kp.order new false key) s.map.tree.tree (λ n i. ap (stands kp.order false key)
             (keys_agree old new ps before after n (ap (is_in n) (sym s.map.tree.lists) ∙ i)))
             ∙ ap (entry_of (stands_before kp.order new false key)) (sym there_tree));
       }
@@ -261,18 +252,16 @@ module _ {K V : Type 0} {kp : Plain K} {vp : Plain V} (kl : Laws kp) (c : Cut) {
             let two = and_parts _ _ (all_at (links_among (bytes_of c.bytes) ns) ns m g.links e) in
             rw (
               leads_more (pair_node p) ns (cells_of (bytes_of c.bytes) m).left two.0,
-              leads_more (pair_node p) ns
-                  (cells_of (bytes_of c.bytes) m).right two.1,
+              leads_more (pair_node p) ns (cells_of (bytes_of c.bytes) m).right two.1,
             ) refl
       ]
 
   good_all : Good (16 + kp.SIZE) all c
-  good_all =
-      record {
-        proper = s.heap.proper;
-        blocks = rw (pair_block kl c s p l.block, (good kl c s).blocks) refl;
-        links = all_from (links_among (bytes_of c.bytes) all) all links_all;
-      }
+  good_all = record {
+    proper = s.heap.proper;
+    blocks = rw (pair_block kl c s p l.block, (good kl c s).blocks) refl;
+    links = all_from (links_among (bytes_of c.bytes) all) all links_all;
+  }
 
   node_all : (m : ℕ) → is_in m all ≡ true → is_pair_node (16 + kp.SIZE) all c m ≡ true
   node_all m i = PairNode-is_pair_node (16 + kp.SIZE) all c m (record { good = good_all; listed = i })
@@ -294,30 +283,26 @@ module _ {K V : Type 0} {kp : Plain K} {vp : Plain V} (kl : Laws kp) (c : Cut) {
 
   pub can_link : (start : Option ℕ) → IfSome start (λ n. entry_in kp c p.key s.map.tree.tree ≡ Some n)
       → CanLink kp lent c root start node
-  can_link start begins =
-      rw (ns_is, ← here) (record {
-        shape = s.map.tree.tree;
-        tree = rw is (tree_among kl s good_all in_all);
-        own = node_all (pair_node p) own_in;
-        place = ap (has_place (comes_before kp.order (keys_in kp all c)) (pair_node p)) s.map.tree.lists
-            ∙ place_of kp.order (keys_in kp all c) p own_key ps keys_all l.absent;
-        -- an insertion begins where the search for the key says
-        begins = subst (λ (o : Option ℕ). IfSome start (λ n. o ≡ Some n))
-            (entry_same (stands_before kp.order (keys_in kp ns c) false p.key)
-            (λ m. not (comes_before kp.order (keys_in kp all c) (pair_node p) m)) s.map.tree.tree
-            (λ m i. let j = ap (is_in m) (sym s.map.tree.lists) ∙ i in
-            ap (stands kp.order false p.key)
-            (keys_agree (keys_in kp ns c) (keys_in kp all c) ps (keys kl c s) keys_all m j)
-            ∙ not_beside kp.order kl.irreflexive kl.transitive (keys_in kp all c) p own_key ps keys_all l.absent m j))
-            begins;
-      })
+  can_link start begins = rw (ns_is, ← here) (record {
+    shape = s.map.tree.tree;
+    tree = rw is (tree_among kl s good_all in_all);
+    own = node_all (pair_node p) own_in;
+    place = ap (has_place (comes_before kp.order (keys_in kp all c)) (pair_node p)) s.map.tree.lists
+        ∙ place_of kp.order (keys_in kp all c) p own_key ps keys_all l.absent;
+    -- an insertion begins where the search for the key says
+    begins = subst (λ (o : Option ℕ). IfSome start (λ n. o ≡ Some n)) (entry_same (stands_before kp.order
+        (keys_in kp ns c) false p.key) (λ m. not (comes_before kp.order (keys_in kp all c) (pair_node p) m))
+        s.map.tree.tree (λ m i. let j = ap (is_in m) (sym s.map.tree.lists) ∙ i in
+        ap (stands kp.order false p.key) (keys_agree (keys_in kp ns c) (keys_in kp all c) ps (keys kl c s) keys_all
+        m j) ∙ not_beside kp.order kl.irreflexive kl.transitive (keys_in kp all c) p own_key ps keys_all
+        l.absent m j)) begins;
+  })
 
   -- the map with the pair
   pub planted : {d e : Cut} {top : Option ℕ} {n steps : ℕ}
       → Relinked kp lent c d root top (put (comes_before kp.order (keys_in kp lent c)) node) steps → Laws vp
       → n ≡ length ps + 1 → IsHeaded d e (h + at) top n → IsPlanted kp vp c e h at ps p
-  planted u vl count head =
-      relaid s planted_tree u kl vl (p ∷ ps) (l.block, s.pairs) (l.bytes, s.map.pairs)
+  planted u vl count head = relaid s planted_tree u kl vl (p ∷ ps) (l.block, s.pairs) (l.bytes, s.map.pairs)
       (ns_is ∙ ap (λ (ms : List ℕ). pair_node p ∷ ms) s.map.tree.lists) (rw ns_is good_all) head
       ((λ i. put (comes_before kp.order (keys_in kp (ns_is i) c)) (sym here i) (s.map.tree.lists i))
       ∙ put_nodes kp.order (keys_in kp all c) p own_key ps keys_all l.absent)
@@ -338,8 +323,7 @@ module _ {K V : Type 0} {kp : Plain K} {vp : Plain V} (c : Cut) {h at : ℕ} {ps
 
   module _ (kl : Laws kp) (vl : Laws vp)
       (total : (x y : K) → kp.is_value x ≡ true → kp.is_value y ≡ true → kp.order x y ≡ false → kp.order y x ≡ false
-      → x ≡ y)
-      {d : Cut} (value : V) (is_key_value : kp.is_value key ≡ true) (is_value : vp.is_value value ≡ true)
+      → x ≡ y) {d : Cut} (value : V) (is_key_value : kp.is_value key ≡ true) (is_value : vp.is_value value ≡ true)
       (change : IsChanged current c d (handle p.node + (16 + kp.SIZE)) vp.SIZE)
       (there : Has (bytes_of d.bytes) (handle p.node + (16 + kp.SIZE)) (vp.spelling value)) where
     abbrev new : Pair K V
@@ -419,12 +403,11 @@ module _ {K V : Type 0} {kp : Plain K} {vp : Plain V} (c : Cut) {h at : ℕ} {ps
         (rw same_key_is old, subst (λ k. Has (bytes_of d.bytes) k (vp.spelling value)) behind there)
 
     own_block : IsPairIn kp vp (live_of c.bytes) h new
-    own_block =
-        record {
-          good = rw (is_key_value, is_value, (pair_parts own).serves) refl;
-          listed = own.listed;
-          apart = own.apart;
-        }
+    own_block = record {
+      good = rw (is_key_value, is_value, (pair_parts own).serves) refl;
+      listed = own.listed;
+      apart = own.apart;
+    }
 
     map_after : HoldsMap kp vp d.bytes h at (put_pair kp.order new ps)
     map_after =
@@ -433,8 +416,7 @@ module _ {K V : Type 0} {kp : Plain K} {vp : Plain V} (c : Cut) {h at : ℕ} {ps
         let words : Same (bytes_of c.bytes) (bytes_of d.bytes) (h + at) (h + at + 24) =
         record { at = λ n a b. block.payload.at n (omega arith) (omega arith) } in
         map_over c d s (laid-heap _ _ change.live) (changed-room _ _ _ _ _ h (at + 24) change s.room) words cells
-        (put_pair kp.order new ps)
-        (sym (replaced_nodes kp.order kl.transitive p new same_key_is refl ps s.rising has))
+        (put_pair kp.order new ps) (sym (replaced_nodes kp.order kl.transitive p new same_key_is refl ps s.rising has))
         (replaced_rising kp.order kl.transitive p new same_key_is ps s.rising has)
         (rw (changed-live _ _ _ _ _ change) (replaced_all kp.order kl.transitive p new same_key_is
         (IsPairIn kp vp (live_of c.bytes) h) (IsPairIn kp vp (live_of c.bytes) h) (λ q a o. a) own_block ps s.rising has

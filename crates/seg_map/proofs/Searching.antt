@@ -17,8 +17,7 @@ use Rattle.seg_map.specs.Places.{IsSomeMap, SearchSteps, item_of, value_of_pair,
 
 module _ {K V : Type 0} {kp : Plain K} {vp : Plain V} (laws : Laws kp) (c : Cut) {h at : ℕ} {ps : List (Pair K V)}
     (s : HoldsMap kp vp c.bytes h at ps) {root : Option ℕ} {ms : List ℕ}
-    (is : root ≡ link_at (bytes_of c.bytes) (h + at))
-    (are : ms ≡ own_nodes c.bytes root None) where
+    (is : root ≡ link_at (bytes_of c.bytes) (h + at)) (are : ms ≡ own_nodes c.bytes root None) where
   pub lent_own : ms ≡ nodes_of s.map.tree.tree
   lent_own = are ∙ ap (λ o. own_nodes c.bytes o None) is ∙ own laws c s
 
@@ -28,9 +27,8 @@ module _ {K V : Type 0} {kp : Plain K} {vp : Plain V} (laws : Laws kp) (c : Cut)
 -- ---- a map is opened to a search
 
 module _ {K V : Type 0} {kp : Plain K} {vp : Plain V} (kl : Laws kp) (vl : Laws vp) (c : Cut) (h : ℕ) where
-  read_pair : (by : ℕ → Option K) (p : Pair K V) → IsPairIn kp vp (live_of c.bytes) h p
-      → IsPairAt kp.SIZE kp.spelling vp.spelling (bytes_of c.bytes) p → by (pair_node p) ≡ Some p.key
-      → IsRead kp vp c by p
+  read_pair : (by : ℕ → Option K) (p : Pair K V) → IsPairIn kp vp (live_of c.bytes) h p → IsPairAt kp.SIZE kp.spelling
+      vp.spelling (bytes_of c.bytes) p → by (pair_node p) ≡ Some p.key → IsRead kp vp c by p
   read_pair by p i b e =
       let q = pair_parts i in
       let m = bytes_of c.bytes in let behind : pair_node p + (16 + kp.SIZE) ≡ pair_node p + 16 + kp.SIZE =
@@ -46,14 +44,13 @@ module _ {K V : Type 0} {kp : Plain K} {vp : Plain V} (kl : Laws kp) (vl : Laws 
 
   pub opened : (at : ℕ) {root : Option ℕ} {ms : List ℕ} → root ≡ link_at (bytes_of c.bytes) (h + at)
       → ms ≡ own_nodes c.bytes root None → IsOpened kp vp c c (record { handle = h; at = at }) ms root
-  opened at {root} {ms} is are =
-      record {
-        same = refl;
-        nodes = λ ps s. lent_own kl c s is are;
-        tree = λ ps s. lent_tree kl c s is are;
-        pairs = λ ps s. each_both ps (with_bytes s) (rw (lent_own kl c s is are) (keys kl c s))
-            (λ p w k. read_pair (keys_in kp ms c) p w.0 w.1 k);
-      }
+  opened at {root} {ms} is are = record {
+    same = refl;
+    nodes = λ ps s. lent_own kl c s is are;
+    tree = λ ps s. lent_tree kl c s is are;
+    pairs = λ ps s. each_both ps (with_bytes s) (rw (lent_own kl c s is are) (keys kl c s))
+        (λ p w k. read_pair (keys_in kp ms c) p w.0 w.1 k);
+  }
 
 -- ---- what a search finds
 
@@ -84,8 +81,7 @@ module _ {K V : Type 0} {k : Plain K} {v : Plain V} {now c : Cut} {at : Place} {
     {root : Option ℕ} (o : IsOpened k v now c at own root) where
   abbrev Asked : (Tree → Type 0) → Type 0
   Asked P = (t : Tree) → IsSearchTree (comes_before k.order (keys_in k own now))
-      (pair_cells (16 + k.SIZE) own now) root t
-      → P t
+      (pair_cells (16 + k.SIZE) own now) root t → P t
 
   abbrev ahead : Bool → K → ℕ → Bool
   ahead past key = stands_before k.order (keys_in k own now) past key
@@ -106,15 +102,14 @@ module _ {K V : Type 0} {k : Plain K} {v : Plain V} {now c : Cut} {at : Place} {
       → node (nodes_of_pairs ps) ≡ option_map pair_node (pair ps)) → Asked (λ t. found ≡ node (nodes_of t))
       → ((ps : List (Pair K V)) (s : HoldsMap k v c.bytes at.handle at.at ps) → taken ≡ path s.map.tree.tree)
       → Asked (λ t. taken ≤ 2 * bits (length (nodes_of t) + 1)) → Finds k v c at pair path found taken
-  finds node pair good nodes is exact most =
-      record {
-        keys = keys_in k own now;
-        good = λ ps s. good (IsRead k v c (keys_in k own now)) ps (o.pairs ps s);
-        node = λ ps s. is s.map.tree.tree (o.tree ps s).tree ∙ ap node s.map.tree.lists
-            ∙ nodes ps (each ps (o.pairs ps s) (λ p r. r.key));
-        exact = exact;
-        most = few most;
-      }
+  finds node pair good nodes is exact most = record {
+    keys = keys_in k own now;
+    good = λ ps s. good (IsRead k v c (keys_in k own now)) ps (o.pairs ps s);
+    node = λ ps s. is s.map.tree.tree (o.tree ps s).tree ∙ ap node s.map.tree.lists
+        ∙ nodes ps (each ps (o.pairs ps s) (λ p r. r.key));
+    exact = exact;
+    most = few most;
+  }
 
   module _ (past : Bool) (key : K) {taken : ℕ} (exact : Asked (λ t. taken ≡ path_length (ahead past key) t))
       (most : Asked (λ t. taken ≤ 2 * bits (length (nodes_of t) + 1))) where
@@ -125,23 +120,20 @@ module _ {K V : Type 0} {k : Plain K} {v : Plain V} {now c : Cut} {at : Place} {
 
     pub finds_first : {found : Option ℕ} → Asked (λ t. found ≡ first_not (ahead past key) (nodes_of t))
         → Finds k v c at (first_pair k.order past key) (path_in k c past key) found taken
-    finds_first first =
-        finds (first_not (ahead past key)) (first_pair k.order past key)
+    finds_first first = finds (first_not (ahead past key)) (first_pair k.order past key)
         (λ P ps a. find_good P (λ p. not (is_passed k.order past key p)) ps a)
         (first_node k.order (keys_in k own now) past key) first path_is most
 
     pub finds_before : {found : Option ℕ} → Asked (λ t. found ≡ last_before (ahead past key) (nodes_of t))
         → Finds k v c at (last_pair k.order past key) (path_in k c past key) found taken
-    finds_before last =
-        finds (last_before (ahead past key)) (last_pair k.order past key)
+    finds_before last = finds (last_before (ahead past key)) (last_pair k.order past key)
         (λ P ps a. find_good P (is_passed k.order past key) (reverse ps) (all_reversed P ps a))
         (last_node k.order (keys_in k own now) past key) last path_is most
 
   pub finds_last : {found : Option ℕ} {taken : ℕ} → Asked (λ t. found ≡ last_or None (nodes_of t))
       → Asked (λ t. taken ≡ path_length (λ n. true) t)
       → Asked (λ t. taken ≤ 2 * bits (length (nodes_of t) + 1)) → Finds k v c at final_pair last_path found taken
-  finds_last last exact most =
-      finds (last_or None) final_pair (λ P ps a. last_good P None ps tt a)
+  finds_last last exact most = finds (last_or None) final_pair (λ P ps a. last_good P None ps tt a)
       (λ ps keyed. last_mapped pair_node None ps) last (λ ps s. exact s.map.tree.tree (o.tree ps s).tree) most
 
   -- where a change begins, by the keys of the map
@@ -153,8 +145,7 @@ module _ {K V : Type 0} {k : Plain K} {v : Plain V} {now c : Cut} {at : Place} {
   pub exit_is : (r found start : Option ℕ) → IfSome r (λ n. found ≡ Some n)
       → Asked (λ t. IfSome found (λ n. start ≡ exit_of (comes_before k.order (keys_in k own now)) n t))
       → FindsExit k v c at r start
-  exit_is r found start same exit = λ ps s.
-      narrowed r found (λ n. start ≡ exit_in k c n s.map.tree.tree) same
+  exit_is r found start same exit = λ ps s. narrowed r found (λ n. start ≡ exit_in k c n s.map.tree.tree) same
       (subst (λ (ks : ℕ → Option K). IfSome found (λ n. start ≡ exit_of (comes_before k.order ks) n s.map.tree.tree))
       (keys_are ps s) (exit s.map.tree.tree (o.tree ps s).tree))
 
@@ -226,43 +217,38 @@ module _ {K V : Type 0} {k : Plain K} {v : Plain V} {c : Cut} {at : Place} {pair
   pub looked_up : {result : Option (K × V)} {before after : ℕ}
       → result ≡ option_and_then (item_at k v (bytes_of c.bytes)) found → after ≡ before + taken + reading_steps found
       → LooksUp k v c at pair path result before after
-  looked_up {before = before} {after = after} i e =
-      record {
-        item = λ ps s. i ∙ ap (option_and_then (item_at k v (bytes_of c.bytes))) (f.node ps s)
-            ∙ item_read k v c f.keys (pair ps) (f.good ps s);
-        counted = omega (arith, e);
-        steps = few_read before after e;
-        exact = steps_read before after e;
-      }
+  looked_up {before = before} {after = after} i e = record {
+    item = λ ps s. i ∙ ap (option_and_then (item_at k v (bytes_of c.bytes))) (f.node ps s)
+        ∙ item_read k v c f.keys (pair ps) (f.good ps s);
+    counted = omega (arith, e);
+    steps = few_read before after e;
+    exact = steps_read before after e;
+  }
 
-pub looked_for : {K V : Type 0} {k : Plain K} {v : Plain V} {c : Cut} {at : Place} (key : K)
-    {found result : Option ℕ} {taken before after : ℕ}
-    → Finds k v c at (first_pair k.order false key) (path_in k c false key) found taken → Chains k.order
-    → result ≡ option_and_then (node_with k (bytes_of c.bytes) key) found → after ≡ before + taken + reading_steps found
-    → LooksFor k v c at key result before after
-looked_for {k = k} {v = v} {c} key {before = before} {after = after} f on i e =
-    record {
-      node = λ ps s. i ∙ ap (option_and_then (node_with k (bytes_of c.bytes) key)) (f.node ps s)
-          ∙ key_read k v c f.keys key (first_pair k.order false key ps) (f.good ps s)
-          ∙ sym (ap (option_map pair_node) (pair_by_key k.order on key ps s.rising));
-      counted = omega (arith, e);
-      steps = few_read f before after e;
-      exact = steps_read f before after e;
-    }
+pub looked_for : {K V : Type 0} {k : Plain K} {v : Plain V} {c : Cut} {at : Place} (key : K) {found result : Option ℕ}
+    {taken before after : ℕ} → Finds k v c at (first_pair k.order false key) (path_in k c false key) found taken
+    → Chains k.order → result ≡ option_and_then (node_with k (bytes_of c.bytes) key) found
+    → after ≡ before + taken + reading_steps found → LooksFor k v c at key result before after
+looked_for {k = k} {v = v} {c} key {before = before} {after = after} f on i e = record {
+  node = λ ps s. i ∙ ap (option_and_then (node_with k (bytes_of c.bytes) key)) (f.node ps s)
+      ∙ key_read k v c f.keys key (first_pair k.order false key ps) (f.good ps s)
+      ∙ sym (ap (option_map pair_node) (pair_by_key k.order on key ps s.rising));
+  counted = omega (arith, e);
+  steps = few_read f before after e;
+  exact = steps_read f before after e;
+}
 
 -- the value of a key, of the item that is not below it
 pub value_by_key : {K V : Type 0} {k : Plain K} {v : Plain V} {b : List ℕ} {h at : ℕ} {i : Option (K × V)}
     → Chains k.order → (key : K) → FindsItem k v b h at false key i → (ps : List (Pair K V)) → HoldsMap k v b h at ps
     → option_and_then (λ (x : K × V). if k.order key x.0 then None else Some x.1) i
     ≡ option_map value_of_pair (pair_at k.order ps key)
-value_by_key {K} {V} {k} on key item ps s =
-    ap (option_and_then (λ (x : K × V). if k.order key x.0 then None else Some x.1)) (item ps s)
-    ∙ by_pair (first_pair k.order false key ps)
-    ∙ sym (ap (option_map value_of_pair) (pair_by_key k.order on key ps s.rising))
+value_by_key {K} {V} {k} on key item ps s = ap (option_and_then (λ (x : K × V). if k.order key x.0 then None else Some
+    x.1)) (item ps s) ∙ by_pair (first_pair k.order false key ps) ∙ sym (ap (option_map value_of_pair)
+    (pair_by_key k.order on key ps s.rising))
   where
     by_pair : (o : Option (Pair K V)) → option_and_then (λ (x : K × V). if k.order key x.0 then None else Some x.1)
-        (option_map item_of o)
-        ≡ option_map value_of_pair (by_key k.order key o)
+        (option_map item_of o) ≡ option_map value_of_pair (by_key k.order key o)
     by_pair None = refl
     by_pair (Some p) = if_mapped value_of_pair p (k.order key p.key)
 

@@ -1,22 +1,21 @@
 -- What stays of a map and beside it, and the map whose tree is changed and whose three words are written.
-use Rattle.seg_map.proofs.Common.{Some, SamePlace-trans, Same-trans, extent_at, IsBesideMap, IsTrue, has_room}
-use Rattle.seg_map.proofs.Common.{is_proper, ◌≡◌, refl, ap, ◌∙◌, ℕ, ◌+◌, ◌-◌, ◌%◌, ◌<◌, ◌≤◌, ◌⊎◌, inl, inr, true, false}
-use Rattle.seg_map.proofs.Common.{◌&&◌, ◌||◌, not, List, ◌∷◌, arith, nat_lt, nat_le, ◌==◌, both_ways, or_left, or_right}
-use Rattle.seg_map.proofs.Common.{eq-eqb, le-leb, lt-ltb, Cut, bytes_of, word_at, is_in, Extent, handle, end_of, Keeps}
-use Rattle.seg_map.proofs.Common.{SameBlock, live_of, is_kept, is_link_byte, is_other, kept_of, Good, In, PairNode}
-use Rattle.seg_map.proofs.Common.{node_place, sym, subst, ◌*◌, length, Option, IsSearchTree, Tree, bits, nodes_of}
-use Rattle.seg_map.proofs.Common.{leads, comes_before, is_pair_node, pair_cells, IsKeyTree, Relinked, keys_in, Plain}
-use Rattle.seg_map.proofs.Common.{AllByRecursion, false≢true, or_cases, eqb-true, current, Memory, Same, Has-same}
-use Rattle.seg_map.proofs.Common.{Same-word, Same-link, holds_same, LiveSet, cells_of, IsHeap, cell_stays, Pair}
-use Rattle.seg_map.proofs.Common.{IsPairAt, is_rising, HoldsMap, IsPairIn, nodes_of_pairs, pair_node, ◌≢◌, None}
-use Rattle.seg_map.proofs.Common.{cases_eq, leaf, fork, root_of, tree_same, SameBlockBut, others, changed-keeps}
-use Rattle.seg_map.proofs.Common.{changed-live, laid-heap, roomy, cells_at, PairNode-is_pair_node}
-use Rattle.seg_map.proofs.Common.{is_pair_node-PairNode, IsHeaded, IfSome, LaysOut, [], length-map}
+use Rattle.seg_map.proofs.Common.{Some, extent_at, is_proper, both_ways, false≢true, holds_same, cell_stays, length-map}
+use Rattle.seg_map.proofs.Common.{SamePlace-trans, IsTrue, AllByRecursion, PairNode-is_pair_node, is_pair_node-PairNode}
+use Rattle.seg_map.proofs.Common.{Same-trans, IsBesideMap, has_room, node_place, pair_cells, SameBlockBut, changed-live}
+use Rattle.seg_map.proofs.Common.{◌≡◌, arith, is_in, Keeps, subst, Option, leads, Plain, Memory, IsHeap, others, IfSome}
+use Rattle.seg_map.proofs.Common.{refl, bytes_of, is_other, PairNode, nodes_of, Relinked, or_cases, eqb-true, laid-heap}
+use Rattle.seg_map.proofs.Common.{ap, ◌∙◌, ◌+◌, ◌||◌, List, ◌==◌, Good, Tree, bits, Same, Pair, None, leaf, fork, roomy}
+use Rattle.seg_map.proofs.Common.{ℕ, ◌-◌, ◌%◌, ◌<◌, ◌≤◌, ◌⊎◌, inl, inr, not, ◌∷◌, Cut, In, sym, ◌*◌, ◌≢◌, []}
+use Rattle.seg_map.proofs.Common.{true, or_left, word_at, live_of, is_kept, kept_of, keys_in, current, LiveSet, root_of}
+use Rattle.seg_map.proofs.Common.{false, Has-same, cells_of, IsPairAt, HoldsMap, IsPairIn, cases_eq, cells_at, IsHeaded}
+use Rattle.seg_map.proofs.Common.{◌&&◌, nat_lt, nat_le, eq-eqb, le-leb, lt-ltb, Extent, handle, end_of, length, LaysOut}
+use Rattle.seg_map.proofs.Common.{or_right, SameBlock, IsKeyTree, Same-word, Same-link, is_rising, pair_node, tree_same}
+use Rattle.seg_map.proofs.Common.{is_link_byte, IsSearchTree, comes_before, is_pair_node, nodes_of_pairs, changed-keeps}
 use Rattle.seg_map.proofs.PairSteps.{any_at, block_apart, same_red, all_in, target_whole}
-use Rattle.std.proofs.lemmas.Bool.{le-ltb, lt-leb}
-use Rattle.seg_map.specs.{PairNodes.Kept, PairNodes.lies_in_block, Changing.IsRelaid}
 use Rattle.seg_map.proofs.Entering.{Laws, pair_parts, found_in, other_block}
 use Rattle.seg_map.proofs.PairLists.{each, each_both, AreAt, AreIn, removed_length, in_from, nodes_in}
+use Rattle.std.proofs.lemmas.Bool.{le-ltb, lt-leb}
+use Rattle.seg_map.specs.{PairNodes.Kept, PairNodes.lies_in_block, Changing.IsRelaid}
 use Rattle.best_fit.proofs.Laws.{but-trans, written-but}
 use Rattle.seg_types.specs.contracts.plain.Plain.TheBound.{Met}
 
@@ -61,18 +60,16 @@ module _ {len : ℕ} {ns : List ℕ} {c : Cut} (d : Cut) (good : Good len ns c) 
 
   -- a header byte but word 24 stays
   kept_header : (k : ℕ) → (k < 24) ⊎ ((32 ≤ k) × (k < 128)) → bytes_of d.bytes k ≡ bytes_of c.bytes k
-  kept_header k place =
-      kept_byte k (rw (
-        here place,
-        ap not (no_link ns k (λ n i.
-            let l = (node_place len ns c n (record { good = good; listed = i })).low in inl (below place n l))),
-      ) refl)
+  kept_header k place = kept_byte k (rw (
+    here place,
+    ap not (no_link ns k (λ n i.
+        let l = (node_place len ns c n (record { good = good; listed = i })).low in inl (below place n l))),
+  ) refl)
     where
       here : (k < 24) ⊎ ((32 ≤ k) × (k < 128)) → (nat_lt k 24 || (nat_le 32 k && nat_lt k 128) || lies_in_block
           (live_of c.bytes) k) ≡ true
       here (inl l) = or_left _ _ (or_left _ _ (lt-ltb k 24 l))
-      here (inr p) =
-          or_left _ _ (or_right (nat_lt k 24) (nat_le 32 k && nat_lt k 128)
+      here (inr p) = or_left _ _ (or_right (nat_lt k 24) (nat_le 32 k && nat_lt k 128)
           (rw (le-leb 32 k p.0, lt-ltb k 128 p.1) refl))
 
       below : (k < 24) ⊎ ((32 ≤ k) × (k < 128)) → (n : ℕ) → 144 ≤ n → k < n
@@ -82,13 +79,12 @@ module _ {len : ℕ} {ns : List ℕ} {c : Cut} (d : Cut) (good : Good len ns c) 
   -- a byte in the payload of a block stays, but for links of nodes
   pub kept_inside : (x : Extent) → In x (live_of c.bytes).extents → (k : ℕ) → handle x ≤ k → k < end_of x
       → ((n : ℕ) → is_in n ns ≡ true → (k < n) ⊎ (n + 16 ≤ k)) → bytes_of d.bytes k ≡ bytes_of c.bytes k
-  kept_inside x i k low high off =
-      kept_byte k (rw (
-        or_right (nat_lt k 24 || (nat_le 32 k && nat_lt k 128)) (lies_in_block (live_of c.bytes) k)
-            (any_at (λ (y : Extent). nat_le (handle y) k && nat_lt k (end_of y)) (live_of c.bytes).extents x i
-            (rw (le-leb (handle x) k low, lt-ltb k (end_of x) high) refl)),
-        ap not (no_link ns k off),
-      ) refl)
+  kept_inside x i k low high off = kept_byte k (rw (
+    or_right (nat_lt k 24 || (nat_le 32 k && nat_lt k 128)) (lies_in_block (live_of c.bytes) k)
+        (any_at (λ (y : Extent). nat_le (handle y) k && nat_lt k (end_of y)) (live_of c.bytes).extents x i
+        (rw (le-leb (handle x) k low, lt-ltb k (end_of x) high) refl)),
+    ap not (no_link ns k off),
+  ) refl)
 
   -- a block that is no node stays
   pub kept_block : (x : Extent) → In x (live_of c.bytes).extents → is_in (handle x) ns ≡ false
@@ -98,8 +94,7 @@ module _ {len : ℕ} {ns : List ℕ} {c : Cut} (d : Cut) (good : Good len ns c) 
       record {
         payload = record { at = λ k low high. kept_inside x i k low high (λ n j. apart n j k low high) };
         colour = rw w at (kept_colour (handle x) (rw (
-          any_at (λ (y : Extent). handle y == handle x) (live_of c.bytes).extents x i
-              (eq-eqb _ _ refl),
+          any_at (λ (y : Extent). handle y == handle x) (live_of c.bytes).extents x i (eq-eqb _ _ refl),
           ap not o,
         ) refl));
       }
@@ -112,13 +107,12 @@ module _ {len : ℕ} {ns : List ℕ} {c : Cut} (d : Cut) (good : Good len ns c) 
   -- the header but word 24 stays, and what lies round the window
   pub kept_keeps : Keeps c d []
   unfolding kept_of
-  kept_keeps =
-      record {
-        place = record { before = ap (λ (k : Kept). k.before) same; after = ap (λ (k : Kept). k.after) same };
-        front = record { at = λ k l h. kept_header k (inl h) };
-        behind = record { at = λ k l h. kept_header k (inr (l, h)) };
-        blocks = tt;
-      }
+  kept_keeps = record {
+    place = record { before = ap (λ (k : Kept). k.before) same; after = ap (λ (k : Kept). k.after) same };
+    front = record { at = λ k l h. kept_header k (inl h) };
+    behind = record { at = λ k l h. kept_header k (inr (l, h)) };
+    blocks = tt;
+  }
 
 -- ---- what stays beside a map
 
@@ -126,31 +120,29 @@ module _ {len : ℕ} {ns : List ℕ} {c : Cut} (d : Cut) (good : Good len ns c) 
 pub keeps_beside : {a b : Cut} {at : ℕ} {ns : List ℕ} {xs : List Extent} → Keeps a b xs
     → ((x : Extent) → extent_at (live_of a.bytes) (handle x) ≡ Some x → is_in (handle x) ns ≡ false
     → SameBlock (bytes_of a.bytes) (bytes_of b.bytes) x) → IsBesideMap a b at ns
-keeps_beside k same =
-    record {
-      place = k.place;
-      front = k.front;
-      behind = k.behind;
-      blocks = λ x f o.
-          let s = same x f o in record { payload = λ n low high z. s.payload.at n low high; colour = s.colour };
-    }
+keeps_beside k same = record {
+  place = k.place;
+  front = k.front;
+  behind = k.behind;
+  blocks = λ x f o.
+      let s = same x f o in record { payload = λ n low high z. s.payload.at n low high; colour = s.colour };
+}
 
 -- and then beside others, where those that stayed are among them
 pub beside_then : {a b c : Cut} {at : ℕ} {ns ms : List ℕ} → IsBesideMap a b at ns → IsBesideMap b c at ms
     → ((x : Extent) → extent_at (live_of a.bytes) (handle x) ≡ Some x → is_in (handle x) ns ≡ false
     → (extent_at (live_of b.bytes) (handle x) ≡ Some x) × (is_in (handle x) ms ≡ false)) → IsBesideMap a c at ns
-beside_then p q still =
-    record {
-      place = SamePlace-trans _ _ _ p.place q.place;
-      front = Same-trans _ _ _ _ _ p.front q.front;
-      behind = Same-trans _ _ _ _ _ p.behind q.behind;
-      blocks = λ x f o.
-          let s = still x f o in let m = p.blocks x f o in let n = q.blocks x s.0 s.1 in
-          record {
-            payload = λ k low high z. n.payload k low high z ∙ m.payload k low high z;
-            colour = n.colour ∙ m.colour;
-          };
-    }
+beside_then p q still = record {
+  place = SamePlace-trans _ _ _ p.place q.place;
+  front = Same-trans _ _ _ _ _ p.front q.front;
+  behind = Same-trans _ _ _ _ _ p.behind q.behind;
+  blocks = λ x f o.
+      let s = still x f o in let m = p.blocks x f o in let n = q.blocks x s.0 s.1 in
+      record {
+        payload = λ k low high z. n.payload k low high z ∙ m.payload k low high z;
+        colour = n.colour ∙ m.colour;
+      };
+}
 
 -- ---- what a call of the tree says of the heap that it was lent
 
@@ -166,8 +158,7 @@ pub relinked : {K : Type 0} (k : Plain K) (ns ms : List ℕ) {c d e : Cut} (root
     → (s : Tree) × IsSearchTree (comes_before k.order (keys_in k ms d)) (pair_cells (16 + k.SIZE) ms d) top s
     × (nodes_of s ≡ becomes (nodes_of t)))
     → ((t : Tree) → IsSearchTree (comes_before k.order (keys_in k ns c)) (pair_cells (16 + k.SIZE) ns c) root t
-    → steps ≤ 32 * bits (length (nodes_of t) + 1) + 32)
-    → Relinked k ns c e root top becomes (after - before)
+    → steps ≤ 32 * bits (length (nodes_of t) + 1) + 32) → Relinked k ns c e root top becomes (after - before)
 relinked k ns ms {c} {d} {e} root top before {after} steps now kept leads_to added tree few =
     let same = own_stays c d ns ms kept in
     rw now (record {
@@ -188,10 +179,9 @@ pub block_cells : (m m' : Memory) (x : Extent) → SameBlock m m' x → 32 ≤ x
     → cells_of m' (handle x) ≡ cells_of m (handle x)
 block_cells m m' x s long =
     let e : x.offset + 8 ≡ handle x - 8 = omega arith in
-    cell_stays m m' (handle x) (Same-link _ _ _ _ (handle x) s.payload (omega arith) (omega arith))
-    (Same-link _ _ _ _ (handle x + 8) s.payload (omega arith) (omega arith))
-    (same_red (word_at m (handle x - 8)) (word_at m' (handle x - 8))
-    (subst (λ a. word_at m' a % 16 ≡ word_at m a % 16) e s.colour))
+    cell_stays m m' (handle x) (Same-link _ _ _ _ (handle x) s.payload (omega arith) (omega arith)) (Same-link _ _ _ _
+    (handle x + 8) s.payload (omega arith) (omega arith)) (same_red (word_at m (handle x - 8))
+    (word_at m' (handle x - 8)) (subst (λ a. word_at m' a % 16 ≡ word_at m a % 16) e s.colour))
 
 -- the pair of a node
 pub record AtNode {K V : Type 0} (P : Pair K V → Type 0) (m : ℕ) : Type 0 where
@@ -210,9 +200,8 @@ at_node P (p ∷ ps) m i a =
 
 -- the bytes of a pair stay
 pub pair_stays : {K V : Type 0} {kp : Plain K} {vp : Plain V} → Laws kp → Laws vp → (m m' : Memory) {live : LiveSet}
-    {h : ℕ} {p : Pair K V} → IsPairIn kp vp live h p
-    → Same m m' (handle p.node + 16) (handle p.node + (16 + kp.SIZE + vp.SIZE))
-    → IsPairAt kp.SIZE kp.spelling vp.spelling m p → IsPairAt kp.SIZE kp.spelling vp.spelling m' p
+    {h : ℕ} {p : Pair K V} → IsPairIn kp vp live h p → Same m m' (handle p.node + 16) (handle p.node + (16 + kp.SIZE
+    + vp.SIZE)) → IsPairAt kp.SIZE kp.spelling vp.spelling m p → IsPairAt kp.SIZE kp.spelling vp.spelling m' p
 pair_stays {kp = kp} {vp = vp} kl vl m m' {p = p} i s h =
     let first = handle p.node + 16 in let last = handle p.node + (16 + kp.SIZE + vp.SIZE) in let q = pair_parts i in
     let el = kl.spells p.key q.key in let fl = vl.spells p.value q.value in (
@@ -229,40 +218,37 @@ pub record Still (c e : Cut) (x : Extent) : Type 0 where
 unfoldable pub map_over : {K V : Type 0} {kp : Plain K} {vp : Plain V} (c e : Cut) {h at : ℕ} {ps : List (Pair K V)}
     (s : HoldsMap kp vp c.bytes h at ps) → IsHeap current e.bytes → IsTrue (has_room (live_of e.bytes) h (at + 24))
     → Same (bytes_of c.bytes) (bytes_of e.bytes) (h + at) (h + at + 24)
-    → ((m : ℕ) → is_in m (nodes_of s.map.tree.tree) ≡ true
-    → cells_of (bytes_of e.bytes) m ≡ cells_of (bytes_of c.bytes) m)
-    → (qs : List (Pair K V)) → nodes_of_pairs ps ≡ nodes_of_pairs qs → is_rising kp.order qs ≡ true
+    → ((m : ℕ) → is_in m (nodes_of s.map.tree.tree) ≡ true → cells_of (bytes_of e.bytes) m ≡ cells_of (bytes_of c.bytes)
+    m) → (qs : List (Pair K V)) → nodes_of_pairs ps ≡ nodes_of_pairs qs → is_rising kp.order qs ≡ true
     → AreIn kp vp (live_of e.bytes) h qs → AreAt kp vp (bytes_of e.bytes) qs → HoldsMap kp vp e.bytes h at qs
-map_over c e {h} {at} {ps} s heap room words cells qs nodes rising blocks bytes =
-    record {
-      heap = heap;
-      map = record {
-        count = Same-word _ _ _ _ (h + at + 8) words (omega arith) (omega arith) ∙ s.map.count
-            ∙ sym (length-map ps pair_node) ∙ ap (λ (ms : List ℕ). length ms) nodes ∙ length-map qs pair_node;
-        third = Same-word _ _ _ _ (h + at + 16) words (omega arith) (omega arith) ∙ s.map.third;
-        tree = record {
-          tree = s.map.tree.tree;
-          linked = record {
-            root = Same-link _ _ _ _ (h + at) words (omega arith) (omega arith) ∙ s.map.tree.linked.root;
-            holds = holds_same (cells_of (bytes_of c.bytes))
-                (cells_of (bytes_of e.bytes)) s.map.tree.tree cells s.map.tree.linked.holds;
-          };
-          red_black = s.map.tree.red_black;
-          lists = s.map.tree.lists ∙ nodes;
-        };
-        pairs = bytes;
+map_over c e {h} {at} {ps} s heap room words cells qs nodes rising blocks bytes = record {
+  heap = heap;
+  map = record {
+    count = Same-word _ _ _ _ (h + at + 8) words (omega arith) (omega arith) ∙ s.map.count
+        ∙ sym (length-map ps pair_node) ∙ ap (λ (ms : List ℕ). length ms) nodes ∙ length-map qs pair_node;
+    third = Same-word _ _ _ _ (h + at + 16) words (omega arith) (omega arith) ∙ s.map.third;
+    tree = record {
+      tree = s.map.tree.tree;
+      linked = record {
+        root = Same-link _ _ _ _ (h + at) words (omega arith) (omega arith) ∙ s.map.tree.linked.root;
+        holds = holds_same (cells_of (bytes_of c.bytes))
+            (cells_of (bytes_of e.bytes)) s.map.tree.tree cells s.map.tree.linked.holds;
       };
-      aligned = s.aligned;
-      room = room;
-      rising = rising;
-      pairs = blocks;
-    }
+      red_black = s.map.tree.red_black;
+      lists = s.map.tree.lists ∙ nodes;
+    };
+    pairs = bytes;
+  };
+  aligned = s.aligned;
+  room = room;
+  rising = rising;
+  pairs = blocks;
+}
 
 module _ {K V : Type 0} {kp : Plain K} {vp : Plain V} (kl : Laws kp) (vl : Laws vp) (c e : Cut) {h at : ℕ}
-    {ps : List (Pair K V)} (s : HoldsMap kp vp c.bytes h at ps) (heap : IsHeap current e.bytes)
-    (room : IsTrue (has_room (live_of e.bytes) h (at + 24)))
-    (words : Same (bytes_of c.bytes) (bytes_of e.bytes) (h + at) (h + at + 24))
-    (blocks : AllByRecursion (λ (p : Pair K V). Still c e p.node) ps) where
+    {ps : List (Pair K V)} (s : HoldsMap kp vp c.bytes h at ps) (heap : IsHeap current e.bytes) (room : IsTrue
+    (has_room (live_of e.bytes) h (at + 24))) (words : Same (bytes_of c.bytes) (bytes_of e.bytes) (h + at)
+    (h + at + 24)) (blocks : AllByRecursion (λ (p : Pair K V). Still c e p.node) ps) where
   pub both : AllByRecursion (λ (p : Pair K V). IsPairIn kp vp (live_of c.bytes) h p × Still c e p.node) ps
   both = each_both ps s.pairs blocks (λ p i b. (i, b))
 
@@ -277,10 +263,8 @@ module _ {K V : Type 0} {kp : Plain K} {vp : Plain V} (kl : Laws kp) (vl : Laws 
 
   unfoldable pub map_stays : HoldsMap kp vp e.bytes h at ps
   unfolding map_over
-  map_stays =
-      map_over c e s heap room words cells ps refl s.rising
-      (each ps both (λ q w. record { good = w.0.good; listed = w.1.found; apart = w.0.apart }))
-      (each_both ps both s.map.pairs (λ q w b.
+  map_stays = map_over c e s heap room words cells ps refl s.rising (each ps both (λ q w. record
+      { good = w.0.good; listed = w.1.found; apart = w.0.apart })) (each_both ps both s.map.pairs (λ q w b.
       let long = (pair_parts w.0).long in let same = w.1.same in
       pair_stays kl vl (bytes_of c.bytes) (bytes_of e.bytes) w.0
       (record { at = λ k low high. same.payload.at k (omega arith) (omega arith) }) b))
@@ -301,9 +285,8 @@ pub ruleset trees = (kept_proper, kept_room, removed_length)
 
 -- a call of the tree of a map
 module _ {K V : Type 0} {kp : Plain K} {vp : Plain V} {c d : Cut} {h at : ℕ} {ps : List (Pair K V)}
-    (s : HoldsMap kp vp c.bytes h at ps) {ns : List ℕ} {root top : Option ℕ}
-    (tree : IsKeyTree kp ns c root s.map.tree.tree) {becomes : List ℕ → List ℕ} {steps : ℕ}
-    (u : Relinked kp ns c d root top becomes steps) where
+    (s : HoldsMap kp vp c.bytes h at ps) {ns : List ℕ} {root top : Option ℕ} (tree : IsKeyTree kp ns c root
+    s.map.tree.tree) {becomes : List ℕ → List ℕ} {steps : ℕ} (u : Relinked kp ns c d root top becomes steps) where
   pub top_whole : IfSome top (λ t. t % 16 ≡ 0)
   top_whole = target_whole (16 + kp.SIZE) ns d top (u.tree s.map.tree.tree tree).1.leads
 
@@ -369,9 +352,8 @@ module _ {K V : Type 0} {kp : Plain K} {vp : Plain V} {c d : Cut} {h at : ℕ} {
         let x = p.node in let listed = found_in (live_of c.bytes).extents (handle x) x i.listed in
         let long = (pair_parts i).long in let same = block_stays x i.listed i.apart in
         record {
-          at = λ k from to. same.payload.at k (omega arith) (omega arith)
-              ∙ kept_inside d good u.kept (omega arith) x listed k (omega arith) (omega arith)
-              (λ m j. apart k from (omega arith) m j (cases_eq (handle x) m));
+          at = λ k from to. same.payload.at k (omega arith) (omega arith) ∙ kept_inside d good u.kept (omega arith) x
+              listed k (omega arith) (omega arith) (λ m j. apart k from (omega arith) m j (cases_eq (handle x) m));
         }
       where
         apart : (k : ℕ) → handle p.node + 16 ≤ k → k < end_of p.node → (m : ℕ) → is_in m ns ≡ true
@@ -383,8 +365,7 @@ module _ {K V : Type 0} {kp : Plain K} {vp : Plain V} {c d : Cut} {h at : ℕ} {
 
     tree_cells : (qs : List (Pair K V)) {t : Tree} → IsKeyTree kp ns d top t → nodes_of t ≡ nodes_of_pairs qs
         → AreIn kp vp (live_of c.bytes) h qs → ((m : ℕ) → is_in m (nodes_of_pairs qs) ≡ true → is_in m ns ≡ true)
-        → (m : ℕ) → is_in m (nodes_of t) ≡ true
-        → cells_of (bytes_of e.bytes) m ≡ pair_cells (16 + kp.SIZE) ns d m
+        → (m : ℕ) → is_in m (nodes_of t) ≡ true → cells_of (bytes_of e.bytes) m ≡ pair_cells (16 + kp.SIZE) ns d m
     tree_cells qs {t} k lists these own m i =
         let j = ap (λ ms. is_in m ms) (sym lists) ∙ i in
         let a = at_node (IsPairIn kp vp (live_of c.bytes) h) qs m j these in let long = (pair_parts a.holds).long in

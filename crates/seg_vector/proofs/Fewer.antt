@@ -7,10 +7,10 @@ use Rattle.seg_vector.proofs.Words.{Extent, LiveSet, handle, holds, shorter, IsC
 use Rattle.seg_vector.proofs.Words.{live_of, IsResized, IsShortened, Table, no_table, same_role, serves, changed-live}
 use Rattle.seg_vector.proofs.Words.{laid-heap, read-same, shorter-IsShorter, spread-refl, exchange-released}
 use Rattle.seg_vector.proofs.Words.{exchange-resized, Role, Storage, Place, IsGivenBack, IsFitted, Stands, place_at, []}
-use Rattle.seg_vector.proofs.Words.{nil_from_length, KeepsGaps}
 use Rattle.seg_vector.proofs.Runs.{AreHeadWords, IsRun, beside-head, head-gaps, head-wider, none-some, room-head}
 use Rattle.seg_vector.proofs.Runs.{run-headed, run-stands, run-swapped, same-some, stands-run, table, table-full}
-use Rattle.seg_vector.proofs.{Storage.storage-role, Bytes.more-times}
+use Rattle.seg_vector.proofs.{Words.nil_from_length, Words.KeepsGaps, Storage.storage-role}
+use Rattle.raw_region.proofs.Bytes.{more-times}
 use Rattle.best_fit.specs.Table.{cut_table}
 
 -- ---- a container without a place
@@ -18,9 +18,8 @@ use Rattle.best_fit.specs.Table.{cut_table}
 pub started : {old s1 s2 new : Cut} (p : Place) (each : ℕ) → p.at % 8 ≡ 0
     → IsTrue (has_room (live_of old.bytes) p.handle (p.at + 24)) → IsChanged current old new (place_at p) 24
     → link_at (bytes_of s1.bytes) (p.handle + p.at) ≡ None → IsChanged current s1 s2 (p.handle + (p.at + 8)) 8
-    → word_at (bytes_of s2.bytes) (p.handle + (p.at + 8)) ≡ 0
-    → IsChanged current s2 new (p.handle + (p.at + 16)) 8 → word_at (bytes_of new.bytes) (p.handle + (p.at + 16)) ≡ 0
-    → Stands new.bytes p each 0 no_table []
+    → word_at (bytes_of s2.bytes) (p.handle + (p.at + 8)) ≡ 0 → IsChanged current s2 new (p.handle + (p.at + 16)) 8
+    → word_at (bytes_of new.bytes) (p.handle + (p.at + 16)) ≡ 0 → Stands new.bytes p each 0 no_table []
 started {old} {s1} {s2} {new} p each a r c link c2 len c3 cap =
     let m1 = bytes_of s1.bytes in let m2 = bytes_of s2.bytes in let m3 = bytes_of new.bytes in
     let at = place_at p in let one : p.handle + (p.at + 8) ≡ at + 8 = omega arith in
@@ -166,8 +165,7 @@ fitted {old} {mid} {new} {p} {each} {len} {c} {g} {o = Some x} {bytes} some s li
     (subst (λ k. IsShortened current mid new k n) g_is sh) in
     let two = run-swapped [] (spread-refl (x ∷ [])) one (exchange-resized current mid new x y 0 0 q.begins r)
     (other, tt) in
-    let words : AreHeadWords m' at len (table len (Some y)) =
-    record {
+    let words : AreHeadWords m' at len (table len (Some y)) = record {
       link = two.words.link ∙ ap (λ k. Some k) (sym q.begins);
       len_word = two.words.len_word;
       capacity = two.words.capacity;

@@ -1,6 +1,5 @@
 pub mod Words
 pub mod Runs
-pub mod Bytes
 pub mod Storage
 pub mod Fewer
 pub mod Typed

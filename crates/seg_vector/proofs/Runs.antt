@@ -76,23 +76,20 @@ head-room {c} {p} w = found-room (live_of c.bytes) p.handle (p.at + 24) _ w.foun
 -- it stays where other blocks are exchanged
 pub head-kept : {a b : Cut} {p : Place} {from n : ℕ} {gone come : List Extent} → IsHead a p
     → IsExchanged current a b from n gone come → IsNone p.handle gone → IsHead b p
-head-kept {a} {b} {p} {from} {n} {gone} {come} w x d =
-    record {
-      block = w.block;
-      found = kept-found a b from n p.handle _ gone come _ x w.found d;
-      here = w.here;
-      big = w.big;
-    }
+head-kept {a} {b} {p} {from} {n} {gone} {come} w x d = record {
+  block = w.block;
+  found = kept-found a b from n p.handle _ gone come _ x w.found d;
+  here = w.here;
+  big = w.big;
+}
 
 pub head-changed : {a b : Cut} {p : Place} {from n : ℕ} → IsHead a p → IsChanged current a b from n → IsHead b p
-head-changed {a} {b} {p} {from} {n} w c =
-    record {
-      block = w.block;
-      found = ap (λ (l : LiveSet). extent_at l p.handle) (changed-live _ a b from n c)
-          ∙ w.found;
-      here = w.here;
-      big = w.big;
-    }
+head-changed {a} {b} {p} {from} {n} w c = record {
+  block = w.block;
+  found = ap (λ (l : LiveSet). extent_at l p.handle) (changed-live _ a b from n c) ∙ w.found;
+  here = w.here;
+  big = w.big;
+}
 
 -- its three words
 pub record AreHeadWords (m : Memory) (at n : ℕ) (t : Table) : Type 0 where
@@ -127,21 +124,18 @@ len-written {m} {m'} {at} {q} k e s word w = record {
 -- n bytes of the three words
 pub head-wider : {a b : Cut} (p : Place) {from n : ℕ} → IsChanged current a b from n → place_at p ≤ from
     → from + n ≤ place_at p + 24 → IsChanged current a b (place_at p) 24
-head-wider {a} {b} p {from} {n} c f g =
-    record {
-      place = c.place;
-      live = c.live;
-      rest = SameBut-wider (bytes_of a.bytes) (bytes_of b.bytes) from n
-          (place_at p) 24 c.rest f g;
-    }
+head-wider {a} {b} p {from} {n} c f g = record {
+  place = c.place;
+  live = c.live;
+  rest = SameBut-wider (bytes_of a.bytes) (bytes_of b.bytes) from n (place_at p) 24 c.rest f g;
+}
 
 -- a block stays where the head's words are written
 pub beside-head : {a b : Cut} {p : Place} (h : ℕ) {x : Extent} → IsHeap current a.bytes → IsHead a p
     → IsChanged current a b (place_at p) 24 → extent_at (live_of a.bytes) h ≡ Some x → p.handle ≢ h
     → SameBlock (bytes_of a.bytes) (bytes_of b.bytes) x
-beside-head {a} {b} {p} h {x} heap w c found other =
-    kept-beside a b _ 24 p.handle h _ x [] [] _ heap (head-exchanged p heap (head-room w) c) w.found
-    (omega (arith, w.here)) (omega (arith, w.here, w.big)) other found tt
+beside-head {a} {b} {p} h {x} heap w c found other = kept-beside a b _ 24 p.handle h _ x [] [] _ heap (head-exchanged p
+    heap (head-room w) c) w.found (omega (arith, w.here)) (omega (arith, w.here, w.big)) other found tt
 
 -- Some blocks are gone so far and others came, and the head has these words.
 pub record IsRun (old now : Cut) (p : Place) (gone come : List Extent) (n : ℕ) (t : Table) : Type 0 where
@@ -197,10 +191,9 @@ came-others {a} {gone = gone} {come} x = rising-others come (without_all gone (l
     (live-rises (exchanged (live_of a.bytes) gone come) x.live.proper)
 
 -- those that are not gone stay, and are in use still
-pub all-kept : {a b : Cut} {gone come : List Extent} (xs : List Extent) → IsHeap current a.bytes
-    → IsSwapped a b gone come → AllByRecursion (IsFound (live_of a.bytes).extents) xs
-    → AllByRecursion (λ (y : Extent). IsNone (handle y) gone) xs
-    → AllByRecursion (SameBlock (bytes_of a.bytes) (bytes_of b.bytes)) xs
+pub all-kept : {a b : Cut} {gone come : List Extent} (xs : List Extent) → IsHeap current a.bytes → IsSwapped a b gone
+    come → AllByRecursion (IsFound (live_of a.bytes).extents) xs → AllByRecursion (λ (y : Extent). IsNone (handle y)
+    gone) xs → AllByRecursion (SameBlock (bytes_of a.bytes) (bytes_of b.bytes)) xs
 all-kept [] heap x f n = tt
 all-kept {a} {b} {gone} {come} (y ∷ ys) heap x f n =
     (kept a b (handle y) y gone come _ heap x f.0 n.0, all-kept ys heap x f.1 n.1)

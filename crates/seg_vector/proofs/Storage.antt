@@ -1,25 +1,24 @@
 -- The storage of a container that stands at a place: regrown, written in, and read.
-use Rattle.seg_vector.proofs.Words as W
-use W.{◌≡◌, refl, sym, ap, subst, ◌∙◌, inl, inr, ℕ, ◌+◌, ◌*◌, ◌%◌, ◌<◌, ◌≤◌, Bool, true, false, Option, Some, None}
-use W.{List, ◌∷◌, length, arith, if◌then◌else◌, ◌⊎◌, ◌==◌, ◌++◌, length-append, max, ◌-◌, take, drop, ◌&&◌, append-nil}
-use W.{IsTrue, IfSome, nat_lt, option_map, option_to_list, nat_le, AllByRecursion, list_any, eqb-true, and_from}
-use W.{and_parts, leb-true, le-leb, lt-leb, lt-ltb, ltb-true, or_cases, or_left, or_right, eq-eqb, length-take}
-use W.{length-drop, take-take, Memory, Cut, SameBut, Has, bytes_of, read, word_at, patched, read-part, link_at, Storage}
-use W.{current, CarriesOver, IsGivenRoom, IsNotGivenRoom, block_of, exchanged, without_all, IsExchanged, IsRegrown}
-use W.{Extent, LiveSet, handle, holds, end_of, is_block, is_hole, proper_from, others, resized, longer, place}
-use W.{IsChanged, IsHeap, LaysOut, extent_at, has_room, live_of, is_live_in, payload_at, Table, is_table, serves}
-use W.{same_role, table_link, IsSound, all_of-insert, found-room, live-sound, read-same, room_block, laid-heap}
-use W.{all-same-but, changed-live, regrow-serves, in_use-all, block_payload, room-less, IfSome_is, all_keep_proper}
-use W.{legal_size, too_long, spread-refl, exchange-next, is_legal_size, Place, IsGrown, IsOwnBlock, Stands, place_at}
-use W.{IsWithoutSpace, IsStorage, capacity_for_one, IsRewritten, IsSwapped, Refusal, NoSpace, [], changed-room}
-use W.{nil_from_length, take-nil, hole-order, all-in-use, exchanged-live, live-rises, gaps-payload, gaps-refl}
-use W.{gaps-then, IsPointed}
+use W.{◌≡◌, list_any, read-same, laid-heap, room-less, IfSome_is, IsStorage, IsSwapped, gaps-refl, gaps-then, IsPointed}
+use W.{refl, payload_at, table_link, found-room, live-sound, room_block, in_use-all, legal_size, IsOwnBlock, hole-order}
+use W.{sym, ◌∙◌, Bool, true, Some, None, List, arith, ◌==◌, ◌++◌, take, drop, ◌&&◌, read, holds, place, Table, Place}
+use W.{ap, eqb-true, and_from, leb-true, ltb-true, or_cases, or_right, bytes_of, block_of, is_block, has_room, is_table}
+use W.{subst, if◌then◌else◌, length-append, all_of-insert, regrow-serves, block_payload, IsWithoutSpace, exchanged-live}
+use W.{inl, inr, ◌+◌, ◌*◌, ◌%◌, ◌<◌, ◌≤◌, ◌∷◌, ◌⊎◌, max, ◌-◌, Cut, Has, []}
+use W.{ℕ, length-take, length-drop, CarriesOver, changed-live, exchange-next, is_legal_size, changed-room, gaps-payload}
+use W.{false, le-leb, lt-leb, lt-ltb, eq-eqb, Memory, Extent, handle, end_of, others, longer, IsHeap, serves, Stands}
+use W.{Option, length, IsTrue, IfSome, nat_lt, nat_le, resized, LaysOut, live_of, IsSound, IsGrown, Refusal, NoSpace}
+use W.{append-nil, option_map, IsGivenRoom, without_all, IsExchanged, proper_from, is_live_in, spread-refl, IsRewritten}
+use W.{option_to_list, AllByRecursion, IsNotGivenRoom, all-same-but, all_keep_proper, capacity_for_one, nil_from_length}
+use W.{and_parts, take-take, read-part, exchanged, IsRegrown, IsChanged, extent_at, same_role, all-in-use, live-rises}
+use W.{or_left, SameBut, word_at, patched, link_at, Storage, current, LiveSet, is_hole, too_long, place_at, take-nil}
 use Rattle.seg_vector.proofs.Runs.{IsRun, beside-head, block-written, head-room, head-wider, len-written, head-gaps}
 use Rattle.seg_vector.proofs.Runs.{none-some, own-facts, room-head, run-found, run-headed, run-stands, run-swapped}
 use Rattle.seg_vector.proofs.Runs.{same-some, serves-full, spread-nil, stands-none-of, stands-run, table, table-full}
-use Rattle.seg_vector.proofs.Bytes.{more-times, Has-append, Has-take, Has-drop, Has-beside, Has-patched, length-patch}
+use Rattle.raw_region.proofs.Bytes.{more-times, Has-append, Has-take, Has-drop, Has-beside, Has-patched, length-patch}
 use Rattle.best_fit.specs.{Extents.is_proper, Fit.regrow}
 use Rattle.seg_vector.specs.Vector.{grown_table}
+use Rattle.seg_vector.proofs.Words as W
 
 -- ---- what stands
 
@@ -51,37 +50,33 @@ stands-block {b} {p} {t} s = own-block (live_of b) p.handle t.extent s.own
 
 pub grown-same : (l : LiveSet) (each n : ℕ) (t : Table) → n ≤ t.capacity → grown_table l each n t ≡ Some t
 unfolding grown_table
-grown-same l each n t f =
-    ap (λ b. if b then Some t else option_map (λ x. table n (Some x)) (regrow l t.extent (each * n)))
-    (le-leb n t.capacity f)
+grown-same l each n t f = ap (λ b. if b then Some t else option_map (λ x. table n (Some x)) (regrow l t.extent
+    (each * n))) (le-leb n t.capacity f)
 
 pub grown-more : (l : LiveSet) (each n : ℕ) (t : Table) → t.capacity < n
     → grown_table l each n t ≡ option_map (λ x. table n (Some x)) (regrow l t.extent (each * n))
 unfolding grown_table
-grown-more l each n t f =
-    ap (λ b. if b then Some t else option_map (λ x. table n (Some x)) (regrow l t.extent (each * n)))
-    (lt-leb n t.capacity f)
+grown-more l each n t f = ap (λ b. if b then Some t else option_map (λ x. table n (Some x)) (regrow l t.extent
+    (each * n))) (lt-leb n t.capacity f)
 
 pub grows-not : (c : Cut) {p : Place} {each : ℕ} (n : ℕ) {len : ℕ} {t : Table} {bytes : List ℕ} → n ≤ t.capacity
     → Stands c.bytes p each len t bytes → IsGrown c c p each n len t bytes
-grows-not c {each} n {t} f s =
-    record {
-      table = t;
-      grown = grown-same (live_of c.bytes) each n t f;
-      change = (stands-run c s).change;
-      stands = s;
-      enough = λ less. refl;
-    }
+grows-not c {each} n {t} f s = record {
+  table = t;
+  grown = grown-same (live_of c.bytes) each n t f;
+  change = (stands-run c s).change;
+  stands = s;
+  enough = λ less. refl;
+}
 
 -- there is no space
 pub grows-nothing : {old new : Cut} (each n : ℕ) (t : Table) → t.capacity < n
     → IsNotGivenRoom old new t.extent (each * n) → IsWithoutSpace old new each n t NoSpace
-grows-nothing {old} each n t f p =
-    record {
-      refusal = refl;
-      none = grown-more (live_of old.bytes) each n t f ∙ ap (option_map (λ x. table n (Some x))) p.none;
-      same = p.same;
-    }
+grows-nothing {old} each n t f p = record {
+  refusal = refl;
+  none = grown-more (live_of old.bytes) each n t f ∙ ap (option_map (λ x. table n (Some x))) p.none;
+  same = p.same;
+}
 
 -- where there are so many places there is no such refusal
 pub not-refused : {old new : Cut} {each n : ℕ} {t : Table} {e : Refusal} → n ≤ t.capacity
@@ -137,9 +132,8 @@ grown-run {old} {t} s r =
     run-swapped [] (spread-nil (option_to_list t.extent)) begun (regrown-swapped r.change) (stands-none-of s begun)
 
 pub grows-more : {old mid new : Cut} {p : Place} {each : ℕ} (n : ℕ) {len g : ℕ} {t : Table} {bytes : List ℕ}
-    → t.capacity < n → Stands old.bytes p each len t bytes
-    → IsGivenRoom current old mid t.extent (each * n) (each * len) g → IsPointed mid new p g n
-    → IsGrown old new p each n len t bytes
+    → t.capacity < n → Stands old.bytes p each len t bytes → IsGivenRoom current old mid t.extent (each * n)
+    (each * len) g → IsPointed mid new p g n → IsGrown old new p each n len t bytes
 grows-more {old} {mid} {each = each} n {len} {t} {bytes} more s r w =
     let l = live_of old.bytes in let y = r.extent in let run = grown-run s r in
     let done = run-headed {k = len} {u = table n (Some y)} run w.change (record {
@@ -158,9 +152,8 @@ grows-more {old} {mid} {each = each} n {len} {t} {bytes} more s r w =
       table = table n (Some y);
       grown = grown-more l each n t more ∙ ap (option_map (λ x. table n (Some x))) r.regrown;
       change = done.change;
-      stands = run-stands bytes s done full (omega (arith, s.fits, more)) s.long
-          (read-same _ _ _ _ (handle y) (length bytes) stays.payload (omega arith) (omega (arith, long, less, total))
-          ∙ stored);
+      stands = run-stands bytes s done full (omega (arith, s.fits, more)) s.long (read-same _ _ _ _ (handle y)
+          (length bytes) stays.payload (omega arith) (omega (arith, long, less, total)) ∙ stored);
       enough = λ less. absurd (omega (arith, less, more));
     }
 
@@ -196,33 +189,27 @@ pub ruleset sizes = (room-small, place-small, stands-small, kept-heap, rooms)
 
 pub storage-read : {b : List ℕ} {p : Place} {each len : ℕ} (k : ℕ) {t : Table} {bytes : List ℕ} (storage : Option ℕ)
     → Stands b p each len t bytes → storage ≡ link_at (bytes_of b) (p.handle + p.at)
-    → k ≡ word_at (bytes_of b) (place_at p + 8)
-    → IfSome storage (λ g. IsTrue (has_room (live_of b) g (each * k)))
-storage-read {b} {each} k {t} storage s e f =
-    subst (λ o. IfSome o (λ g. IsTrue (has_room (live_of b) g (each * k)))) (sym (e ∙ s.words.link))
-    (subst (λ k. IfSome (table_link t) (λ g. IsTrue (has_room (live_of b) g (each * k)))) (sym (f ∙ s.words.len_word))
-    (stands-room s))
+    → k ≡ word_at (bytes_of b) (place_at p + 8) → IfSome storage (λ g. IsTrue (has_room (live_of b) g (each * k)))
+storage-read {b} {each} k {t} storage s e f = subst (λ o. IfSome o (λ g. IsTrue (has_room (live_of b) g (each * k))))
+    (sym (e ∙ s.words.link)) (subst (λ k. IfSome (table_link t) (λ g. IsTrue (has_room (live_of b) g (each * k))))
+    (sym (f ∙ s.words.len_word)) (stands-room s))
 
 pub given-of : {old mid : Cut} {p : Place} {each : ℕ} (n : ℕ) {len : ℕ} (k : ℕ) {g : ℕ} {t : Table} {bytes : List ℕ}
     (storage : Option ℕ) → Stands old.bytes p each len t bytes
-    → storage ≡ link_at (bytes_of old.bytes) (p.handle + p.at)
-    → k ≡ word_at (bytes_of old.bytes) (place_at p + 8)
+    → storage ≡ link_at (bytes_of old.bytes) (p.handle + p.at) → k ≡ word_at (bytes_of old.bytes) (place_at p + 8)
     → IsGivenRoom current old mid (block_of (live_of old.bytes) storage) (each * n) (each * k) g
     → IsGivenRoom current old mid t.extent (each * n) (each * len) g
-given-of {old} {mid} {each} n {len} k {g} storage s e f r =
-    subst (λ o. IsGivenRoom current old mid o (each * n) (each * len) g)
-    (ap (block_of (live_of old.bytes)) (e ∙ s.words.link) ∙ stands-block s)
-    (subst (λ k. IsGivenRoom current old mid (block_of (live_of old.bytes) storage) (each * n) (each * k) g)
-    (f ∙ s.words.len_word) r)
+given-of {old} {mid} {each} n {len} k {g} storage s e f r = subst (λ o. IsGivenRoom current old mid o (each * n)
+    (each * len) g) (ap (block_of (live_of old.bytes)) (e ∙ s.words.link) ∙ stands-block s)
+    (subst (λ k. IsGivenRoom current old mid (block_of (live_of old.bytes) storage) (each * n) (each * k) g) (f
+    ∙ s.words.len_word) r)
 
 pub not_given-of : {old mid : Cut} {p : Place} {each : ℕ} (n : ℕ) {len : ℕ} {t : Table} {bytes : List ℕ}
-    (storage : Option ℕ) → Stands old.bytes p each len t bytes
-    → storage ≡ link_at (bytes_of old.bytes) (p.handle + p.at)
-    → IsNotGivenRoom old mid (block_of (live_of old.bytes) storage) (each * n)
+    (storage : Option ℕ) → Stands old.bytes p each len t bytes → storage ≡ link_at (bytes_of old.bytes)
+    (p.handle + p.at) → IsNotGivenRoom old mid (block_of (live_of old.bytes) storage) (each * n)
     → IsNotGivenRoom old mid t.extent (each * n)
-not_given-of {old} {mid} {each} n storage s e r =
-    subst (λ o. IsNotGivenRoom old mid o (each * n)) (ap (block_of (live_of old.bytes)) (e ∙ s.words.link)
-    ∙ stands-block s) r
+not_given-of {old} {mid} {each} n storage s e r = subst (λ o. IsNotGivenRoom old mid o (each * n))
+    (ap (block_of (live_of old.bytes)) (e ∙ s.words.link) ∙ stands-block s) r
 
 -- ---- bytes of the storage and the length are written
 
@@ -239,11 +226,10 @@ written-run {old} {p} {each} {c} from {o = Some x} s link c1 within =
     run-swapped [] (spread-refl (x ∷ [])) (stands-run old s) swap ((λ e. s.own.1 (sym e)), tt)
 
 pub rewritten : {old s1 new : Cut} {p : Place} {each len c g : ℕ} (from : ℕ) {n : ℕ} (len2 : ℕ) {o : Option Extent}
-    {bytes : List ℕ} (bytes2 : List ℕ) → Stands old.bytes p each len (table c o) bytes
-    → link_at (bytes_of old.bytes) (place_at p) ≡ Some g → IsChanged current old s1 (g + from) n → from + n ≤ each * c
-    → len2 ≤ c → length bytes2 ≡ each * len2 → Has (bytes_of s1.bytes) g bytes2
-    → IsChanged current s1 new (p.handle + (p.at + 8)) 8 → word_at (bytes_of new.bytes) (p.handle + (p.at + 8)) ≡ len2
-    → IsRewritten old new p each len2 (table c o) bytes2
+    {bytes : List ℕ} (bytes2 : List ℕ) → Stands old.bytes p each len (table c o) bytes → link_at (bytes_of old.bytes)
+    (place_at p) ≡ Some g → IsChanged current old s1 (g + from) n → from + n ≤ each * c → len2 ≤ c
+    → length bytes2 ≡ each * len2 → Has (bytes_of s1.bytes) g bytes2 → IsChanged current s1 new (p.handle + (p.at + 8))
+    8 → word_at (bytes_of new.bytes) (p.handle + (p.at + 8)) ≡ len2 → IsRewritten old new p each len2 (table c o) bytes2
 rewritten from len2 {o = None} bytes2 s link c1 within fits long content c2 word = none-some s.words.link link
 rewritten {old} {s1} {new} {p} {each} {c} {g} from {n} len2 {o = Some x} bytes2 s link c1 within fits long content c2
     word =
@@ -270,9 +256,8 @@ at-least each n f = grind arith
 
 -- one change after another in the storage that there is
 pub same-storage : {old mid : Cut} {p : Place} {each len from n : ℕ} {t : Table} {bytes : List ℕ}
-    → Stands old.bytes p each len t bytes
-    → IsExchanged current old mid from n (option_to_list t.extent) (option_to_list t.extent)
-    → live_of mid.bytes ≡ live_of old.bytes
+    → Stands old.bytes p each len t bytes → IsExchanged current old mid from n (option_to_list t.extent)
+    (option_to_list t.extent) → live_of mid.bytes ≡ live_of old.bytes
 same-storage {old} {mid} {p} {from = from} {n} {t} s x =
     let l = live_of old.bytes in let own = option_to_list t.extent in
     let facts = own-facts l p.handle t.extent s.own in
@@ -280,12 +265,10 @@ same-storage {old} {mid} {p} {from = from} {n} {t} s x =
     (sym (all-in-use own l.extents (live-rises l s.heap.proper) facts.0 facts.1).is)
 
 -- blocks exchanged, and then those that came written in
-pub exchange-then : {old mid new : Cut} {from n : ℕ} {gone come : List Extent}
-    → IsExchanged current old mid from n gone come → IsExchanged current mid new from n come come
-    → IsExchanged current old new from n gone come
-exchange-then {old} {mid} {new} {from} {n} {gone} {come} p q =
-    subst (IsExchanged current old new from n gone) (append-nil come)
-    (exchange-next current old mid new from n gone come come [] come (spread-nil come) p q)
+pub exchange-then : {old mid new : Cut} {from n : ℕ} {gone come : List Extent} → IsExchanged current old mid from n gone
+    come → IsExchanged current mid new from n come come → IsExchanged current old new from n gone come
+exchange-then {old} {mid} {new} {from} {n} {gone} {come} p q = subst (IsExchanged current old new from n gone)
+    (append-nil come) (exchange-next current old mid new from n gone come come [] come (spread-nil come) p q)
 
 -- a container has fewer bytes than a segment
 pub capacity-bytes : (c : Cut) {p : Place} {each len n : ℕ} {o : Option Extent} {bytes : List ℕ}
@@ -383,9 +366,8 @@ cut-storage {old} {new} {p} {each} {len} {c} k {o = Some x} {bytes} s f c2 =
     (omega arith) (omega (arith, full, less, total)) ∙ s.words.storage)
 
 pub truncated : {old new : Cut} {p : Place} {each len : ℕ} (n : ℕ) {t : Table} {bytes : List ℕ}
-    → Stands old.bytes p each len t bytes → n ≤ len
-    → IsChanged current old new (p.handle + (p.at + 8)) 8 → word_at (bytes_of new.bytes) (p.handle + (p.at + 8)) ≡ n
-    → IsRewritten old new p each n t (take (each * n) bytes)
+    → Stands old.bytes p each len t bytes → n ≤ len → IsChanged current old new (p.handle + (p.at + 8)) 8
+    → word_at (bytes_of new.bytes) (p.handle + (p.at + 8)) ≡ n → IsRewritten old new p each n t (take (each * n) bytes)
 truncated {old} {p} {each} {len} n {bytes} s f c2 word =
     let less = more-times each n len f in let total = s.long in let fits = s.fits in
     let one = stands-run old s in let wide = head-wider p c2 (omega arith) (omega arith) in
@@ -400,9 +382,8 @@ truncated {old} {p} {each} {len} n {bytes} s f c2 word =
 
 -- ---- what the calls of the heap ask for
 
-storage-room_in : {b : List ℕ} {p : Place} {each len c g : ℕ} {o : Option Extent} {bytes : List ℕ}
-    → Stands b p each len (table c o) bytes → link_at (bytes_of b) (place_at p) ≡ Some g
-    → IsTrue (has_room (live_of b) g (each * c))
+storage-room_in : {b : List ℕ} {p : Place} {each len c g : ℕ} {o : Option Extent} {bytes : List ℕ} → Stands b p each len
+    (table c o) bytes → link_at (bytes_of b) (place_at p) ≡ Some g → IsTrue (has_room (live_of b) g (each * c))
 storage-room_in {o = None} s link = none-some s.words.link link
 storage-room_in {b} {each} {c} {o = Some x} s link =
     let g_is = same-some (sym s.words.link ∙ link) in let full = table-full each c x s.table in
@@ -410,9 +391,8 @@ storage-room_in {b} {each} {c} {o = Some x} s link =
     (found-room (live_of b) (handle x) (each * c) x s.own.0 full)
 
 -- the storage has room for as many bytes as the elements have, and for as many as there are places
-pub some-room : {b : List ℕ} {p : Place} {each len g : ℕ} (n : ℕ) {t : Table} {bytes : List ℕ}
-    → Stands b p each len t bytes → link_at (bytes_of b) (place_at p) ≡ Some g → n ≤ each * t.capacity
-    → IsTrue (has_room (live_of b) g n)
+pub some-room : {b : List ℕ} {p : Place} {each len g : ℕ} (n : ℕ) {t : Table} {bytes : List ℕ} → Stands b p each len t
+    bytes → link_at (bytes_of b) (place_at p) ≡ Some g → n ≤ each * t.capacity → IsTrue (has_room (live_of b) g n)
 some-room {b} {each} {g} n {t} s link f = room-less (live_of b) g (each * t.capacity) n f (storage-room_in s link)
 
 -- so its block is in use
@@ -508,15 +488,12 @@ no-regrow c p each k n (Some x) heap t own f =
     (lt-leb (n + 16) x.len (omega (arith, less, f))) refl (too_long c n Storage heap f)
 
 pub too-many : (c : Cut) {p : Place} {each : ℕ} (n : ℕ) {len : ℕ} {t : Table} {bytes : List ℕ}
-    → Stands c.bytes p each len t bytes → 1 ≤ each → 1073741824 < n → IsWithoutSpace c c each n t
-    NoSpace
+    → Stands c.bytes p each len t bytes → 1 ≤ each → 1073741824 < n → IsWithoutSpace c c each n t NoSpace
 too-many c {p} {each} n {t} s some f =
     let few = capacity-bytes c s.heap s in let least = at-least each t.capacity some in
     let more = at-least each n some in
-    let r : IsNotGivenRoom c c t.extent (each * n) =
-    record {
-      none = no-regrow c p each t.capacity (each * n) t.extent s.heap s.table s.own
-          (omega (arith, more, f));
+    let r : IsNotGivenRoom c c t.extent (each * n) = record {
+      none = no-regrow c p each t.capacity (each * n) t.extent s.heap s.table s.own (omega (arith, more, f));
       same = refl;
     } in
     grows-nothing each n t (omega (arith, few, least, f)) r
@@ -524,11 +501,10 @@ too-many c {p} {each} n {t} s some f =
 -- ---- elements more
 
 pub extended : {old s1 new : Cut} {p : Place} {each len g : ℕ} (n : ℕ) {t : Table} {bytes : List ℕ} (more : List ℕ)
-    → Stands old.bytes p each len t bytes → len + n ≤ t.capacity → length more ≡ each * n
-    → link_at (bytes_of old.bytes) (place_at p) ≡ Some g
-    → IsChanged current old s1 (g + each * len) (length more) → Has (bytes_of s1.bytes) (g + each * len) more
-    → IsChanged current s1 new (p.handle + (p.at + 8)) 8 → word_at (bytes_of new.bytes) (p.handle + (p.at + 8)) ≡ len
-    + n → IsRewritten old new p each (len + n) t (bytes ++ more)
+    → Stands old.bytes p each len t bytes → len + n ≤ t.capacity → length more ≡ each * n → link_at (bytes_of old.bytes)
+    (place_at p) ≡ Some g → IsChanged current old s1 (g + each * len) (length more) → Has (bytes_of s1.bytes)
+    (g + each * len) more → IsChanged current s1 new (p.handle + (p.at + 8)) 8 → word_at (bytes_of new.bytes)
+    (p.handle + (p.at + 8)) ≡ len + n → IsRewritten old new p each (len + n) t (bytes ++ more)
 extended {old} {s1} {each} {len} {g} n {t} {bytes} more s f long link c1 content c2 word =
     let m = bytes_of old.bytes in let ms = bytes_of s1.bytes in let total = s.long in
     let sum = length-append bytes more in let less = more-times each (len + n) t.capacity f in
@@ -567,8 +543,7 @@ pieces each len i bytes f e =
     let sum : each * i + each * (len - i) ≡ each * len = sym split ∙ ap (λ k. each * k) whole in
     record {
       front = omega (arith, length-take (each * i) bytes, sum, e);
-      back = omega
-          (arith, length-drop (each * i) bytes, sum, e);
+      back = omega (arith, length-drop (each * i) bytes, sum, e);
       sum = sum;
     }
 
@@ -576,11 +551,10 @@ pieces each len i bytes f e =
 
 pub erased : {old s1 new : Cut} {p : Place} {each len g : ℕ} (i : ℕ) {t : Table} {bytes : List ℕ}
     → Stands old.bytes p each len t bytes → i < len → link_at (bytes_of old.bytes) (place_at p) ≡ Some g
-    → IsChanged current old s1 (g + each * i) (each * (len - i - 1))
-    → read (bytes_of s1.bytes) (g + each * i) (each * (len - i - 1)) ≡ read (bytes_of old.bytes)
-    (g + (each * i + each)) (each * (len - i - 1))
-    → IsChanged current s1 new (p.handle + (p.at + 8)) 8 → word_at (bytes_of new.bytes) (p.handle + (p.at + 8)) ≡ len
-    - 1 → IsRewritten old new p each (len - 1) t (take (each * i) bytes ++ drop (each * i + each) bytes)
+    → IsChanged current old s1 (g + each * i) (each * (len - i - 1)) → read (bytes_of s1.bytes) (g + each * i)
+    (each * (len - i - 1)) ≡ read (bytes_of old.bytes) (g + (each * i + each)) (each * (len - i - 1))
+    → IsChanged current s1 new (p.handle + (p.at + 8)) 8 → word_at (bytes_of new.bytes) (p.handle + (p.at + 8)) ≡ len -
+    1 → IsRewritten old new p each (len - 1) t (take (each * i) bytes ++ drop (each * i + each) bytes)
 erased {old} {s1} {each} {len} {g} i {t} {bytes} s f link c1 moved c2 word =
     let m = bytes_of old.bytes in let ms = bytes_of s1.bytes in let k : ℕ = each * i + each in
     let n : ℕ = each * (len - i - 1) in
@@ -591,9 +565,8 @@ erased {old} {s1} {each} {len} {g} i {t} {bytes} s f link c1 moved c2 word =
     let sum : k + n ≡ each * len = sym split ∙ ap (λ j. each * j) whole in
     let behind : length back ≡ n = omega (arith, length-drop k bytes, total, sum) in
     let less = more-times each len t.capacity s.fits in
-    let shorter : each * (len - 1) ≡ each * i + n =
-    ap (λ j. each * j) (let e : len - 1 ≡ i + (len - i - 1) = omega (arith, f) in e)
-    ∙ (let e : each * (i + (len - i - 1)) ≡ each * i + each * (len - i - 1) = omega arith in e) in
+    let shorter : each * (len - 1) ≡ each * i + n = ap (λ j. each * j) (let e : len - 1 ≡ i + (len - i - 1) = omega
+    (arith, f) in e) ∙ (let e : each * (i + (len - i - 1)) ≡ each * i + each * (len - i - 1) = omega arith in e) in
     let one = Has-beside g front c1.rest (inl (omega (arith, before)))
     (Has-take m g (each * i) bytes (omega (arith, total, sum)) has) in
     let rest = Has-drop m g k bytes (omega (arith, total, sum)) has in
@@ -647,8 +620,7 @@ put_in {old} {s1} {s2} {each} {len} {g} i {t} {bytes} more s f room e link c1 mo
     rewritten (each * i) (len + 1) (front ++ (more ++ back)) s link c (omega (arith, sum, less, step))
     (omega (arith, room))
     (omega (arith, length-append front (more ++ back), length-append more back, before, behind, e, sum, step))
-    (Has-append ms g front (more ++ back) one (subst (λ j. Has ms (g + j) (more ++ back)) (sym before) three)) c3
-    word
+    (Has-append ms g front (more ++ back) one (subst (λ j. Has ms (g + j) (more ++ back)) (sym before) three)) c3 word
 
 -- ---- what the calls of the heap ask for
 

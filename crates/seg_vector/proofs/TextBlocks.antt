@@ -90,10 +90,9 @@ of-none h [] n = tt
 of-none h (x ∷ xs) n = ((λ e. n.0 (sym e)), of-none h xs n.1)
 
 pub texts-made : (b : List ℕ) (p : Place) (ps : List OwnedText) {t : Table} {head : Extent} (rest : List Extent)
-    → IsHeap current b → (live_of b).extents ≡ inserted (own_blocks ps t) rest
-    → find (λ (w : Extent). handle w == p.handle) rest ≡ Some head → p.at + 24 + 16 ≤ head.len → p.at % 8 ≡ 0
-    → IsTrue (is_table Storage 16 t) → length ps ≤ t.capacity
-    → AreHeadWords (bytes_of b) (place_at p) (length ps) t → AreInArray (bytes_of b) t ps
+    → IsHeap current b → (live_of b).extents ≡ inserted (own_blocks ps t) rest → find (λ (w : Extent). handle w ==
+    p.handle) rest ≡ Some head → p.at + 24 + 16 ≤ head.len → p.at % 8 ≡ 0 → IsTrue (is_table Storage 16 t)
+    → length ps ≤ t.capacity → AreHeadWords (bytes_of b) (place_at p) (length ps) t → AreInArray (bytes_of b) t ps
     → AllByRecursion (IsOwnedText (bytes_of b)) ps → AllByRecursion IsServed ps → IsTexts b p ps t
 texts-made b p ps {t} {head} rest heap is found big even table fits words array texts served =
     let l = live_of b in let own = own_blocks ps t in
@@ -103,9 +102,8 @@ texts-made b p ps {t} {head} rest heap is found big even table fits words array 
     let arr = option_to_list t.extent in let tb = text_blocks ps in
     let founds = all-split (IsFound l.extents) arr tb all in let none = found-none p.handle head own rest up found in
     let nones = all-split (λ (z : Extent). p.handle ≢ handle z) arr tb none in
-    let there : extent_at l p.handle ≡ Some head =
-    ap (λ (zs : List Extent). find (λ (w : Extent). handle w == p.handle) zs) is ∙ found-inserted p.handle head own
-    rest none found in
+    let there : extent_at l p.handle ≡ Some head = ap (λ (zs : List Extent). find (λ (w : Extent). handle w == p.handle)
+    zs) is ∙ found-inserted p.handle head own rest none found in
     record {
       heap = heap;
       words = record
@@ -139,9 +137,8 @@ own-between a m b t =
     (subst (λ (xs : List Extent). SameSpread (arr ++ xs) (arr ++ (tm ++ (ta ++ tb)))) (sym (blocks-three a m b)) p)
 
 -- the other way round
-pub between-own : (a m b : List OwnedText) (t : Table)
-    → SameSpread ((option_to_list t.extent ++ text_blocks m) ++ (text_blocks a ++ text_blocks b))
-    (own_blocks (a ++ (m ++ b)) t)
+pub between-own : (a m b : List OwnedText) (t : Table) → SameSpread ((option_to_list t.extent ++ text_blocks m)
+    ++ (text_blocks a ++ text_blocks b)) (own_blocks (a ++ (m ++ b)) t)
 between-own a m b t =
     let arr = option_to_list t.extent in let ta = text_blocks a in let tm = text_blocks m in
     let tb = text_blocks b in let p = spread-behind arr _ _ (middle-first tm ta tb) in
@@ -177,8 +174,7 @@ owned-same m m' (q ∷ qs) k s w =
 
 -- blocks stay where the words of the vector are written
 all-apart : {old : Cut} (new : Cut) {p : Place} (xs : List Extent) → IsHeap current old.bytes → IsHead old p
-    → AllByRecursion (IsFound (live_of old.bytes).extents) xs
-    → AllByRecursion (λ (x : Extent). handle x ≢ p.handle) xs
+    → AllByRecursion (IsFound (live_of old.bytes).extents) xs → AllByRecursion (λ (x : Extent). handle x ≢ p.handle) xs
     → AllByRecursion (SameBlockBut (bytes_of old.bytes) (bytes_of new.bytes) (place_at p) 24) xs
     → AllByRecursion (SameBlock (bytes_of old.bytes) (bytes_of new.bytes)) xs
 all-apart new [] heap o f n s = tt
@@ -213,9 +209,8 @@ texts-between {old} {new} {p} qs a m m' b {t} {u} {gone} e f g h before change t
     let into : List Extent = option_to_list u.extent ++ text_blocks m' in
     let same : List Extent = text_blocks a ++ text_blocks b in
     let s = subst (λ (xs : List OwnedText). IsTexts old.bytes p xs t) e before in
-    let x : IsExchanged current old new (place_at p) 24 out into =
-    subst (λ (xs : List Extent). IsExchanged current old new (place_at p) 24 xs into) g
-    (subst (IsExchanged current old new (place_at p) 24 gone) h change) in
+    let x : IsExchanged current old new (place_at p) 24 out into = subst (λ (xs : List Extent). IsExchanged current old
+    new (place_at p) 24 xs into) g (subst (IsExchanged current old new (place_at p) 24 gone) h change) in
     let own = own_blocks (a ++ (m ++ b)) t in let w = texts-own old s in let rest = without_all own l.extents in
     let parts = own-parts old a m b s in
     let stay : without_all out l.extents ≡ inserted same rest = ap (without_all out) parts ∙ without-inserted 128
@@ -243,10 +238,9 @@ texts-between {old} {new} {p} qs a m m' b {t} {u} {gone} e f g h before change t
     let good = all-join IsServed a (m' ++ b) sa (all-join IsServed m' b served sb) in
     record {
       change = change;
-      texts = texts-made new.bytes p qs rest heap
-          (is ∙ ap (λ (xs : List OwnedText). inserted (own_blocks xs u) rest) (sym f))
-          (found-without p.handle _ own l.extents w.none w.head.found) w.head.big s.aligned table fits words array
-          (subst (AllByRecursion (IsOwnedText M')) (sym f) all) (subst (AllByRecursion IsServed) (sym f) good);
+      texts = texts-made new.bytes p qs rest heap (is ∙ ap (λ (xs : List OwnedText). inserted (own_blocks xs u) rest)
+          (sym f)) (found-without p.handle _ own l.extents w.none w.head.found) w.head.big s.aligned table fits words
+          array (subst (AllByRecursion (IsOwnedText M')) (sym f) all) (subst (AllByRecursion IsServed) (sym f) good);
     }
 
 -- ---- without a place
@@ -318,17 +312,15 @@ element-of c {ps} {k} i {o = Some x} {q} s link e =
     }
 
 -- texts have an array
-pub no-array : (c : Cut) {p : Place} {ps : List OwnedText} {k : ℕ} {o : Option Extent}
-    → IsTexts c.bytes p ps (record { capacity = k; extent = o }) → link_at (bytes_of c.bytes) (place_at p) ≡ None
-    → length ps ≡ 0
+pub no-array : (c : Cut) {p : Place} {ps : List OwnedText} {k : ℕ} {o : Option Extent} → IsTexts c.bytes p ps
+    (record { capacity = k; extent = o }) → link_at (bytes_of c.bytes) (place_at p) ≡ None → length ps ≡ 0
 no-array c {o = None} s link = ap length s.words.array
 no-array c {o = Some x} s link = none-some link s.words.link
 
 -- ---- its bytes
 
-pub empty-text : {b : List ℕ} {array at : ℕ} {bytes : List ℕ} {o : Option Extent}
-    → IsTextElement b array at (record { bytes = bytes; extent = o }) → link_at (bytes_of b) (array + at) ≡ None
-    → bytes ≡ []
+pub empty-text : {b : List ℕ} {array at : ℕ} {bytes : List ℕ} {o : Option Extent} → IsTextElement b array at
+    (record { bytes = bytes; extent = o }) → link_at (bytes_of b) (array + at) ≡ None → bytes ≡ []
 empty-text {o = None} s link = s.owned
 empty-text {o = Some x} s link = none-some link s.link
 
@@ -337,9 +329,8 @@ pub record IsTextBlock (b : List ℕ) (g : ℕ) (bytes : List ℕ) : Type 0 wher
   pub room : IsTrue (has_room (live_of b) g (length bytes))
   pub content : Has (bytes_of b) g bytes
 
-pub text-block : {b : List ℕ} {array at g : ℕ} {bytes : List ℕ} {o : Option Extent}
-    → IsTextElement b array at (record { bytes = bytes; extent = o }) → link_at (bytes_of b) (array + at) ≡ Some g
-    → IsTextBlock b g bytes
+pub text-block : {b : List ℕ} {array at g : ℕ} {bytes : List ℕ} {o : Option Extent} → IsTextElement b array at
+    (record { bytes = bytes; extent = o }) → link_at (bytes_of b) (array + at) ≡ Some g → IsTextBlock b g bytes
 text-block {o = None} s link = none-some s.link link
 text-block {b} {bytes} {o = Some x} s link =
     let g_is = same-some (sym s.link ∙ link) in let full = serves-full x (length bytes) s.held.2 in
@@ -380,10 +371,9 @@ element-live {b} {o = Some x} s link =
     let g_is = same-some (sym s.link ∙ link) in
     subst (λ k. IsTrue (is_live_in (live_of b) k)) g_is (found-live (handle x) (live_of b).extents s.live.0)
 
-pub released-some : {old new : Cut} {array at g : ℕ} {bytes : List ℕ} {o : Option Extent}
-    → IsHeldElement old.bytes array at (record { bytes = bytes; extent = o })
-    → link_at (bytes_of old.bytes) (array + at) ≡ Some g → IsReleased current old new g
-    → IsSwapped old new (option_to_list o) []
+pub released-some : {old new : Cut} {array at g : ℕ} {bytes : List ℕ} {o : Option Extent} → IsHeldElement old.bytes
+    array at (record { bytes = bytes; extent = o }) → link_at (bytes_of old.bytes) (array + at) ≡ Some g
+    → IsReleased current old new g → IsSwapped old new (option_to_list o) []
 released-some {o = None} s link r = none-some s.link link
 released-some {old} {new} {o = Some x} s link r =
     let g_is = same-some (sym link ∙ s.link) in
@@ -562,9 +552,8 @@ array-left {old} {new} {array} {n} {gone} {come} s x none =
       heap = laid-heap _ _ x.live;
       room = found-room (live_of new.bytes) array (16 * n) _
           (kept-found old new 0 0 array _ gone come _ x r.found none) r.room;
-      even = λ j f. subst (λ o. IfSome o (λ target. target % 16 ≡ 0))
-          (sym (element-in (array + 16 * j) stays (omega (arith, r.at)) (omega (arith, r.at, r.room, f))).link)
-          (even j f);
+      even = λ j f. subst (λ o. IfSome o (λ target. target % 16 ≡ 0)) (sym (element-in (array + 16 * j) stays
+          (omega (arith, r.at)) (omega (arith, r.at, r.room, f))).link) (even j f);
     }
 
 -- ---- elements of the array of a vector of texts, put elsewhere one after another
@@ -572,18 +561,14 @@ array-left {old} {new} {array} {n} {gone} {come} s x none =
 -- an element beside what is written
 pub element-beside : {m m' : Memory} {from n : ℕ} (at : ℕ) → SameBut m m' from n → (at + 16 ≤ from) ⊎ (from + n ≤ at)
     → IsSameElement m m' at at
-element-beside {m} {m'} {from} {n} at s (inl f) =
-    record {
-      link = SameBut-link m m' from n at s (inl (omega arith));
-      len_word = SameBut-word m m' from n (at + 8) s
-          (inl (omega arith));
-    }
-element-beside {m} {m'} {from} {n} at s (inr f) =
-    record {
-      link = SameBut-link m m' from n at s (inr (omega arith));
-      len_word = SameBut-word m m' from n (at + 8) s
-          (inr (omega arith));
-    }
+element-beside {m} {m'} {from} {n} at s (inl f) = record {
+  link = SameBut-link m m' from n at s (inl (omega arith));
+  len_word = SameBut-word m m' from n (at + 8) s (inl (omega arith));
+}
+element-beside {m} {m'} {from} {n} at s (inr f) = record {
+  link = SameBut-link m m' from n at s (inr (omega arith));
+  len_word = SameBut-word m m' from n (at + 8) s (inr (omega arith));
+}
 
 pub element-trans : {m m' m'' : Memory} {a b c : ℕ} → IsSameElement m m' a b → IsSameElement m' m'' b c
     → IsSameElement m m'' a c
@@ -591,9 +576,8 @@ element-trans p q = record { link = q.link ∙ p.link; len_word = q.len_word ∙
 
 -- ---- the first one first
 
-pub source-stays : {old now : Cut} (a : ℕ) {b : ℕ} (i n : ℕ) → IsChanged current old now b (16 * i)
-    → (b ≤ a) ⊎ (a + 16 * n ≤ b) → i < n → IsSameElement (bytes_of old.bytes) (bytes_of now.bytes) (a + 16 * i)
-    (a + 16 * i)
+pub source-stays : {old now : Cut} (a : ℕ) {b : ℕ} (i n : ℕ) → IsChanged current old now b (16 * i) → (b ≤ a)
+    ⊎ (a + 16 * n ≤ b) → i < n → IsSameElement (bytes_of old.bytes) (bytes_of now.bytes) (a + 16 * i) (a + 16 * i)
 source-stays a i n c (inl f) below = element-beside (a + 16 * i) c.rest (inr (omega arith))
 source-stays a i n c (inr f) below = element-beside (a + 16 * i) c.rest (inl (omega arith))
 
@@ -615,11 +599,10 @@ one-more a b k j s d e from is (inr (inr f)) = same-at (omega (arith, f, from)) 
 sides : (j k : ℕ) → (j < k) ⊎ ((k < j) ⊎ (j ≡ k))
 sides j k = grind arith
 
-pub carried-next : {old now new : Cut} {at to : ℕ} (a : ℕ) {b : ℕ} (i n : ℕ)
-    → AreSameElements (bytes_of old.bytes) (bytes_of now.bytes) a b i → IsChanged current old now b (16 * i)
-    → (b ≤ a) ⊎ (a + 16 * n ≤ b) → i < n → at ≡ a + 16 * i → to ≡ b + 16 * i
-    → IsChanged current now new to 16 → IsSameElement (bytes_of now.bytes) (bytes_of new.bytes) at to
-    → AreSameElements (bytes_of old.bytes) (bytes_of new.bytes) a b (i + 1)
+pub carried-next : {old now new : Cut} {at to : ℕ} (a : ℕ) {b : ℕ} (i n : ℕ) → AreSameElements (bytes_of old.bytes)
+    (bytes_of now.bytes) a b i → IsChanged current old now b (16 * i) → (b ≤ a) ⊎ (a + 16 * n ≤ b) → i < n
+    → at ≡ a + 16 * i → to ≡ b + 16 * i → IsChanged current now new to 16 → IsSameElement (bytes_of now.bytes)
+    (bytes_of new.bytes) at to → AreSameElements (bytes_of old.bytes) (bytes_of new.bytes) a b (i + 1)
 carried-next a {b} i n s c apart below from is d e j under = one-more a b i j (λ g. s j (omega (arith, g, under)))
     d.rest (element-trans (same-at (sym from) (sym from) (source-stays a i n c apart below)) e) from is (sides j i)
 
@@ -643,11 +626,9 @@ pub up-changed : {old now new : Cut} {to : ℕ} (a k i n : ℕ) → k + (i + 1) 
 up-changed a k i n e c is d = changed-both (a + 16 + 16 * (n - (i + 1))) (16 * (i + 1)) c d (omega arith) (omega arith)
     (omega (arith, e, is)) (omega (arith, e, is))
 
-pub up-next : {old now new : Cut} {at to : ℕ} (a k i n : ℕ) → k + (i + 1) ≡ n
-    → AreUp (bytes_of old.bytes) (bytes_of now.bytes) a (n - i) n
-    → IsChanged current old now (a + 16 + 16 * (n - i)) (16 * i) → at ≡ a + 16 * k → to ≡ a + 16 + 16 * k
-    → IsChanged current now new to 16 → IsSameElement (bytes_of now.bytes) (bytes_of new.bytes) at to
-    → AreUp (bytes_of old.bytes) (bytes_of new.bytes) a (n - (i + 1)) n
-up-next a k i n is s c from to d e j low below =
-    one-more a (a + 16) k j (λ g. s j (omega (arith, g, is, low)) below) d.rest
-    (element-trans (same-at (sym from) (sym from) (up-source a k i n is c)) e) from to (sides j k)
+pub up-next : {old now new : Cut} {at to : ℕ} (a k i n : ℕ) → k + (i + 1) ≡ n → AreUp (bytes_of old.bytes)
+    (bytes_of now.bytes) a (n - i) n → IsChanged current old now (a + 16 + 16 * (n - i)) (16 * i) → at ≡ a + 16 * k
+    → to ≡ a + 16 + 16 * k → IsChanged current now new to 16 → IsSameElement (bytes_of now.bytes) (bytes_of new.bytes)
+    at to → AreUp (bytes_of old.bytes) (bytes_of new.bytes) a (n - (i + 1)) n
+up-next a k i n is s c from to d e j low below = one-more a (a + 16) k j (λ g. s j (omega (arith, g, is, low)) below)
+    d.rest (element-trans (same-at (sym from) (sym from) (up-source a k i n is c)) e) from to (sides j k)

@@ -1,26 +1,25 @@
 -- A vector of texts without texts, with one less or another one, or cut; and a text in a block of its own.
-use Rattle.seg_vector.proofs.Words as W
-use W.{◌≡◌, ◌≢◌, refl, sym, ap, subst, ◌∙◌, ℕ, ◌+◌, ◌*◌, Option, Some, None, List, ◌∷◌, ◌++◌, append-nil, arith, length}
-use W.{inl, inr, ◌⊎◌, suc, ◌-◌, ◌<◌, ◌≤◌, length-append, take, drop, zero, ◌%◌, if◌then◌else◌, append_assoc}
-use W.{option_to_list, IsTrue, remove, slice_get, IfSome, ⊤, option_map, slice_set, AllByRecursion, eq-eqb, ne_eqb}
-use W.{length-drop, length-take, take-append-drop, slice_get_within, Memory, Cut, bytes_of, word_at, Has, Same, read}
-use W.{current, link_at, target_of, Extent, handle, end_of, LiveSet, IsChanged, live_of, SameBlock, IsAllocated, IsHeap}
-use W.{Table, no_table, is_table, SameSpread, exchange-next, found-room, laid-heap, last-first, spread-refl, IsNone}
-use W.{kept, shorter-IsShorter, word-same, IsFound, allocated-room, exchange-taken, kept-found, place-serves}
-use W.{still_allocated, SameBlock-trans, Storage, shorter, place, Place, IsGivenBack, IsFitted, Stands, place_at}
-use W.{IsOwnBlock, AreHeldElements, IsSwapped, AreSameElements, IsHeldElement, IsTextPlaced, IsServed, IsTexts}
-use W.{IsTextsNow, text_blocks, placed_text, AreOthers, AreInArray, IsStorage, OwnedText, AreTextLinks, IsOwnedText, []}
-use W.{nil_from_length}
+use W.{◌≡◌, bytes_of, target_of, IsChanged, SameBlock, laid-heap, word-same, IsSwapped, AreOthers, IsStorage, OwnedText}
+use W.{◌≢◌, refl, sym, Some, None, List, ◌++◌, arith, take, drop, zero, Same, read, Table, kept, place, Place, Stands}
+use W.{ap, ◌∙◌, ℕ, ◌+◌, ◌*◌, ◌∷◌, inl, inr, ◌⊎◌, suc, ◌-◌, ◌<◌, ◌≤◌, ◌%◌, ⊤, Cut, Has, [], subst, option_map, slice_set}
+use W.{SameSpread, found-room, last-first, kept-found, IsOwnBlock, IsTextsNow, AreInArray, Option, take-append-drop}
+use W.{slice_get_within, shorter-IsShorter, still_allocated, SameBlock-trans, AreHeldElements, append-nil, slice_get}
+use W.{length-take, IsAllocated, spread-refl, IsGivenBack, text_blocks, placed_text, IsOwnedText, length, IsTrue}
+use W.{remove, IfSome, eq-eqb, ne_eqb, Memory, Extent, handle, end_of, IsHeap, IsNone, shorter, IsTexts, length-append}
+use W.{option_to_list, AllByRecursion, allocated-room, exchange-taken, AreSameElements, nil_from_length, if◌then◌else◌}
+use W.{append_assoc, length-drop, exchange-next, place-serves, IsHeldElement, IsTextPlaced, AreTextLinks, word_at}
+use W.{current, link_at, LiveSet, live_of, no_table, is_table, IsFound, Storage, IsFitted, place_at, IsServed}
 use Rattle.seg_vector.proofs.Runs.{AreHeadWords, IsHead, IsRun, beside-head, block-written, head-kept, head-room}
 use Rattle.seg_vector.proofs.Runs.{head-wider, len-written, none-some, room-head, run-found, run-headed, run-swapped}
 use Rattle.seg_vector.proofs.Runs.{same-some, table, table-full, words-kept, all-as, came-found, came-others, all-kept}
-use Rattle.seg_vector.proofs.Runs.{all-found-kept, none-of-none, spread-nil}
 use Rattle.seg_vector.proofs.TextBlocks.{none-stands, IsArrayLeft, all-split, array-left, drop-at, element-beside}
 use Rattle.seg_vector.proofs.TextBlocks.{element-in, element-trans, even-block, found-texts, held-element, links-edited}
 use Rattle.seg_vector.proofs.TextBlocks.{links-moved, no-array, none-of, of-none, one-of, run-begin, swapped-none}
 use Rattle.seg_vector.proofs.TextBlocks.{texts-between, held-texts, served-texts, owned-same, same-loose}
-use Rattle.seg_vector.proofs.{Fewer.cut-some, Typed.set-pieces, Bytes.length-read}
+use Rattle.seg_vector.proofs.{Runs.all-found-kept, Runs.none-of-none, Runs.spread-nil, Fewer.cut-some, Typed.set-pieces}
+use Rattle.raw_region.proofs.Bytes.{length-read}
 use Rattle.best_fit.specs.Table.{cut_table}
+use Rattle.seg_vector.proofs.Words as W
 
 -- ---- the elements of the array
 
@@ -66,9 +65,8 @@ cleared {old} {new = new} {p} {ps} {t} s x c word =
 
 -- ---- no array
 
-pub given-up-all : {old mid new : Cut} {p : Place} {t : Table} {gone : List Extent}
-    → IsTextsNow old mid p gone (option_to_list t.extent) [] t → IsGivenBack mid new p 16 t
-    → IsTextsNow old new p gone [] [] no_table
+pub given-up-all : {old mid new : Cut} {p : Place} {t : Table} {gone : List Extent} → IsTextsNow old mid p gone
+    (option_to_list t.extent) [] t → IsGivenBack mid new p 16 t → IsTextsNow old new p gone [] [] no_table
 given-up-all {old} {mid} {new} {t = t} {gone} x g =
     let arr = option_to_list t.extent in
     record {
@@ -181,8 +179,7 @@ left s0 s1 {p} {ps} {g} i {o = Some x} {q} s e link =
       element = held-element s0 i held e;
       after = λ y. (
         array-left held y (subst (λ k. IsNone k (option_to_list q.extent)) g_is apart.array),
-        head-kept
-            (room-head s0 p s.heap s.room) y apart.head,
+        head-kept (room-head s0 p s.heap s.room) y apart.head,
       );
     }
 
@@ -209,8 +206,7 @@ texts-stand {b} {ps} {t} s = record {
     link = s.words.link;
     len_word = s.words.len_word;
     capacity = s.words.capacity;
-    storage = raw-storage
-        (bytes_of b) (length ps) t.capacity t.extent;
+    storage = raw-storage (bytes_of b) (length ps) t.capacity t.extent;
   };
   aligned = s.aligned;
   room = s.room;
@@ -240,11 +236,10 @@ read-at m m' at (suc n) (suc j) e f =
     subst (λ k. m' k ≡ m k) there (read-at m m' (at + 1) n j rest (omega arith))
 
 read-spread : (m m' : Memory) (at n : ℕ) → read m' at n ≡ read m at n → Same m m' at (at + n)
-read-spread m m' at n e =
-    record {
-      at = λ k f g. let is : at + (k - at) ≡ k = omega arith in subst (λ w. m' w ≡ m w) is
-          (read-at m m' at n (k - at) e (omega arith));
-    }
+read-spread m m' at n e = record {
+  at = λ k f g. let is : at + (k - at) ≡ k = omega arith in subst (λ w. m' w ≡ m w) is
+      (read-at m m' at n (k - at) e (omega arith));
+}
 
 pub same-elements : {m m' : Memory} {at : ℕ} (n : ℕ) → Same m m' at (at + 16 * n) → AreSameElements m m' at at n
 same-elements {m} {m'} {at} n s j f = record {
@@ -263,9 +258,8 @@ cut-links l m m' (q ∷ qs) c (Some x) a h =
     let n = length (q ∷ qs) in let y = shorter l x (16 * n) in let cut = cut-some l 16 n c x (omega arith) in
     let begins : handle y ≡ handle x = ap (λ (z : Extent). handle z) (shorter-IsShorter l x (16 * n)).same in
     let has = subst (λ (u : Table). IsStorage m' u (read m (handle x) (16 * n))) cut h in
-    let is : read m' (handle x) (16 * n) ≡ read m (handle x) (16 * n) =
-    ap (read m' (handle x)) (sym (length-read m (handle x) (16 * n)))
-    ∙ subst (λ k. Has m' k (read m (handle x) (16 * n))) begins has in
+    let is : read m' (handle x) (16 * n) ≡ read m (handle x) (16 * n) = ap (read m' (handle x))
+    (sym (length-read m (handle x) (16 * n))) ∙ subst (λ k. Has m' k (read m (handle x) (16 * n))) begins has in
     let links = links-moved m m' (handle x) (handle x) (q ∷ qs) a
     (same-elements n (read-spread m m' (handle x) (16 * n) is)) in
     subst (λ (u : Table). AreInArray m' u (q ∷ qs)) (sym cut)
@@ -273,9 +267,8 @@ cut-links l m m' (q ∷ qs) c (Some x) a h =
     (sym (ap (λ (z : Extent). z.offset) (shorter-IsShorter l x (16 * n)).same)) links)
 
 pub shrunk : {old new : Cut} {p : Place} {ps : List OwnedText} {t : Table} → IsTexts old.bytes p ps t
-    → IsFitted old new p 16 (length ps) t (raw (bytes_of old.bytes) (length ps) t.extent)
-    → IsTextsNow old new p (option_to_list t.extent)
-    (option_to_list (cut_table (live_of old.bytes) 16 (length ps) t).extent) ps
+    → IsFitted old new p 16 (length ps) t (raw (bytes_of old.bytes) (length ps) t.extent) → IsTextsNow old new p
+    (option_to_list t.extent) (option_to_list (cut_table (live_of old.bytes) 16 (length ps) t).extent) ps
     (cut_table (live_of old.bytes) 16 (length ps) t)
 shrunk {old} {new} {ps} {t} s f =
     let u = cut_table (live_of old.bytes) 16 (length ps) t in
@@ -289,17 +282,14 @@ shrunk {old} {new} {ps} {t} s f =
 
 empty-placed : (l : LiveSet) (bytes : List ℕ) → length bytes ≡ 0
     → placed_text l bytes ≡ Some (record { bytes = bytes; extent = None })
-empty-placed l bytes e =
-    ap (λ b. if b then Some (let q : OwnedText = record { bytes = bytes; extent = None } in q) else option_map
-    (λ (x : Extent). let q : OwnedText = record { bytes = bytes; extent = Some x } in q)
+empty-placed l bytes e = ap (λ b. if b then Some (let q : OwnedText = record { bytes = bytes; extent = None } in q) else
+    option_map (λ (x : Extent). let q : OwnedText = record { bytes = bytes; extent = Some x } in q)
     (place l (length bytes) Storage)) (eq-eqb (length bytes) 0 e)
 
-some-placed : (l : LiveSet) (bytes : List ℕ) → 0 < length bytes → placed_text l bytes ≡ option_map
-    (λ (x : Extent). let q : OwnedText = record { bytes = bytes; extent = Some x } in q)
-    (place l (length bytes) Storage)
-some-placed l bytes f =
-    ap (λ b. if b then Some (let q : OwnedText = record { bytes = bytes; extent = None } in q) else option_map
-    (λ (x : Extent). let q : OwnedText = record { bytes = bytes; extent = Some x } in q)
+some-placed : (l : LiveSet) (bytes : List ℕ) → 0 < length bytes → placed_text l bytes ≡ option_map (λ (x : Extent).
+    let q : OwnedText = record { bytes = bytes; extent = Some x } in q) (place l (length bytes) Storage)
+some-placed l bytes f = ap (λ b. if b then Some (let q : OwnedText = record { bytes = bytes; extent = None } in q) else
+    option_map (λ (x : Extent). let q : OwnedText = record { bytes = bytes; extent = Some x } in q)
     (place l (length bytes) Storage)) (ne_eqb (length bytes) 0 (λ e. omega (arith, e, f)))
 
 pub placed-empty : (c : Cut) (bytes : List ℕ) → IsHeap current c.bytes → length bytes ≡ 0 → IsTextPlaced c c bytes None
@@ -323,9 +313,8 @@ placed-some {old} {mid} {new} bytes {h} f a c has =
     let at = b.at in
     record {
       text = record { bytes = bytes; extent = Some b.extent };
-      placed = some-placed (live_of old.bytes) bytes f
-          ∙ ap (option_map (λ (x : Extent). let q : OwnedText = record { bytes = bytes; extent = Some x } in q))
-          b.placed;
+      placed = some-placed (live_of old.bytes) bytes f ∙ ap (option_map (λ (x : Extent). let q : OwnedText = record
+          { bytes = bytes; extent = Some x } in q)) b.placed;
       same = refl;
       at = ap (λ k. Some k) at;
       change = exchange-taken _ old new _ _ h 0 0 b;
@@ -404,10 +393,9 @@ run-others r = came-others r.change
 pub loose-kept : {a b : Cut} (bytes : List ℕ) (o : Option Extent) {gone come : List Extent} → IsHeap current a.bytes
     → IsSwapped a b gone come → AllByRecursion (IsFound (live_of a.bytes).extents) (option_to_list o)
     → AllByRecursion (λ (y : Extent). AllByRecursion (λ (z : Extent). handle y ≢ handle z) gone) (option_to_list o)
-    → IsServed (record { bytes = bytes; extent = o })
-    → IsOwnedText (bytes_of a.bytes) (record { bytes = bytes; extent = o })
-    → IsOwnedText (bytes_of b.bytes) (record { bytes = bytes; extent = o }) × AllByRecursion
-    (IsFound (live_of b.bytes).extents) (option_to_list o)
+    → IsServed (record { bytes = bytes; extent = o }) → IsOwnedText (bytes_of a.bytes)
+    (record { bytes = bytes; extent = o }) → IsOwnedText (bytes_of b.bytes) (record { bytes = bytes; extent = o })
+    × AllByRecursion (IsFound (live_of b.bytes).extents) (option_to_list o)
 loose-kept {a} {b} bytes o heap x f n s w = (
   same-loose (bytes_of a.bytes) (bytes_of b.bytes) bytes o (all-kept (option_to_list o) heap x f n) s w,
   all-found-kept (option_to_list o) x f n,
@@ -464,8 +452,7 @@ text-set {s0} {s1} {mid} {s3} {p} {ps} {c} {len} {o = Some x} {q} {block = block
     let qs_is = set-pieces ps i z below in
     let links = links-edited (handle x) ps i (suc i) (z ∷ []) (omega (arith, below)) (omega (arith, below))
     (omega arith) (omega arith) (omega arith) s.words.array front (link, word, tt) back in
-    let len_qs : length (take i ps ++ (z ∷ drop (suc i) ps)) ≡ n =
-    omega (
+    let len_qs : length (take i ps ++ (z ∷ drop (suc i) ps)) ≡ n = omega (
       arith,
       length-append (take i ps) (z ∷ drop (suc i) ps),
       length-take i ps,

@@ -1,5 +1,4 @@
 -- The array of a vector of texts with more places, one text more in it, and what was asked for given up.
-use Rattle.seg_vector.proofs.Words as W
 use W.{◌≡◌, ◌≢◌, refl, sym, ap, subst, ◌∙◌, ℕ, ◌+◌, ◌*◌, ◌<◌, ◌≤◌, Option, Some, None, List, ◌∷◌, ◌++◌, arith, length}
 use W.{inl, inr, ◌⊎◌, ◌%◌, append-nil, IsTrue, Result, Ok, Err, MatchResult, option_map, option_to_list, IfSome, nat_lt}
 use W.{AllByRecursion, and_from, lt-ltb, Cut, bytes_of, current, Storage, link_at, IsNotWidened, IsWidened, exchanged}
@@ -9,15 +8,15 @@ use W.{exchange-order, exchange-released, exchange-resized, exchange-taken, foun
 use W.{live-rises, middle-first, place-serves, regrow-serves, spread-refl, found-room, two-apart, laid-heap, Place}
 use W.{place_at, AreSameElements, IsAdopted, IsAsked, IsWithoutFit, IsSwapped, taken, widened, AreEvenLinks, IsReady}
 use W.{TakesStorage, AreOthers, IsTexts, IsTextsNow, AreTextLinks, OwnedText, [], IsPointed, blocks-trans}
-use Rattle.seg_vector.proofs.Runs.{AreHeadWords, IsHead, IsRun, beside-head, block-written, none-some, run-found}
-use Rattle.seg_vector.proofs.Runs.{run-headed, run-swapped, same-some, serves-full, table, all-kept, stands-none-of}
-use Rattle.seg_vector.proofs.Runs.{stands-run}
-use Rattle.seg_vector.proofs.TextBlocks.{all-split, element-in, element-trans, even-block, even-held, links-moved}
-use Rattle.seg_vector.proofs.TextBlocks.{run-begin, swapped-none, texts-between}
-use Rattle.seg_vector.proofs.Storage.{grown-more, grown-same, regrow-new, storage-role, too-many}
-use Rattle.seg_vector.proofs.{Runs.table-full, TextCalls.held-elements, TextCalls.run-others, TextCalls.texts-stand}
+use Rattle.seg_vector.proofs as own
+use own.Runs.{AreHeadWords, IsHead, IsRun, beside-head, block-written, none-some, run-found, run-headed, run-swapped}
+use own.Runs.{same-some, serves-full, table, all-kept, stands-none-of, stands-run, table-full}
+use own.TextBlocks.{all-split, element-in, element-trans, even-block, even-held, links-moved, run-begin, swapped-none}
+use own.Storage.{grown-more, grown-same, regrow-new, storage-role, too-many}
+use own.{TextBlocks.texts-between, TextCalls.held-elements, TextCalls.run-others, TextCalls.texts-stand}
 use Rattle.best_fit.specs.Fit.{regrow}
 use Rattle.seg_vector.specs.Vector.{grown_table}
+use Rattle.seg_vector.proofs.Words as W
 
 -- ---- it is asked for
 
@@ -50,9 +49,8 @@ pub asked-beside : {old mid : Cut} (new : Cut) {p : Place} {ps : List OwnedText}
     (r : Result ℕ Refusal) → IsTexts old.bytes p ps t → link_at (bytes_of old.bytes) (place_at p) ≡ Some g
     → IsNotWidened old mid g n → TakesStorage mid new n r
     → MatchResult r (IsAsked old new t.extent n) (IsWithoutFit old new (regrow (live_of old.bytes) t.extent n))
-asked-beside {old} new {t} {n} r s link w a =
-    asked-new old new t.extent n r (ap (λ o. regrow (live_of old.bytes) o n) (array-of s link w.found) ∙ w.regrown)
-    (subst (λ (k : Cut). TakesStorage k new n r) w.same a)
+asked-beside {old} new {t} {n} r s link w a = asked-new old new t.extent n r (ap (λ o. regrow (live_of old.bytes) o n)
+    (array-of s link w.found) ∙ w.regrown) (subst (λ (k : Cut). TakesStorage k new n r) w.same a)
 
 -- ---- the table
 
@@ -106,8 +104,7 @@ wide-place {first} {mid} {now} {p} {ps} {c} n {x} s w is since =
     (exchange-resized _ _ mid x y 0 0 begins r) ((λ f. s.own.1 (sym f)), tt) in
     let k2 = kept mid now (handle y) y [] _ _ one.heap since (run-found one).0 tt in
     let elements : AreSameElements (bytes_of first.bytes) (bytes_of now.bytes) (handle x) (handle x) (length ps) =
-    λ j f.
-    element-trans (element-in (handle x + 16 * j) r.still (omega arith) (omega (arith, f, fits, full, longer)))
+    λ j f. element-trans (element-in (handle x + 16 * j) r.still (omega arith) (omega (arith, f, fits, full, longer)))
     (element-in (handle x + 16 * j) k2 (omega (arith, begins)) (omega (arith, begins, f, fits, full, longer))) in
     record {
       array = y;
@@ -166,8 +163,7 @@ adopt-place {first} {old} {new} {p} {ps} {t} {g} {n} {loose} s more q d =
 -- without another array
 pub adopt-none : {first mid old new : Cut} {p : Place} {ps : List OwnedText} {c g : ℕ} (n : ℕ) {o : Option Extent}
     {loose : List Extent} → IsTexts first.bytes p ps (table c o) → c < n → IsAsked first mid o (16 * n) g
-    → IsSwapped mid old [] loose
-    → link_at (bytes_of first.bytes) (place_at p) ≡ None → IsPointed old new p g n
+    → IsSwapped mid old [] loose → link_at (bytes_of first.bytes) (place_at p) ≡ None → IsPointed old new p g n
     → IsAdopted first old new p ps (table c o) g n loose
 adopt-none n {o = Some x} s more a since was d = none-some was s.words.link
 adopt-none n {o = None} s more (widened w is) since was d = absurd (cc)
@@ -176,8 +172,7 @@ adopt-none n {o = None} s more (taken a e) since was d = adopt-place s more (fir
 -- the same one
 pub adopt-same : {first mid old new : Cut} {p : Place} {ps : List OwnedText} {c g : ℕ} (n : ℕ) {o : Option Extent}
     {loose : List Extent} → IsTexts first.bytes p ps (table c o) → c < n → IsAsked first mid o (16 * n) g
-    → IsSwapped mid old [] loose
-    → link_at (bytes_of first.bytes) (place_at p) ≡ Some g → IsPointed old new p g n
+    → IsSwapped mid old [] loose → link_at (bytes_of first.bytes) (place_at p) ≡ Some g → IsPointed old new p g n
     → IsAdopted first old new p ps (table c o) g n loose
 adopt-same n {o = None} s more a since was d = none-some s.words.link was
 adopt-same n {o = Some x} s more (widened w is) since was d = adopt-place s more (wide-place n s w is since) d
@@ -222,12 +217,10 @@ beside {first} {mid} {old} {p} {ps} {c} {g} {n} {x} s a since =
 
 -- the elements are carried over, the words are written, and the old array is given back
 adopt-beside : {first mid old a1 a2 new : Cut} {p : Place} {ps : List OwnedText} {c g : ℕ} (n : ℕ) {x : Extent}
-    {loose : List Extent} → IsTexts first.bytes p ps (table c (Some x)) → c < n
-    → (a : IsAllocated current first mid (16 * n) Storage g)
-    → regrow (live_of first.bytes) (Some x) (16 * n) ≡ Some a.extent → IsSwapped mid old [] loose
-    → IsChanged current old a1 (g + 0) (16 * length ps)
-    → AreSameElements (bytes_of old.bytes) (bytes_of a1.bytes) (handle x + 0) (g + 0) (length ps)
-    → IsPointed a1 a2 p g n → IsReleased current a2 new (handle x)
+    {loose : List Extent} → IsTexts first.bytes p ps (table c (Some x)) → c < n → (a : IsAllocated current first mid
+    (16 * n) Storage g) → regrow (live_of first.bytes) (Some x) (16 * n) ≡ Some a.extent → IsSwapped mid old [] loose
+    → IsChanged current old a1 (g + 0) (16 * length ps) → AreSameElements (bytes_of old.bytes) (bytes_of a1.bytes)
+    (handle x + 0) (g + 0) (length ps) → IsPointed a1 a2 p g n → IsReleased current a2 new (handle x)
     → IsAdopted first old new p ps (table c (Some x)) g n loose
 adopt-beside {first} {old} {a1} {a2} {new} {p} {ps} {c} {g} n {x} {loose} s more a grow since c1 carried d rel =
     let c2 = d.change in
@@ -242,8 +235,7 @@ adopt-beside {first} {old} {a1} {a2} {new} {p} {ps} {c} {g} n {x} {loose} s more
     let x1 = block-written (16 * n) b.run.heap b.new_found c1 (omega (arith, g_is)) (omega (arith, g_is, fits, more))
     big in
     let r1 = run-swapped (loose ++ (x ∷ [])) (middle-first loose (y ∷ []) (x ∷ [])) b.run x1 (none.1.0, tt) in
-    let words : AreHeadWords (bytes_of a2.bytes) (place_at p) k u =
-    record {
+    let words : AreHeadWords (bytes_of a2.bytes) (place_at p) k u = record {
       link = d.link ∙ ap (λ k. Some k) g_is;
       len_word = d.len_word ∙ r1.words.len_word;
       capacity = d.capacity;
@@ -275,9 +267,8 @@ adopt-beside {first} {old} {a1} {a2} {new} {p} {ps} {c} {g} n {x} {loose} s more
       len_word = r3.words.len_word;
       capacity = r3.words.capacity;
       links = subst (λ w. AreTextLinks (bytes_of new.bytes) w ps) (sym g_is) links;
-      stay = blocks-trans (bytes_of old.bytes) (bytes_of a1.bytes) (bytes_of new.bytes) loose
-          (all-kept loose b.run.heap x1 found0.0 apart.0)
-          (blocks-trans (bytes_of a1.bytes) (bytes_of a2.bytes) (bytes_of new.bytes) loose
+      stay = blocks-trans (bytes_of old.bytes) (bytes_of a1.bytes) (bytes_of new.bytes) loose (all-kept loose b.run.heap
+          x1 found0.0 apart.0) (blocks-trans (bytes_of a1.bytes) (bytes_of a2.bytes) (bytes_of new.bytes) loose
           (all-beside-head loose r1.heap r1.head c2 loose1 none.0) (all-kept loose r2.heap x3 loose2 apart.1));
     }
 
@@ -293,9 +284,8 @@ adopt-other n {o = Some x} s more (widened w is) since was differ c1 carried d r
     absurd (differ (sym h_is ∙ ap (λ (z : Extent). handle z) (same-some is) ∙ w.at))
 adopt-other {old} {a1} {a2} {new} {ps} {g} n {o = Some x} s more (taken a e) since was differ c1 carried d rel =
     let h_is = same-some (sym was ∙ s.words.link) in
-    adopt-beside {new = new} n s more a e since c1
-    (subst (λ k. AreSameElements (bytes_of old.bytes) (bytes_of a1.bytes) (k + 0) (g + 0) (length ps)) h_is
-    carried) d (subst (IsReleased current a2 new) h_is rel)
+    adopt-beside {new = new} n s more a e since c1 (subst (λ k. AreSameElements (bytes_of old.bytes) (bytes_of a1.bytes)
+    (k + 0) (g + 0) (length ps)) h_is carried) d (subst (IsReleased current a2 new) h_is rel)
 
 -- ---- what is known of the heap once an array was asked for
 
@@ -398,9 +388,8 @@ ready-new_in {first} {now} {p} {ps} {c} {g} {h} n {o = Some x} {loose} s more (t
       even = λ j f.
           let at : h + 16 * j ≡ h + 0 + 16 * j = omega arith in
           subst (λ w. IfSome (link_at (bytes_of now.bytes) w) (λ target. target % 16 ≡ 0)) at
-          (subst (λ o. IfSome o (λ target. target % 16 ≡ 0))
-          (sym (element-in (h + 16 * j) b.same (omega (arith, h_is)) (omega (arith, h_is, f, fits, full))).link)
-          (even j f));
+          (subst (λ o. IfSome o (λ target. target % 16 ≡ 0)) (sym (element-in (h + 16 * j) b.same
+          (omega (arith, h_is)) (omega (arith, h_is, f, fits, full))).link) (even j f));
       apart = apart-of x y g h k g_is h_is (omega (arith, full, fits)) (omega (arith, big, more))
           (two-apart (live_of now.bytes) x y b.run.heap.proper b.old_found b.new_found b.apart);
     }
@@ -422,10 +411,9 @@ pub new-table : (n : ℕ) (y : Extent) → 0 < n → IsTrue (serves y Storage (1
     → IsTrue (is_table Storage 16 (table n (Some y)))
 new-table n y f s = and_from (nat_lt 0 n) (serves y Storage (16 * n)) (lt-ltb 0 n f) s
 
-pub reserved : {first mid new : Cut} {p : Place} {ps : List OwnedText} {t : Table} {g n : ℕ}
-    → IsTexts first.bytes p ps t → t.capacity < n → IsAdopted first mid new p ps t g n []
-    → (w : Table) × (grown_table (live_of first.bytes) 16 n t ≡ Some w) × IsTextsNow first new p
-    (option_to_list t.extent) (option_to_list w.extent) ps w
+pub reserved : {first mid new : Cut} {p : Place} {ps : List OwnedText} {t : Table} {g n : ℕ} → IsTexts first.bytes p ps
+    t → t.capacity < n → IsAdopted first mid new p ps t g n [] → (w : Table) × (grown_table (live_of first.bytes) 16 n t
+    ≡ Some w) × IsTextsNow first new p (option_to_list t.extent) (option_to_list w.extent) ps w
 reserved {new} {p} {ps} {t} {n} s more a =
     let u = table n (Some a.array) in let arr = option_to_list t.extent in
     let words : AreHeadWords (bytes_of new.bytes) (place_at p) (length ps) u =
@@ -438,9 +426,8 @@ reserved {new} {p} {ps} {t} {n} s more a =
     )
 
 pub reserved-same : (c : Cut) {p : Place} {ps : List OwnedText} {t : Table} (n : ℕ) → IsTexts c.bytes p ps t
-    → n ≤ t.capacity
-    → (w : Table) × (grown_table (live_of c.bytes) 16 n t ≡ Some w) × IsTextsNow c c p (option_to_list t.extent)
-    (option_to_list w.extent) ps w
+    → n ≤ t.capacity → (w : Table) × (grown_table (live_of c.bytes) 16 n t ≡ Some w)
+    × IsTextsNow c c p (option_to_list t.extent) (option_to_list w.extent) ps w
 reserved-same c {t = t} n s f =
     (t, grown-same (live_of c.bytes) 16 n t f, record { change = (stands-run c (texts-stand s)).change; texts = s })
 

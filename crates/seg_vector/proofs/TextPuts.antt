@@ -1,27 +1,26 @@
 -- A text put into a vector of texts, with a place for it or in an array with more places; and an array given up.
-use Rattle.seg_vector.proofs.Words as W
-use W.{◌≡◌, ◌≢◌, refl, sym, ap, subst, ◌∙◌, ℕ, ◌+◌, ◌*◌, ◌<◌, ◌≤◌, Option, Some, None, List, ◌∷◌, arith, length}
-use W.{if◌then◌else◌, inl, inr, ◌%◌, append-nil, ◌-◌, length-append, take, drop, Bool, true, false, max, IsTrue, Result}
-use W.{Ok, Err, option_map, option_to_list, IfSome, nat_lt, insert, AllByRecursion, lt-ltb, eqb-true, le-ltb}
-use W.{length-drop, length-take, take-append-drop, Cut, bytes_of, word_at, current, link_at, exchanged, IsRestored}
-use W.{Extent, LiveSet, handle, others, resized, Refusal, IsChanged, IsHeap, IsReleased, live_of, has_room, IsShortened}
-use W.{is_live_in, Table, IsFound, IsNone, exchange-order, exchange-taken, last-first, live-rises, spread-refl}
-use W.{found-room, laid-heap, taken-back, widened-back, Differs, keeps-refl, lay_out_one, others-past, rising-insert}
-use W.{Place, place_at, AreSameElements, IsAdopted, IsAsked, IsWithoutFit, IsSwapped, taken, widened, AreEvenLinks}
-use W.{IsPutAsked, IsPutReady, room_of, IsRefusedPut, IsTextPlaced, PutsInto, one_more, IsTexts, IsTextsNow}
-use W.{IsStillAtFirst, IsTextPutIn, placed_text, with_array, AreTextLinks, OwnedText, capacity_for_one, exchanged-live}
-use W.{[], NoSpace}
+use W.{◌≡◌, length-take, IsShortened, spread-refl, IsWithoutFit, AreEvenLinks, IsRefusedPut, IsTextPlaced, AreTextLinks}
+use W.{◌≢◌, sym, None, List, arith, take, drop, Bool, true, false, handle, others, IsHeap, Table, IsNone, Place, taken}
+use W.{refl, last-first, live-rises, found-room, taken-back, keeps-refl, IsPutAsked, IsPutReady, IsTextsNow, with_array}
+use W.{ap, word_at, current, link_at, LiveSet, resized, Refusal, live_of, IsFound, Differs, IsAsked, PutsInto, one_more}
+use W.{subst, if◌then◌else◌, length-append, exchange-taken, widened-back, rising-insert, IsStillAtFirst, exchanged-live}
+use W.{◌∙◌, ℕ, ◌+◌, ◌*◌, ◌<◌, ◌≤◌, ◌∷◌, inl, inr, ◌%◌, ◌-◌, max, Ok, Err, Cut, []}
+use W.{Option, eqb-true, bytes_of, exchanged, IsChanged, has_room, laid-heap, place_at, IsAdopted, IsSwapped, OwnedText}
+use W.{Some, length, IsTrue, Result, IfSome, nat_lt, insert, lt-ltb, le-ltb, Extent, widened, room_of, IsTexts, NoSpace}
+use W.{append-nil, option_map, IsRestored, IsReleased, is_live_in, lay_out_one, others-past, IsTextPutIn, placed_text}
+use W.{option_to_list, AllByRecursion, length-drop, take-append-drop, exchange-order, AreSameElements, capacity_for_one}
 use Rattle.seg_vector.proofs.Runs.{AreHeadWords, IsHead, IsRun, beside-head, block-written, head-kept, head-wider}
 use Rattle.seg_vector.proofs.Runs.{len-written, none-some, own-facts, run-found, run-headed, run-swapped, room-head}
-use Rattle.seg_vector.proofs.Runs.{stands-none-of}
+use Rattle.seg_vector.proofs.Runs.{stands-none-of, same-some, table, table-full}
 use Rattle.seg_vector.proofs.TextBlocks.{element-beside, element-in, element-trans, even-block, found-live, found-texts}
 use Rattle.seg_vector.proofs.TextBlocks.{links-at, links-edited, one-of, run-begin, texts-between, same-loose}
 use Rattle.seg_vector.proofs.TextGrowth.{grown-to, not-grown, all-beside-head, new-other, IsReadyRun, ready-in}
 use Rattle.seg_vector.proofs.TextCalls.{loose-kept, run-others, texts-stand, texts-still}
-use Rattle.seg_vector.proofs.{Runs.same-some, Runs.table, Runs.table-full, Typed.has-element, Storage.capacity-bytes}
-use Rattle.seg_vector.proofs.{Storage.room-small, Storage.grown-same, TextGrowth.asked-alone, TextGrowth.new-table}
+use Rattle.seg_vector.proofs.Storage.{capacity-bytes, room-small, grown-same}
+use Rattle.seg_vector.proofs.{TextGrowth.asked-alone, TextGrowth.new-table, Typed.has-element}
 use Rattle.best_fit.specs.Fit.{regrow}
 use Rattle.seg_vector.specs.Vector.{grown_table}
+use Rattle.seg_vector.proofs.Words as W
 use Rattle.best_fit.specs.Fit as fit
 
 -- ---- before it is put
@@ -33,13 +32,12 @@ none-array b {p} {t} s = (own-facts (live_of b.bytes) p.handle t.extent s.own).2
 pub put-run : {first now : Cut} {p : Place} {ps : List OwnedText} {t : Table} {y : Extent} {m : ℕ} {z : OwnedText}
     → IsPutReady first now p ps t y m z
     → IsRun first now p (option_to_list t.extent) (y ∷ option_to_list z.extent) (length ps) (table m (Some y))
-put-run {first} {t} {y} {z} r =
-    record {
-      change = r.change;
-      heap = laid-heap _ _ r.change.live;
-      head = head-kept (room-head first _ r.texts.heap r.texts.room) r.change (none-array first r.texts);
-      words = record { link = r.link; len_word = r.len_word; capacity = r.capacity };
-    }
+put-run {first} {t} {y} {z} r = record {
+  change = r.change;
+  heap = laid-heap _ _ r.change.live;
+  head = head-kept (room-head first _ r.texts.heap r.texts.room) r.change (none-array first r.texts);
+  words = record { link = r.link; len_word = r.len_word; capacity = r.capacity };
+}
 
 pub put-big : {first now : Cut} {p : Place} {ps : List OwnedText} {t : Table} {y : Extent} {m : ℕ} {z : OwnedText}
     → IsPutReady first now p ps t y m z → 16 * m + 16 ≤ y.len
@@ -57,8 +55,7 @@ flip-each y (x ∷ xs) d = (((λ f. d.0 (sym f)), tt), flip-each y xs d.1)
 pub put-by : {first now b1 b2 new : Cut} {p : Place} {ps : List OwnedText} {t : Table} {y : Extent} {m : ℕ}
     {z : OwnedText} (i : ℕ) {g : ℕ} (n len : ℕ) (block : Option ℕ) → IsPutReady first now p ps t y m z → i ≤ length ps
     → block ≡ option_map handle z.extent → len ≡ length z.bytes → link_at (bytes_of now.bytes) (place_at p) ≡ Some g
-    → n ≡ word_at (bytes_of now.bytes) (place_at p + 8)
-    → IsChanged current now b1 (g + 16 * i + 16) (16 * (n - i))
+    → n ≡ word_at (bytes_of now.bytes) (place_at p + 8) → IsChanged current now b1 (g + 16 * i + 16) (16 * (n - i))
     → AreSameElements (bytes_of now.bytes) (bytes_of b1.bytes) (g + 16 * i) (g + 16 * i + 16) (n - i)
     → IsChanged current b1 b2 (g + 16 * i) 16 → link_at (bytes_of b2.bytes) (g + 16 * i) ≡ block
     → word_at (bytes_of b2.bytes) (g + 16 * i + 8) ≡ len
@@ -100,10 +97,9 @@ put-by {first} {now} {b1} {b2} {new} {p} {ps} {t} {y} {m} {z} i {g} n len block 
     let long : length (insert ps i z) ≡ n + 1 =
     omega (arith, length-append (take i ps) (z ∷ drop i ps), length-take i ps, length-drop i ps, inside, k_is) in
     texts-between (insert ps i z) (take i ps) [] (z ∷ []) (drop i ps) {u = u} (sym (take-append-drop i ps)) refl
-    (sym (append-nil gone)) (ap (λ (xs : List Extent). y ∷ xs) (sym (append-nil ez)))
-    r.texts r3.change r.table (omega (arith, long, k_is, space))
-    (subst (λ w. AreHeadWords (bytes_of new.bytes) (place_at p) w u) (sym long) r3.words)
-    (subst (λ h. AreTextLinks (bytes_of new.bytes) h (insert ps i z)) g_is links) (t3, tt) (r.served, tt)
+    (sym (append-nil gone)) (ap (λ (xs : List Extent). y ∷ xs) (sym (append-nil ez))) r.texts r3.change r.table
+    (omega (arith, long, k_is, space)) (subst (λ w. AreHeadWords (bytes_of new.bytes) (place_at p) w u) (sym long)
+    r3.words) (subst (λ h. AreTextLinks (bytes_of new.bytes) h (insert ps i z)) g_is links) (t3, tt) (r.served, tt)
 
 -- ---- what the calls of a put need
 
@@ -168,9 +164,8 @@ undone-none {o = None} s (widened w is) was r = absurd (cc)
 undone-none {mid} {new} {g} {n} {o = None} s (taken a e) was r = taken-back _ mid new n g _ a r
 
 pub undone-other : {first mid new : Cut} {p : Place} {ps : List OwnedText} {c g h n : ℕ} {o : Option Extent}
-    → IsTexts first.bytes p ps (table c o) → IsAsked first mid o n g
-    → link_at (bytes_of first.bytes) (place_at p) ≡ Some h → h ≢ g
-    → IsReleased current mid new g → IsRestored current first new
+    → IsTexts first.bytes p ps (table c o) → IsAsked first mid o n g → link_at (bytes_of first.bytes) (place_at p)
+    ≡ Some h → h ≢ g → IsReleased current mid new g → IsRestored current first new
 undone-other {o = None} s a was differ r = none-some s.words.link was
 undone-other {o = Some x} s (widened w is) was differ r =
     let h_is = same-some (sym s.words.link ∙ was) in
@@ -178,9 +173,8 @@ undone-other {o = Some x} s (widened w is) was differ r =
 undone-other {mid} {new} {g} {n} {o = Some x} s (taken a e) was differ r = taken-back _ mid new n g _ a r
 
 pub undone-same : {first mid new : Cut} {p : Place} {ps : List OwnedText} {c g n room : ℕ} {o : Option Extent}
-    → IsTexts first.bytes p ps (table c o) → IsAsked first mid o n g
-    → link_at (bytes_of first.bytes) (place_at p) ≡ Some g → room ≡ room_of o
-    → IsShortened current mid new g room → IsRestored current first new
+    → IsTexts first.bytes p ps (table c o) → IsAsked first mid o n g → link_at (bytes_of first.bytes) (place_at p)
+    ≡ Some g → room ≡ room_of o → IsShortened current mid new g room → IsRestored current first new
 undone-same {o = None} s a was e r = none-some s.words.link was
 undone-same {mid} {new} {g} {n} {room} {o = Some x} s (widened w is) was e r =
     widened-back _ mid new g n room s.heap w (e ∙ ap (λ (z : Extent). z.len - 16) (same-some is)) r
@@ -318,9 +312,8 @@ pub came-alone : {a b : Cut} {x : Extent} → IsSwapped a b [] (x ∷ []) → li
 came-alone {a} {b} {x} s =
     let l = live_of a.bytes in
     let f = rising-insert 128 x l.extents (live-rises (exchanged l [] (x ∷ [])) s.live.proper) in
-    exchanged-live a b 0 0 [] _ _ s
-    ∙ ap (λ (zs : List Extent). let k : LiveSet = record l { extents = fit.insert x zs } in k)
-    (sym (others-none x l.extents f.differs))
+    exchanged-live a b 0 0 [] _ _ s ∙ ap (λ (zs : List Extent). let k : LiveSet = record l { extents = fit.insert x zs }
+    in k) (sym (others-none x l.extents f.differs))
 
 pub record IsAskedExtent (first mid : Cut) (o : Option Extent) (n : ℕ) : Type 0 where
   pub extent : Extent
@@ -344,12 +337,11 @@ more-array l t n y f = ap (λ b. if b then resized l y else l) (lt-ltb t.capacit
 same-block : {n : ℕ} {a b : Extent} → Some (table n (Some a)) ≡ Some (table n (Some b)) → a ≡ b
 same-block e = same-some (ap (λ (t : Table). t.extent) (same-some e))
 
-pub growing-ok : {s0 s1 s2 s3 new : Cut} {p : Place} {ps : List OwnedText} {t : Table} {g n : ℕ} (i : ℕ)
-    {bytes : List ℕ} {block : Option ℕ} → t.capacity < n → n ≡ capacity_for_one (length ps) t.capacity
-    → IsAsked s0 s1 t.extent (16 * n) g
-    → (pl : IsTextPlaced s1 s2 bytes block) → (ad : IsAdopted s0 s2 s3 p ps t g n (option_to_list pl.text.extent))
-    → IsTextsNow s0 new p (option_to_list t.extent) (ad.array ∷ option_to_list pl.text.extent) (insert ps i pl.text)
-    (table n (Some ad.array)) → IsTextPutIn s0 new p ps t i bytes
+pub growing-ok : {s0 s1 s2 s3 new : Cut} {p : Place} {ps : List OwnedText} {t : Table} {g n : ℕ} (i : ℕ) {bytes : List
+    ℕ} {block : Option ℕ} → t.capacity < n → n ≡ capacity_for_one (length ps) t.capacity → IsAsked s0 s1 t.extent
+    (16 * n) g → (pl : IsTextPlaced s1 s2 bytes block) → (ad : IsAdopted s0 s2 s3 p ps t g n (option_to_list
+    pl.text.extent)) → IsTextsNow s0 new p (option_to_list t.extent) (ad.array ∷ option_to_list pl.text.extent)
+    (insert ps i pl.text) (table n (Some ad.array)) → IsTextPutIn s0 new p ps t i bytes
 growing-ok {s0} {s1} {t} {n} i {bytes} more wanted a pl ad now =
     let l = live_of s0.bytes in let x = asked-extent a in
     let same = same-block (sym (grown-to l n t more x.regrown) ∙ ad.grown) in

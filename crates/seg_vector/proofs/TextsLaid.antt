@@ -1,5 +1,4 @@
 -- Other texts for a vector, laid out beside those that it has.
-use Rattle.seg_vector.proofs.Words as W
 use W.{◌≡◌, ◌≢◌, refl, sym, ap, subst, ◌∙◌, inl, ℕ, zero, suc, ◌+◌, ◌*◌, ◌<◌, ◌≤◌, Option, Some, None, List, ◌∷◌, ◌++◌}
 use W.{append-nil, append_assoc, arith, length, length-append, drop, map, slice_index_or, Bor, ◌%◌, inr, if◌then◌else◌}
 use W.{false, ◌==◌, Ok, IfSome, IsTrue, option_map, option_to_list, AllByRecursion, flat_map-append, ne_eqb, drop_all}
@@ -14,12 +13,12 @@ use W.{new_array, AreTextsAssigned, AssignsTexts, IsTexts, IsTextsNow, ReleasesT
 use W.{OwnedText, Place, place_at, [], IsPointed, all-same-but, drop-map, drop-cons}
 use Rattle.seg_vector.proofs.Runs.{AreHeadWords, IsHead, block-written, changed-both, head-exchanged, len-written}
 use Rattle.seg_vector.proofs.Runs.{run-none, run-swapped, same-some, serves-full, table, all-as, came-found}
-use Rattle.seg_vector.proofs.Runs.{came-others, all-kept, none-of-none}
 use Rattle.seg_vector.proofs.TextBlocks.{all-join, all-split, element-beside, element-in, element-trans, even-block}
 use Rattle.seg_vector.proofs.TextBlocks.{found-live, links-join, links-moved, of-none, own_blocks, run-begin}
-use Rattle.seg_vector.proofs.TextBlocks.{owned-same}
+use Rattle.seg_vector.proofs.{Runs.came-others, Runs.all-kept, Runs.none-of-none, TextBlocks.owned-same}
 use Rattle.seg_vector.proofs.{TextBlocks.texts-between, TextBlocks.texts-own, TextGrowth.new-table, TextCalls.come-even}
 use Rattle.seg_vector.proofs.{TextCalls.run-others, TextCalls.texts-still, TextPuts.came-alone, TextPuts.flip-each}
+use Rattle.seg_vector.proofs.Words as W
 
 -- ---- blocks that came
 
@@ -127,15 +126,13 @@ laid-put {old} {now} {mid} {new} {y} {i} n array {bytes} {more} at a split below
     record {
       texts = a.texts ++ (q ∷ []);
       long = omega (arith, length-append a.texts (q ∷ []), a.long);
-      placed = a.placed
-          ∙ ap (λ xs. option_map (λ (qs : List OwnedText). a.texts ++ qs) (placed_texts (live_of now.bytes) xs)) split
-          ∙ ap (option_map (λ (qs : List OwnedText). a.texts ++ qs))
-          (placed-one (live_of now.bytes) (live_of new.bytes) bytes rest pl.placed live)
-          ∙ one-before a.texts q (placed_texts (live_of new.bytes) rest);
+      placed = a.placed ∙ ap (λ xs. option_map (λ (qs : List OwnedText). a.texts ++ qs) (placed_texts
+          (live_of now.bytes) xs)) split ∙ ap (option_map (λ (qs : List OwnedText). a.texts ++ qs))
+          (placed-one (live_of now.bytes) (live_of new.bytes) bytes rest pl.placed live) ∙ one-before a.texts q
+          (placed_texts (live_of new.bytes) rest);
       change = subst (λ (xs : List Extent). IsSwapped old new (y ∷ []) (y ∷ xs)) (sym blocks) x3;
-      links = laid-links now i n a.texts q at a.long below big
-          (kept now mid (handle y) y [] oq _ here.heap pl.change here.found.0 tt) c (link ∙ pl.at)
-          (len ∙ ap length (sym pl.same)) a.links;
+      links = laid-links now i n a.texts q at a.long below big (kept now mid (handle y) y [] oq _ here.heap pl.change
+          here.found.0 tt) c (link ∙ pl.at) (len ∙ ap length (sym pl.same)) a.links;
       owned = owned-same (bytes_of mid.bytes) (bytes_of new.bytes) (a.texts ++ (q ∷ [])) stay served
           (all-join (IsOwnedText (bytes_of mid.bytes)) a.texts (q ∷ []) first (pl.owned, tt));
       served = served;
@@ -156,13 +153,11 @@ laid-stops {old} {now} {y} {i} {bytes} {more} a split within r =
 
 pub laid-all : {old now : Cut} {y : Extent} {i : ℕ} (n : ℕ) {more : List (List ℕ)} → AreLaid old now y i more → i ≡ n
     → n ≡ length more → AreLaidUpTo old now y n more
-laid-all {old} {now} {y} n {more} a e f =
-    record {
-      laid = subst (λ k. AreLaid old now y k more) e a;
-      within = omega (arith, f);
-      stopped = λ g. absurd
-          (omega (arith, f, g));
-    }
+laid-all {old} {now} {y} n {more} a e f = record {
+  laid = subst (λ k. AreLaid old now y k more) e a;
+  within = omega (arith, f);
+  stopped = λ g. absurd (omega (arith, f, g));
+}
 
 pub drop-next : (xs : List (Bor (List ℕ))) (i : ℕ) (d : Bor (List ℕ)) → i < length xs
     → drop i (map (λ t. t.now) xs) ≡ (slice_index_or xs i d).now ∷ drop (i + 1) (map (λ t. t.now) xs)
@@ -204,13 +199,11 @@ new-array l n f = ap (λ b. if b then Some no_table else option_map (λ (x : Ext
 abbrev texts_after : LiveSet → List (List ℕ) → Option Table → Option (List OwnedText)
 texts_after l more o = elim o [
   | None ↦ None
-  | Some u ↦ placed_texts (elim u.extent [ None ↦ l | Some x ↦ resized l x ])
-      more
+  | Some u ↦ placed_texts (elim u.extent [ None ↦ l | Some x ↦ resized l x ]) more
 ]
 
-in-array : (l : LiveSet) (more : List (List ℕ)) (o : Option Extent) → 0 < length more
-    → place l (16 * length more) Storage ≡ o
-    → all_texts l more ≡ texts_after l more (option_map (λ (x : Extent). table (length more) (Some x)) o)
+in-array : (l : LiveSet) (more : List (List ℕ)) (o : Option Extent) → 0 < length more → place l (16 * length more)
+    Storage ≡ o → all_texts l more ≡ texts_after l more (option_map (λ (x : Extent). table (length more) (Some x)) o)
 in-array l more o f e = ap (texts_after l more)
     (new-array l (length more) f ∙ ap (option_map (λ (x : Extent). table (length more) (Some x))) e)
 
@@ -226,13 +219,12 @@ laid-fitted l more {y} f e none =
 
 unchanged : (c : Cut) (more : List (List ℕ)) → IsHeap current c.bytes → all_texts (live_of c.bytes) more ≡ None
     → AreNotLaidOut c c more NoSpace
-unchanged c more heap e =
-    record {
-      refusal = refl;
-      none = e;
-      restored = record { laid = heap; keeps = keeps-refl c (live_of c.bytes).extents };
-      first = λ none. refl;
-    }
+unchanged c more heap e = record {
+  refusal = refl;
+  none = e;
+  restored = record { laid = heap; keeps = keeps-refl c (live_of c.bytes).extents };
+  first = λ none. refl;
+}
 
 pub out-of-reach : (c : Cut) (n : ℕ) (more : List (List ℕ)) → IsHeap current c.bytes → n ≡ length more → 1073741824 < n
     → AreNotLaidOut c c more NoSpace
@@ -353,18 +345,16 @@ swapped-back {old} {new} x = record {
 }
 
 pub taken-off : {old mid new left last : Cut} {n k g : ℕ} {more : List (List ℕ)} → (t : IsArrayTaken old mid n g)
-    → n ≡ length more → 0 < n → (w : AreLaidUpTo mid new t.block k more) → k ≢ n
-    → IsSwapped new left (text_blocks w.laid.texts) [] → IsReleased current left last g
-    → AreNotLaidOut old last more NoSpace
+    → n ≡ length more → 0 < n → (w : AreLaidUpTo mid new t.block k more) → k ≢ n → IsSwapped new left
+    (text_blocks w.laid.texts) [] → IsReleased current left last g → AreNotLaidOut old last more NoSpace
 taken-off {old} {mid} {new} {left} {last} {n} {k} {more} t e some w short x r =
     let y = t.block in let a = w.laid in let alone = array-alone t w x in
     let gone = exchange-released current left last y 0 0 (subst (IsReleased current left last) (sym t.at) r) in
     let fit = subst (λ i. place (live_of old.bytes) (16 * i) Storage ≡ Some y) e t.placed in
     record {
       refusal = refl;
-      none = in-array (live_of old.bytes) more (Some y) (omega (arith, e, some)) fit
-          ∙ ap (λ (l : LiveSet). placed_texts l more) (sym (came-alone t.change)) ∙ a.placed
-          ∙ ap (option_map (λ (qs : List OwnedText). a.texts ++ qs))
+      none = in-array (live_of old.bytes) more (Some y) (omega (arith, e, some)) fit ∙ ap (λ (l : LiveSet). placed_texts
+          l more) (sym (came-alone t.change)) ∙ a.placed ∙ ap (option_map (λ (qs : List OwnedText). a.texts ++ qs))
           (w.stopped (below k n (length more) short e w.within));
       restored = swapped-back (exchange-next _ old left last 0 0 [] _ _ [] [] (spread-refl (y ∷ [])) alone gone);
       first = λ none. absurd (laid-fitted (live_of old.bytes) more (omega (arith, e, some)) fit none);
@@ -419,10 +409,8 @@ beside-own {old} {now} {p} {ps} {t} {come} s x =
 
 pub assigned : {old now rel led new : Cut} {p : Place} {ps : List OwnedText} {t : Table} {g : ℕ} (n : ℕ)
     {more : List (List ℕ)} → IsTexts old.bytes p ps t → (w : AreLaidOut old now more g) → n ≡ length more → 0 < n
-    → ReleasesTexts now rel p
-    → IsPointed rel led p g n → IsChanged current led new (p.handle + (p.at + 8)) 8
-    → word_at (bytes_of new.bytes) (p.handle + (p.at + 8)) ≡ n
-    → AreTextsAssigned old new p ps t more
+    → ReleasesTexts now rel p → IsPointed rel led p g n → IsChanged current led new (p.handle + (p.at + 8)) 8
+    → word_at (bytes_of new.bytes) (p.handle + (p.at + 8)) ≡ n → AreTextsAssigned old new p ps t more
 assigned {old} {now} {rel} {led} {new} {p} {ps} {t} n {more} s w e some released q d word =
     let at = place_at p in let own = own_blocks ps t in let y = w.block in let qs = w.texts in
     let come : List Extent = y ∷ text_blocks qs in

@@ -1,18 +1,16 @@
 -- Vectors of values and texts, from what is known of their bytes.
-use Rattle.seg_vector.proofs.Words as W
-use W.{◌≡◌, refl, sym, ap, subst, ◌∙◌, ℕ, zero, suc, ◌+◌, ◌*◌, ◌<◌, Bool, true, List, ◌∷◌, ◌++◌, length, take, drop}
-use W.{append_assoc, arith, ◌-◌, ◌≤◌, max, false, if◌then◌else◌, length-append, append-nil, IsTrue, Some, flat_map}
-use W.{insert, remove, slice_get, slice_set, nat_le, list_all, and_from, and_parts, leb-true, list_all-append}
-use W.{take-append-drop, length-set, length-take, flat_map-append, take-append-add, drop-append-add, take-append_seam}
-use W.{length-insert, length-remove, part, patched, Cut, bytes_of, word_at, live_of, Table, no_table, Refusal, Place}
-use W.{Erases, Result, Ok, Err, MatchResult, Extends, Fits, GivesBack, Inserts, IsRewritten, Overwrites, ReadsOne}
-use W.{Truncates, IsGrown, Grows, IsStanding, Stands, IsText, IsTextGrown, IsTextNow, capacity_for_one}
-use W.{capacity_for_text, IsVector, IsVectorGrown, IsVectorNow, IsWithoutSpace, [], take-nil, drop-nil, KeepsGaps}
-use W.{gaps-refl, gaps-trans}
+use W.{◌≡◌, sym, ◌∙◌, ℕ, suc, ◌+◌, ◌*◌, ◌<◌, ◌∷◌, ◌-◌, ◌≤◌, max, part, Cut, Ok, Err, Fits, []}
+use W.{refl, zero, Bool, true, List, ◌++◌, take, drop, arith, false, Some, Table, Place, Result, Grows, Stands, IsText}
+use W.{ap, if◌then◌else◌, length-append, take-append-add, drop-append-add, length-insert, length-remove, IsWithoutSpace}
+use W.{subst, list_all-append, take-append-drop, flat_map-append, take-append_seam, capacity_for_one, capacity_for_text}
+use W.{length, append_assoc, append-nil, length-take, MatchResult, IsRewritten, IsTextGrown, IsVectorGrown, IsVectorNow}
+use W.{IsTrue, insert, remove, nat_le, patched, word_at, live_of, Refusal, Erases, Extends, Inserts, IsGrown, drop-nil}
+use W.{flat_map, list_all, and_from, leb-true, bytes_of, no_table, ReadsOne, IsVector, take-nil, KeepsGaps, gaps-refl}
+use W.{slice_get, slice_set, and_parts, length-set, GivesBack, Overwrites, Truncates, IsStanding, IsTextNow, gaps-trans}
 use Rattle.seg_vector.proofs.Storage.{capacity-bytes, exchange-then, grown-keeps, has-place, not-refused, same-storage}
-use Rattle.seg_vector.proofs.Storage.{unchanged-rewritten, wanted-places}
-use Rattle.seg_vector.proofs.{Runs.same-some}
+use Rattle.seg_vector.proofs.{Storage.unchanged-rewritten, Storage.wanted-places, Runs.same-some}
 use Rattle.best_fit.specs.Table.{cut_table}
+use Rattle.seg_vector.proofs.Words as W
 
 -- ---- what holds of each
 
@@ -122,9 +120,8 @@ module _ {T : Type 0} (size : ℕ) (test : T → Bool) (sp : T → List ℕ)
   -- one more
   pub flat-insert : (xs : List T) (i : ℕ) (y : T) → IsTrue (list_all test xs)
       → take (size * i) (flat_map sp xs) ++ (sp y ++ drop (size * i) (flat_map sp xs)) ≡ flat_map sp (insert xs i y)
-  flat-insert xs i y v =
-      ap (λ bs. take (size * i) (flat_map sp xs) ++ (bs ++ drop (size * i) (flat_map sp xs))) (sym (append-nil (sp y)))
-      ∙ flat-edit xs i i (size * i) (y ∷ []) refl v
+  flat-insert xs i y v = ap (λ bs. take (size * i) (flat_map sp xs) ++ (bs ++ drop (size * i) (flat_map sp xs)))
+      (sym (append-nil (sp y))) ∙ flat-edit xs i i (size * i) (y ∷ []) refl v
 
   -- one less
   pub flat-remove : (xs : List T) (i : ℕ) → IsTrue (list_all test xs)
@@ -160,9 +157,8 @@ module _ {T : Type 0} {size : ℕ} {test : T → Bool} {sp : T → List ℕ} whe
   }
 
   -- the storage is grown, and the values stay
-  pub vector-grown : {old new : Cut} {p : Place} {n : ℕ} {t : Table} {xs : List T}
-      → IsVector size test sp old.bytes p xs t → IsGrown old new p size n (length xs) t (flat_map sp xs)
-      → IsVectorGrown size test sp old new p t n xs
+  pub vector-grown : {old new : Cut} {p : Place} {n : ℕ} {t : Table} {xs : List T} → IsVector size test sp old.bytes p
+      xs t → IsGrown old new p size n (length xs) t (flat_map sp xs) → IsVectorGrown size test sp old new p t n xs
   vector-grown {old} v g = record {
     table = g.table;
     grown = g.grown;
@@ -203,13 +199,11 @@ module _ {T : Type 0} {size : ℕ} {test : T → Bool} {sp : T → List ℕ} whe
 
 pub text-now : {old new : Cut} {p : Place} {n : ℕ} {t : Table} {bytes : List ℕ} (ys : List ℕ)
     → IsRewritten old new p 1 n t bytes → n ≡ length ys → bytes ≡ ys → IsTextNow old new p t ys t
-text-now {new} {p} {n} {t} ys r e f =
-    record {
-      change = r.change;
-      gaps = λ same. r.gaps;
-      text = subst (λ k. Stands new.bytes p 1 k t ys) e
-          (subst (λ bs. Stands new.bytes p 1 n t bs) f r.stands);
-    }
+text-now {new} {p} {n} {t} ys r e f = record {
+  change = r.change;
+  gaps = λ same. r.gaps;
+  text = subst (λ k. Stands new.bytes p 1 k t ys) e (subst (λ bs. Stands new.bytes p 1 n t bs) f r.stands);
+}
 
 pub text-then : {old mid new : Cut} {p : Place} {t : Table} {bytes ys zs : List ℕ} → IsText old.bytes p bytes t
     → IsTextNow old mid p t ys t → IsTextNow mid new p t zs t → IsTextNow old new p t zs t
@@ -243,9 +237,6 @@ module _ {T : Type 0} {size : ℕ} {test : T → Bool} {sp : T → List ℕ} (ol
     {t : Table} (e : k ≡ size) (v : IsVector size test sp old.bytes p xs t) where
   stands-at : Stands old.bytes p k (length xs) t (flat_map sp xs)
   stands-at = subst (λ j. Stands old.bytes p j (length xs) t (flat_map sp xs)) (sym e) v.stands
-
-  pub is-standing : IsStanding old.bytes p k
-  is-standing = (length xs, (t, (flat_map sp xs, stands-at)))
 
   pub grown-of : (n : ℕ → ℕ → ℕ) → HasGrown old mid p k n
       → IsGrown old mid p size (n (length xs) t.capacity) (length xs) t (flat_map sp xs)
@@ -294,10 +285,9 @@ module _ {T : Type 0} {size : ℕ} {test : T → Bool} {sp : T → List ℕ} (ol
       → Overwrites old mid p k i (sp y) → IsVectorNow size test sp old mid p t (slice_set xs i y) t
   set-now i y spells f good h =
       let r = subst (λ j. Overwrites old mid p j i (sp y)) e h (length xs) t (flat_map sp xs) v.stands in
-      vector-now test sp (slice_set xs i y) r (sym (length-set xs i y))
-      (flat-set size test sp spells xs i y v.values f good)
-      (subst (λ l. IsTrue (list_all test l)) (sym (set-pieces xs i y f))
-      (all-edit test xs i (suc i) (y ∷ []) v.values (all-one test y good)))
+      vector-now test sp (slice_set xs i y) r (sym (length-set xs i y)) (flat-set size test sp spells xs i y v.values f
+      good) (subst (λ l. IsTrue (list_all test l)) (sym (set-pieces xs i y f)) (all-edit test xs i (suc i) (y ∷ [])
+      v.values (all-one test y good)))
 
   pub appended-now : (y : T) → test y ≡ true → Extends old mid p k 1 (sp y)
       → IsVectorNow size test sp old mid p t (xs ++ y ∷ []) t
@@ -386,7 +376,6 @@ module _ (old mid : Cut) {p : Place} {bytes : List ℕ} {t : Table} (v : IsText 
   text-extended more h = text-now (bytes ++ more) (h (length bytes) t bytes v) (sym (length-append bytes more)) refl
 
   -- places for bytes behind the last one
-  pub text-space : (more : List ℕ) → length bytes + length more ≤ t.capacity
-      → word_at (bytes_of old.bytes) (p.handle + p.at + 8) + length more ≤ word_at (bytes_of old.bytes)
-      (p.handle + p.at + 16)
+  pub text-space : (more : List ℕ) → length bytes + length more ≤ t.capacity → word_at (bytes_of old.bytes)
+      (p.handle + p.at + 8) + length more ≤ word_at (bytes_of old.bytes) (p.handle + p.at + 16)
   text-space more f = omega (arith, f, v.words.len_word, v.words.capacity)

@@ -12,19 +12,19 @@ pub use Rattle.best_fit.proofs.Laws.{two-apart, taken-back, widened-back, lay_ou
 pub use Rattle.best_fit.proofs.Laws.{all_of-insert, all-same-but, in_use-all, room-less, IfSome_is, without-inserted}
 pub use Rattle.best_fit.proofs.Laws.{block_payload, room_block, IsSound, live-sound, SameBlock-trans, blocks-trans}
 pub use Rattle.best_fit.proofs.Laws.{gaps-payload, gaps-refl, gaps-then, gaps-trans, hole-order}
-pub use Rattle.best_fit.specs.Exchange.{IsNotWidened, IsWidened, CarriesOver, IsGivenRoom, IsNotGivenRoom, block_of}
-pub use Rattle.best_fit.specs.Exchange.{exchanged, without_all, IsExchanged, inserted, IsRestored, SameBlockBut}
+pub use Rattle.best_fit.specs.Exchange.{IsNotWidened, IsWidened, CarriesOver, IsGivenRoom, IsNotGivenRoom, SameBlockBut}
+pub use Rattle.best_fit.specs.Exchange.{block_of, exchanged, without_all, IsExchanged, inserted, IsRestored, IsRegrown}
 pub use Rattle.best_fit.specs.Extents.{Extent, LiveSet, handle, holds, end_of, is_block, is_hole, proper_from}
 pub use Rattle.best_fit.specs.Heap.{IsChanged, IsHeap, LaysOut, SameBlock, extent_at, has_room, live_of, IsReleased}
 pub use Rattle.best_fit.specs.Heap.{IsResized, IsShortened, IsAllocated, KeepsGaps, is_live_in, payload_at}
 pub use Rattle.best_fit.specs.Table.{Table, is_table, serves, same_role, table_link, no_table}
-pub use Rattle.best_fit.specs.{Exchange.IsRegrown, Fit.place, Fit.shorter, Fit.others, Fit.resized, Fit.longer}
+pub use Rattle.best_fit.specs.Fit.{place, shorter, others, resized, longer}
 pub use Rattle.block_tags.specs.{Format.is_legal_size, declared.tile.Role.Role, declared.tile.Role.TheVariants.Storage}
-pub use Rattle.offset_link.proofs.{Laws.SameBut-link}
-pub use Rattle.offset_link.specs.{Link.link_at, Link.target_of}
+pub use Rattle.offset_link.proofs.Laws.{SameBut-link}
+pub use Rattle.offset_link.specs.Link.{link_at, target_of}
 pub use Rattle.raw_region.proofs.Laws.{SameBut-wider, SameBut-word, Has-same, read-part}
 pub use Rattle.raw_region.specs.Memory.{Memory, Cut, SameBut, bytes_of, word_at, Same, Has, part, patched, read}
-pub use Rattle.raw_region.specs.{Format.current}
+pub use Rattle.raw_region.specs.Format.{current}
 pub use Rattle.seg_types.specs.{declared.refusals.Refusal.Refusal, declared.refusals.Refusal.TheVariants.NoSpace}
 pub use Rattle.seg_vector.specs.Elements.{IsGivenBack, IsFitted, Erases, Extends, Fits, GivesBack, Inserts, IsRewritten}
 pub use Rattle.seg_vector.specs.Elements.{Overwrites, PutsAt, ReadsOne, Truncates}
@@ -33,27 +33,26 @@ pub use Rattle.seg_vector.specs.TextLists.{AreLaid, AreLaidUpTo, AreLaidOut, Are
 pub use Rattle.seg_vector.specs.TextParts.{AreHeldElements, IsHeldElement, IsSameElement, AreEvenLinks, IsAdopted}
 pub use Rattle.seg_vector.specs.TextParts.{IsAsked, taken, widened, IsReady, IsPutAsked, IsPutReady, room_of}
 pub use Rattle.seg_vector.specs.TextParts.{IsRefusedPut, PutsInto, IsPointed, IsSwapped, AreSameElements, IsServed}
-pub use Rattle.seg_vector.specs.TextParts.{TakesStorage, IsTextPlaced}
 pub use Rattle.seg_vector.specs.TextsCalls.{AreOthers, placed_text, placed_texts, text_blocks, with_text, all_texts}
 pub use Rattle.seg_vector.specs.TextsCalls.{ReleasesTexts, IsHeldText, IsTextElement, IsStillAtFirst, IsTextPutIn}
 pub use Rattle.seg_vector.specs.TextsCalls.{new_array, AreTextsAssigned, AssignsTexts, IsTexts, IsTextsNow, with_array}
-pub use Rattle.seg_vector.specs.TextsCalls.{one_more, IsWithoutFit}
 pub use Rattle.seg_vector.specs.Vector.{IsStorage, AreTextLinks, IsOwnedText, OwnedText, capacity_for_one}
 pub use Rattle.seg_vector.specs.VectorCalls.{IsVector, IsVectorGrown, IsVectorNow, IsWithoutSpace}
-pub use Rattle.seg_vector.specs.{TextCalls.IsTextNow, declared.places.Place.Place, Vector.capacity_for_text}
-pub use Rattle.seg_vector.specs.{Vector.AreInArray, TextCalls.IsText, TextCalls.IsTextGrown}
+pub use Rattle.seg_vector.specs.TextCalls.{IsTextNow, IsText, IsTextGrown}
+pub use Rattle.seg_vector.specs.{TextParts.TakesStorage, TextParts.IsTextPlaced, TextsCalls.one_more, Vector.AreInArray}
+pub use Rattle.seg_vector.specs.{TextsCalls.IsWithoutFit, Vector.capacity_for_text, declared.places.Place.Place}
 pub use Rattle.std.proofs.Common.{None, List, [], ◌∷◌, length, arith, ◌⊎◌, ◌++◌, append-nil, ◌%◌, min, ◌==◌, zero, suc}
 pub use Rattle.std.proofs.Common.{append_assoc, length-append, drop, map, slice_index_or, Bor, if◌then◌else◌, false, Ok}
 pub use Rattle.std.proofs.Common.{◌≡◌, ◌≢◌, refl, sym, ap, subst, ◌∙◌, inl, inr, ℕ, ◌+◌, ◌*◌, ◌<◌, ◌≤◌, Option, Some}
+pub use Rattle.std.proofs.Common.{Bool, true, take, ◌-◌, max, cond, ◌&&◌}
 pub use Rattle.std.proofs.Math.Seq.{take-append-add, drop-append-add, take-append_seam, take-suc, take-nil, drop-nil}
 pub use Rattle.std.proofs.lemmas.Bool.{and_parts, leb-true, and_from, cond-false, cond-true, eq-eqb, le-leb, lt-ltb}
 pub use Rattle.std.proofs.lemmas.Bool.{ne_eqb, or_left, or_right, eqb-true, le-ltb, lt-leb, ltb-true, or_cases}
 pub use Rattle.std.proofs.lemmas.List.{drop_all, take-append-drop, length-set, length-take, take-take, length-drop}
 pub use Rattle.std.proofs.lemmas.List.{drop_at, take_all, length-map, nil_from_length, drop-map}
-pub use Rattle.std.proofs.{Common.Bool, Common.true, Common.take, Common.◌-◌, Common.max, Common.cond, Common.◌&&◌}
+pub use Rattle.std.proofs.lemmas.List.Edits.{length-insert, length-remove}
 pub use Rattle.std.proofs.{Math.Seq.drop-cons, lemmas.Grind.flat_map-append, lemmas.Option.slice_get_within}
-pub use Rattle.std.proofs.{lemmas.List.Edits.length-insert, lemmas.List.Edits.length-remove}
 pub use Rattle.std.proofs.{lemmas.List.Folds.list_all-append, lemmas.Result.err_from_is_err_and}
 pub use Rattle.std.specs.Prelude.{IsTrue, nat_lt, option_to_list, option_map, IfSome, flat_map, insert, remove}
 pub use Rattle.std.specs.Prelude.{slice_get, slice_set, nat_le, find, Result, Err, MatchResult, ⊤}
-pub use Rattle.std.specs.{List.AllByRecursion, List.list_all, List.list_any}
+pub use Rattle.std.specs.List.{AllByRecursion, list_all, list_any}

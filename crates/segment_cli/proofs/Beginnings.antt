@@ -21,9 +21,8 @@ illegal size refused legal =
     let same : false ≡ true = sym refused ∙ legal in
     cc
 
-not_created : (region : List ℕ) (base size : ℕ) (mode : Mode) (image : Given) (cause : CreateError)
-    → IsWhy region base size cause → IsUntouched image
-    → Starts (Fresh size) mode base (length region) image (Err (created_fault cause))
+not_created : (region : List ℕ) (base size : ℕ) (mode : Mode) (image : Given) (cause : CreateError) → IsWhy region base
+    size cause → IsUntouched image → Starts (Fresh size) mode base (length region) image (Err (created_fault cause))
 not_created region base size mode image NoSize why untouched = record {
   answers = why;
   left = untouched;
@@ -73,8 +72,7 @@ opened : (region : List ℕ) (base : ℕ) (mode : Mode) (image : Given) (s : Sta
     → IsOpened current image region base mode s → (IsTooSmallFor current image base (length region) → ⊥)
     → Starts Image mode base (length region) image (Ok s)
 opened region base mode image s h small =
-    let d = h.denotes.0 in
-    let stands : StandsFor image.bytes d = record { denotes = h.denotes.1 } in
+    let d = h.denotes.0 in let stands : StandsFor image.bytes d = record { denotes = h.denotes.1 } in
     record {
       answers = record {
         from = d;

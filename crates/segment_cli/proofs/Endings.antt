@@ -5,27 +5,24 @@ use Rattle.std.proofs.lemmas.List.{take-append-drop, length-drop, drop_all}
 use Rattle.raw_region.specs.Device.{Gave, Given, Took, Taken, IsProperPrefix, given_since, taken_since}
 use Rattle.raw_region.specs.{Answers.AddsFront, Format.current}
 use Rattle.raw_region.proofs.Laws.{added}
-use Rattle.segment_manager.specs.State.{State, StandsFor}
-use Rattle.segment_manager.specs.{declared.modes.Mode.Mode, declared.modes.Mode.TheVariants.Write, Directory.Directory}
+use Rattle.segment_manager.specs.declared.modes.Mode.TheVariants.{Write}
+use Rattle.segment_manager.specs.{State.State, State.StandsFor, declared.modes.Mode.Mode, Directory.Directory}
 use Rattle.image_check.specs.{Opening.IsOutOfMemory, Opening.IsRefusedAs, Opening.IsUntouched, Saving.IsSaved}
 use Rattle.segment_lang.specs.Language.{whole}
-use Rattle.segment_cli.specs.declared.faults.SessionFault.{SessionFault}
-use Rattle.segment_cli.specs.declared.faults.SessionFault.TheVariants.{Image as Refused, BadSize, RegionTooSmall}
-use Rattle.segment_cli.specs.declared.faults.SessionFault.TheVariants.{OutOfMemory, ReadFault, WriteFault}
-use Rattle.segment_cli.specs.declared.faults.SessionFault.TheVariants.{ScriptTooLong}
+use Rattle.segment_cli.specs.declared.faults.SessionFault.TheVariants.{Image as Refused, RegionTooSmall, ScriptTooLong}
+use Rattle.segment_cli.specs.declared.faults.SessionFault.TheVariants.{BadSize, OutOfMemory, ReadFault, WriteFault}
 use Rattle.segment_cli.specs.Session.{Traffic, KeepsZeros, Saves, IsSizeRefused, IsTooSmall, IsDone, IsImageUnwritten}
-use Rattle.segment_cli.specs.Session.{IsRefusedBefore, AnswersFault, IsSession}
 use Rattle.segment_cli.specs.Beginning.{Starts, IsBegun, IsWhyNotBegun, run_fault}
-use Rattle.segment_cli.specs.{declared.faults.Start.Start, declared.faults.Start.TheVariants.Image}
+use Rattle.segment_cli.specs.{declared.faults.SessionFault.SessionFault, Session.IsRefusedBefore, Session.AnswersFault}
+use Rattle.segment_cli.specs.{Session.IsSession, declared.faults.Start.Start, declared.faults.Start.TheVariants.Image}
 use Rattle.segment_scripts.specs.declared.faults.RunFault.TheVariants.{ReadFault as ScriptNotRead}
 use Rattle.segment_scripts.specs.declared.faults.RunFault.TheVariants.{WriteFault as AnswerNotWritten}
 use Rattle.segment_scripts.specs.declared.faults.RunFault.TheVariants.{ScriptTooLong as TooLong}
 use Rattle.segment_scripts.specs.{declared.faults.RunFault.RunFault, Run.run, Leaves.Leaves, Leaves.LeavesFault}
 use Rattle.segment_scripts.specs.{Leaves.RunsWhole, Segments.Place, Segments.IsAt, Segments.answer_line}
 use Rattle.segment_scripts.proofs.Laws.{none_failed}
-use Rattle.segment_cli.proofs.Gaps.{zeros_saved}
 use Rattle.segment_cli.proofs.SessionLaws.{place, stands_done, prints_done, done, script_unread, answer_unwritten}
-use Rattle.segment_cli.proofs.SessionLaws.{script_too_long}
+use Rattle.segment_cli.proofs.{Gaps.zeros_saved, SessionLaws.script_too_long}
 
 -- a writer was not asked
 pub record IsUnwritten (t : Taken) : Type 0 where
@@ -34,15 +31,13 @@ pub record IsUnwritten (t : Taken) : Type 0 where
 
 pub not_asked : (gave : Gave) → IsUntouched (given_since gave gave)
 not_asked gave = record {
-  bytes = drop_all (length gave.bytes) gave.bytes
-      (omega arith);
+  bytes = drop_all (length gave.bytes) gave.bytes (omega arith);
   failed = none_failed gave.failures gave.failures refl;
 }
 
 pub not_written : (took : Took) → IsUnwritten (taken_since took took)
 not_written took = record {
-  bytes = drop_all (length took.bytes) took.bytes
-      (omega arith);
+  bytes = drop_all (length took.bytes) took.bytes (omega arith);
   failed = none_failed took.failures took.failures refl;
 }
 
@@ -59,8 +54,7 @@ front_added old new image h =
 -- an image that is accepted, written in mode Write behind the bytes that a writer took before
 pub image_saved : (mode : Mode) (old new image : List ℕ) (d : Directory) → mode ≡ Write → new ≡ old ++ image
     → IsSaved image d → Saves mode (drop (length old) new) d
-image_saved mode old new image d writes e s =
-    subst (λ (m : Mode). Saves m (drop (length old) new) d) (sym writes)
+image_saved mode old new image d writes e s = subst (λ (m : Mode). Saves m (drop (length old) new) d) (sym writes)
     (subst (λ (b : List ℕ). IsSaved b d) (sym (added old new image e)) s)
 
 -- a segment with which a session begins stands at its directory; nothing need be known of its gaps
@@ -155,12 +149,10 @@ module _ (start : Start) (mode : Mode) (base capacity : ℕ) (t : Traffic) where
   stopped : (s s' : State) (fault : RunFault) → IsBegun start mode t.image s
       → ((at : Place) → IsAt s at → LeavesFault answer_line at t.script t.out fault (IsAt s'))
       → IsUnwritten t.saved → AnswersFault start mode base capacity t (run_fault fault)
-  stopped s s' ScriptNotRead b leaves saved = inr
-      (script_unread start mode t b.from false b.begins (IsAt s') b.read saved.failed
-      (leaves (first mode b.from) (at_first mode b.from s b.mode b.stands)) saved.bytes)
-  stopped s s' AnswerNotWritten b leaves saved = inl
-      (answer_unwritten start mode t b.from false b.begins (IsAt s') b.read saved.failed
-      (leaves (first mode b.from) (at_first mode b.from s b.mode b.stands)) saved.bytes)
+  stopped s s' ScriptNotRead b leaves saved = inr (script_unread start mode t b.from false b.begins (IsAt s') b.read
+      saved.failed (leaves (first mode b.from) (at_first mode b.from s b.mode b.stands)) saved.bytes)
+  stopped s s' AnswerNotWritten b leaves saved = inl (answer_unwritten start mode t b.from false b.begins (IsAt s')
+      b.read saved.failed (leaves (first mode b.from) (at_first mode b.from s b.mode b.stands)) saved.bytes)
   stopped s s' TooLong b leaves saved = script_too_long start mode t b.from false b.begins (IsAt s') b.read saved.failed
       (leaves (first mode b.from) (at_first mode b.from s b.mode b.stands)) saved.bytes
 
@@ -181,14 +173,12 @@ module _ (start : Start) (mode : Mode) (base capacity : ℕ) (t : Traffic) where
       zeros_saved s' image e ((stands_done mode b.from known t (IsAt s') ran).zeros after)
 
   -- the last directory was saved as the mode wants it
-  pub done_session : (s s' : State) (u : Unit {0}) → Starts start mode base capacity t.image (Ok s)
-      → ((at : Place) → IsAt s at → RunsWhole answer_line at t.script t.out (IsAt s'))
-      → ((d : Directory) → StandsFor s'.cut.bytes d → Saves s'.mode t.saved.bytes d)
-      → (s'.mode ≡ Write → t.saved.bytes ≡ s'.cut.bytes)
-      → t.saved.failed ≡ false → IsSession start mode base capacity t (Ok u)
+  pub done_session : (s s' : State) (u : Unit {0}) → Starts start mode base capacity t.image (Ok s) → ((at : Place)
+      → IsAt s at → RunsWhole answer_line at t.script t.out (IsAt s')) → ((d : Directory) → StandsFor s'.cut.bytes d
+      → Saves s'.mode t.saved.bytes d) → (s'.mode ≡ Write → t.saved.bytes ≡ s'.cut.bytes) → t.saved.failed ≡ false
+      → IsSession start mode base capacity t (Ok u)
   done_session s s' u h leaves saves bytes saved =
-      let b = h.answers in
-      let ran = leaves (first mode b.from) (at_first mode b.from s b.mode b.stands) in
+      let b = h.answers in let ran = leaves (first mode b.from) (at_first mode b.from s b.mode b.stands) in
       let last = stands_done mode b.from false t (IsAt s') ran in
       let d = (run (whole current) mode b.from t.script.bytes).1 in
       begun_session s (Ok u) h (done start mode t b.from false b.begins (IsAt s') b.read saved ran
@@ -197,9 +187,8 @@ module _ (start : Start) (mode : Mode) (base capacity : ℕ) (t : Traffic) where
 
   -- all was answered, and of the image a proper prefix was written
   unsaved : (s s' : State) → IsBegun start mode t.image s
-      → ((at : Place) → IsAt s at → RunsWhole answer_line at t.script t.out (IsAt s'))
-      → s'.mode ≡ Write → IsProperPrefix t.saved.bytes s'.cut.bytes → t.saved.failed ≡ true
-      → IsImageUnwritten start mode t
+      → ((at : Place) → IsAt s at → RunsWhole answer_line at t.script t.out (IsAt s')) → s'.mode ≡ Write
+      → IsProperPrefix t.saved.bytes s'.cut.bytes → t.saved.failed ≡ true → IsImageUnwritten start mode t
   unsaved s s' b leaves how part saved =
       let ran = leaves (first mode b.from) (at_first mode b.from s b.mode b.stands) in
       let last = stands_done mode b.from false t (IsAt s') ran in
@@ -219,9 +208,8 @@ module _ (start : Start) (mode : Mode) (base capacity : ℕ) (t : Traffic) where
         failed = rw (b.read, ran.read, ran.written, saved) refl;
       }
 
-  pub unsaved_session : (s s' : State) → Starts start mode base capacity t.image (Ok s)
-      → ((at : Place) → IsAt s at → RunsWhole answer_line at t.script t.out (IsAt s'))
-      → s'.mode ≡ Write → IsProperPrefix t.saved.bytes s'.cut.bytes → t.saved.failed ≡ true
-      → IsSession start mode base capacity t (Err WriteFault)
+  pub unsaved_session : (s s' : State) → Starts start mode base capacity t.image (Ok s) → ((at : Place) → IsAt s at
+      → RunsWhole answer_line at t.script t.out (IsAt s')) → s'.mode ≡ Write → IsProperPrefix t.saved.bytes s'.cut.bytes
+      → t.saved.failed ≡ true → IsSession start mode base capacity t (Err WriteFault)
   unsaved_session s s' h leaves how part saved = begun_session s (Err WriteFault) h
       (inr (unsaved s s' h.answers leaves how part saved))

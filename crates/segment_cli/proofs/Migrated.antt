@@ -34,8 +34,7 @@ module _ (region : List ℕ) (base : ℕ) (mode : Mode) (image : Given) (saved :
     (again : (d : Directory) → StandsFor s.cut.bytes d → IsSaved s.cut.bytes d) where
   new-image : IsNewImage image s.cut.bytes
   new-image =
-      let there = o.answers.denotes in
-      let stands = o.answers.renewed.denotes there.0 there.1 in
+      let there = o.answers.denotes in let stands = o.answers.renewed.denotes there.0 there.1 in
       record {
         read = o.answers.read;
         denotes = there;

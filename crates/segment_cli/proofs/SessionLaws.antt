@@ -4,9 +4,8 @@ use Rattle.std.proofs.lemmas.List.{take_all}
 use Rattle.raw_region.specs.{Device.IsProperPrefix, Format.current}
 use Rattle.segment_lang.specs.{Language.whole, Reading.reading}
 use Rattle.segment_manager.specs.{declared.modes.Mode.Mode, declared.modes.Mode.TheVariants.Write, Directory.Directory}
-use Rattle.segment_cli.specs.declared.faults.Start.{Start}
 use Rattle.segment_cli.specs.Session.{Traffic, Begins, KeepsZeros, Saves, IsDone, IsCut, IsScriptUnread}
-use Rattle.segment_cli.specs.Session.{IsAnswerUnwritten, IsScriptTooLong}
+use Rattle.segment_cli.specs.{declared.faults.Start.Start, Session.IsAnswerUnwritten, Session.IsScriptTooLong}
 use Rattle.segment_scripts.specs.ZeroGaps.{zeros_after, zeros_after_lines, zeros_after_run}
 use Rattle.segment_scripts.specs.Leaves.{answer_all, Answers, RunsWhole, IsCutByReader, IsCutByWriter, IsCutAtLimit}
 use Rattle.segment_scripts.specs.Lines.{ended_lines, script_limit, whole_lines}
@@ -27,8 +26,7 @@ pub answer_all-segment : (mode : Mode) (d : Directory) (known : Bool) (ls : List
     → answer_all answer_line (place mode d known) ls ≡ ((run_lines (whole current) mode d ls).0, behind mode d known ls)
 answer_all-segment mode d known [] = refl
 answer_all-segment mode d known (l ∷ ls) =
-    let asked = reading (whole current) l in
-    let first = respond mode d asked in
+    let asked = reading (whole current) l in let first = respond mode d asked in
     ap (λ (r : List ℕ × Place). (first.0 ++ r.0, r.1))
     (answer_all-segment mode first.1 (zeros_after mode d asked known) ls)
 
@@ -50,9 +48,8 @@ run-ended : (mode : Mode) (d : Directory) (bytes : List ℕ)
 unfolding ended_lines
 run-ended mode d bytes = run-lines mode d (whole_lines bytes)
 
-zeros-lines : (mode : Mode) (d : Directory) (script : List ℕ) (known : Bool)
-    → zeros_after_run (whole current) mode d script known ≡ zeros_after_lines (whole current) mode d
-    (lines script) known
+zeros-lines : (mode : Mode) (d : Directory) (script : List ℕ) (known : Bool) → zeros_after_run (whole current) mode d
+    script known ≡ zeros_after_lines (whole current) mode d (lines script) known
 unfolding zeros_after_run
 zeros-lines mode d script known = refl
 
@@ -131,8 +128,7 @@ module _ (start : Start) (mode : Mode) (t : Traffic) (from : Directory) (known :
   pub answer_unwritten : IsCutByWriter answer_line (place mode from known) t.script t.out Stands → t.saved.bytes ≡ []
       → IsAnswerUnwritten start mode t
   answer_unwritten h nothing =
-      let a = h.answers in
-      let led = place-segment mode from known a.answered in
+      let a = h.answers in let led = place-segment mode from known a.answered in
       record {
         cut = record {
           from = from;

@@ -1,20 +1,18 @@
 -- What the contracts of the heap come to for a directory: blocks asked for, released and written.
-use Rattle.segment_manager.proofs.Common.{◌≡◌, refl, sym, ap, subst, ◌∙◌, ℕ, Bool, true, ◌&&◌, ◌==◌, List, IsTrue}
-use Rattle.segment_manager.proofs.Common.{list_any, eq-eqb, and_from, Cut, bytes_of, Extent, LiveSet, handle, holds}
-use Rattle.segment_manager.proofs.Common.{is_proper, released, LaysOut, live_of, is_live_in, has_room, Keeps}
-use Rattle.segment_manager.proofs.Common.{IsReleased, ByHandle, Object, Directory, live, value_extents, has_key}
-use Rattle.segment_manager.proofs.Common.{without_object, Denotes, IsObjectAt, lay_out_one, list_any-insert, Anonymous}
-use Rattle.segment_manager.proofs.{Common.extents_of, Common.[], Common.◌∷◌, Order.inserted, Live.IsFound, Live.IsIn}
-use Rattle.segment_manager.proofs.{Live.live-split, Live.removing, objects.ObjectLists.all-found}
-use Rattle.segment_manager.proofs.{Denoted.denotes-without}
+use Rattle.segment_manager.proofs.Common.{◌≡◌, sym, ap, ◌∙◌, ℕ, Bool, true, ◌&&◌, ◌==◌, List, Cut, live, [], ◌∷◌}
+use Rattle.segment_manager.proofs.Common.{refl, is_live_in, value_extents, without_object, lay_out_one, list_any-insert}
+use Rattle.segment_manager.proofs.Common.{subst, IsTrue, eq-eqb, Extent, handle, holds, Keeps, Object, has_key, Denotes}
+use Rattle.segment_manager.proofs.Common.{list_any, is_proper, IsReleased, Directory, IsObjectAt, Anonymous, extents_of}
+use Rattle.segment_manager.proofs.Common.{and_from, bytes_of, LiveSet, released, LaysOut, live_of, has_room, ByHandle}
+use Rattle.segment_manager.proofs.Live.{IsFound, IsIn, live-split, removing}
+use Rattle.segment_manager.proofs.{Order.inserted, objects.ObjectLists.all-found, Denoted.denotes-without}
 
 -- ---- objects are live blocks
 
 -- the block of an object passes a test that its extent passes
 pub any-object : (d : Directory) (o : Object) (t : Extent → Bool) → IsIn d o → IsTrue (is_proper (live d))
     → t o.extent ≡ true → list_any t (live d).extents ≡ true
-any-object d o t f p h =
-    ap (λ (l : LiveSet). list_any t l.extents) (live-split d o f p)
+any-object d o t f p h = ap (λ (l : LiveSet). list_any t l.extents) (live-split d o f p)
     ∙ list_any-insert t o.extent (inserted (value_extents o.value) (live (without_object d o)).extents) h
 
 -- the block of an object is in use
@@ -26,8 +24,7 @@ object-live d o f p =
 -- it has the room that its extent has
 pub object-room : (d : Directory) (o : Object) (n : ℕ) → IsIn d o → IsTrue (is_proper (live d))
     → holds o.extent n ≡ true → has_room (live d) (handle o.extent) n ≡ true
-object-room d o n f p h =
-    any-object d o (λ (x : Extent). (handle x == handle o.extent) && holds x n) f p
+object-room d o n f p h = any-object d o (λ (x : Extent). (handle x == handle o.extent) && holds x n) f p
     (and_from (handle o.extent == handle o.extent) (holds o.extent n)
     (eq-eqb (handle o.extent) (handle o.extent) refl) h)
 

@@ -1,26 +1,21 @@
 -- The names that most proofs cite, passed on from one place.
-pub use Rattle.std.proofs.Common.{◌%◌, ◌&&◌, ◌*◌, ◌++◌, ◌+◌, ◌-◌, ◌/◌, ◌<◌, ◌==◌, Bool, Equal, Err, Fits, Greater}
-pub use Rattle.std.proofs.Common.{IsTrue, Less, List, None, Ok, Option, Ordering, Result, Some, [], ap, append-nil}
-pub use Rattle.std.proofs.Common.{append_assoc, arith, cond, drop, false, get_or, if◌then◌else◌, inl, inr, length}
-pub use Rattle.std.proofs.Common.{length-append, map, nat_abs, nat_le, nat_lt, not, pos, refl, replicate, rules}
-pub use Rattle.std.proofs.Common.{slice_get, subst, suc, sym, take, true, w64, zero, ◌||◌, ℕ, ℤ, ◌∙◌, ◌∷◌, ◌≡◌, ◌≢◌}
-pub use Rattle.std.proofs.Common.{◌≤◌, ◌⊎◌}
-pub use Rattle.std.proofs.Math.Nat.{mul-le-mul_left}
+pub use Rattle.std.proofs.Common.{◌%◌, Equal, IsTrue, Option, Ordering, Result, get_or, length, nat_abs, nat_le, nat_lt}
+pub use Rattle.std.proofs.Common.{◌&&◌, ◌*◌, ◌++◌, ◌==◌, Bool, Fits, Less, List, None, Some, arith, false, rules, subst}
+pub use Rattle.std.proofs.Common.{◌+◌, ◌-◌, ◌/◌, ◌<◌, Err, cond, drop, inl, inr, map, not, refl, take, true, zero, ◌||◌}
+pub use Rattle.std.proofs.Common.{Greater, append-nil, append_assoc, if◌then◌else◌, length-append, replicate, slice_get}
+pub use Rattle.std.proofs.Common.{Ok, [], ap, pos, suc, sym, w64, ℕ, ℤ, ◌∙◌, ◌∷◌, ◌≡◌, ◌≢◌, ◌≤◌, ◌⊎◌}
 pub use Rattle.std.proofs.lemmas.Bool.{and_from, and_parts, and_right, cases_lt, cond-false, cond-true, eq-eqb}
 pub use Rattle.std.proofs.lemmas.Bool.{eqb-false, eqb-true, false≢true, le-leb, le-ltb, leb-true, lt-leb, lt-ltb}
 pub use Rattle.std.proofs.lemmas.Bool.{ltb-false, ltb-true, ne_eqb, or_cases, or_left, or_right}
-pub use Rattle.std.proofs.lemmas.Cmp.{nat_list_cmp_total}
 pub use Rattle.std.proofs.lemmas.List.{flat_map_more, length-map, length-replicate, map-append, take-map, take_all}
 pub use Rattle.std.proofs.lemmas.Option.{none-some, same_Some, slice_get-get_or, slice_get-map, slice_get_past}
-pub use Rattle.std.proofs.lemmas.Option.{slice_get_within}
+pub use Rattle.std.proofs.{Math.Nat.mul-le-mul_left, lemmas.Cmp.nat_list_cmp_total, lemmas.Option.slice_get_within}
 pub use Rattle.std.specs.Cmp.Lexicographic.{slice_cmp, texts_ties}
-pub use Rattle.std.specs.Iterator.{Yields}
-pub use Rattle.std.specs.List.{AllByRecursion, list_all, list_any}
 pub use Rattle.std.specs.Ordering.{is_eq, is_lt, nat_cmp, ordering_reverse}
-use Rattle.std.specs.Prelude.{IsErrAnd}
 pub use Rattle.std.specs.Prelude.{IfErr, IfSome, MatchOption, MatchResult, OnErr, filter, find, flat_map, fold, insert}
 pub use Rattle.std.specs.Prelude.{int_lt, is_some, option_map, option_to_list, remove, slice_set}
-pub use Rattle.std.specs.Str.{chars, is_utf8}
+pub use Rattle.std.specs.{Iterator.Yields, List.AllByRecursion, List.list_all, List.list_any, Str.chars, Str.is_utf8}
+use Rattle.std.specs.Prelude.{IsErrAnd}
 pub use denote.Ref.{Bor}
 pub use Rattle.raw_region.proofs.Laws.{Has-same, Same-part, Same-trans, Same-word, SameBut-Same, SamePlace-trans}
 unfoldable pub use Rattle.raw_region.specs.Format.{current}
@@ -29,11 +24,8 @@ unfoldable pub use Rattle.raw_region.specs.Memory.{word_at}
 pub use Rattle.offset_link.proofs.Laws.{Same-link}
 pub use Rattle.offset_link.specs.Link.{link_at}
 pub use Rattle.link_tree.specs.Tree.{Tree, fork, leaf, nodes_of}
-pub use Rattle.block_tags.specs.Format.{is_legal_size}
-pub use Rattle.block_tags.specs.Tiles.{tiles_of}
-pub use Rattle.block_tags.specs.declared.tile.Role.{Role}
 pub use Rattle.block_tags.specs.declared.tile.Role.TheVariants.{Index as IndexRole, Node, Object as ObjectRole, Storage}
-pub use Rattle.block_tags.specs.declared.tile.Tile.{Tile}
+pub use Rattle.block_tags.specs.{Format.is_legal_size, Tiles.tiles_of, declared.tile.Role.Role, declared.tile.Tile.Tile}
 pub use Rattle.best_fit.proofs.Laws.{IsAlone, SameSpread, allocated-is_live, allocated-live, allocated-room}
 pub use Rattle.best_fit.proofs.Laws.{blocks-trans, changed-live, changed-room, found-new, inserted-append, keeps-refl}
 pub use Rattle.best_fit.proofs.Laws.{keeps-trans, laid-heap, lay_out_one, legal_size, list_any-insert, live-spaced}
@@ -50,28 +42,21 @@ pub use Rattle.best_fit.specs.Table.{Table, is_table, no_table, same_role, serve
 unfoldable pub use Rattle.best_fit.specs.Table.{cut_table}
 pub use Rattle.seg_types.specs.Commands.{Append, Assign, Command, Content, Destroy, DestroyPtr, Erase, Get, Insert}
 pub use Rattle.seg_types.specs.Commands.{Literal, Lookup, Pop, Push, Put, Quoted, Remove, Set, is_changing, literal_of}
-pub use Rattle.seg_types.specs.Commands.{value_of_literal}
 pub use Rattle.seg_types.specs.Keys.{index_key_seen, key_seen, new_key_seen}
 pub use Rattle.seg_types.specs.Kinds.{class_code, code_of, is_kind_of, is_value, kind_of_code, lowest, same_kind}
-pub use Rattle.seg_types.specs.Kinds.{scalar_code, size_of, spelling}
 pub use Rattle.seg_types.specs.Names.{ByHandle, ByKind, ByName, Key, is_control, is_name, is_printable_name}
+pub use Rattle.seg_types.specs.{Commands.value_of_literal, Kinds.scalar_code, Kinds.size_of, Kinds.spelling}
 unfoldable pub use Rattle.seg_types.specs.Names.{is_text_name}
-pub use Rattle.seg_types.specs.ScalarLaws.{transitive}
-pub use Rattle.seg_types.specs.Values.{kind_of_scalar, value_of_scalar}
-pub use Rattle.seg_types.specs.declared.keys.IndexKey.{IndexKey}
-pub use Rattle.seg_types.specs.declared.kinds.Class.{Class}
 pub use Rattle.seg_types.specs.declared.kinds.Class.TheVariants.{Anonymous, Named as NamedClass, Unique as UniqueClass}
-pub use Rattle.seg_types.specs.declared.kinds.Kind.{Kind}
 pub use Rattle.seg_types.specs.declared.kinds.Kind.TheVariants.{Map, Map as MapKind, Scalar, Scalar as ScalarOf, String}
 pub use Rattle.seg_types.specs.declared.kinds.Kind.TheVariants.{String as StringKind, Strings as StringsKind, Vector}
-pub use Rattle.seg_types.specs.declared.kinds.Kind.TheVariants.{Vector as VectorKind}
-pub use Rattle.seg_types.specs.declared.kinds.ScalarKind.{ScalarKind}
 pub use Rattle.seg_types.specs.declared.kinds.ScalarKind.TheVariants.{Bool as BoolKind, U8}
-pub use Rattle.seg_types.specs.declared.plain.Plain.{Ghosts as Plain}
-pub use Rattle.seg_types.specs.declared.refusals.Refusal.{Refusal}
 pub use Rattle.seg_types.specs.declared.refusals.Refusal.TheVariants.{Exists, NoSpace, NotFound, OutOfRange, ReadOnly}
-pub use Rattle.seg_types.specs.declared.refusals.Refusal.TheVariants.{WrongKind}
-pub use Rattle.seg_types.specs.declared.values.ScalarValue.{ScalarValue}
+pub use Rattle.seg_types.specs.{ScalarLaws.transitive, Values.kind_of_scalar, Values.value_of_scalar}
+pub use Rattle.seg_types.specs.{declared.keys.IndexKey.IndexKey, declared.kinds.Class.Class, declared.kinds.Kind.Kind}
+pub use Rattle.seg_types.specs.{declared.kinds.Kind.TheVariants.Vector as VectorKind, declared.refusals.Refusal.Refusal}
+pub use Rattle.seg_types.specs.{declared.kinds.ScalarKind.ScalarKind, declared.refusals.Refusal.TheVariants.WrongKind}
+pub use Rattle.seg_types.specs.{declared.plain.Plain.Ghosts as Plain, declared.values.ScalarValue.ScalarValue}
 pub use Rattle.seg_vector.specs.Standing.{IsOwnBlock, Stands, place_at}
 pub use Rattle.seg_vector.specs.TextCalls.{AssignsText, IsSomeText, IsTextGrown, IsTextNow}
 pub use Rattle.seg_vector.specs.TextsCalls.{AreOthers, AreTextsAssigned, AssignsTexts, IsGivenUp, IsSomeTexts}
@@ -89,32 +74,24 @@ pub use Rattle.seg_map.specs.Places.{FindsItem, FindsItemBefore, FindsLastItem, 
 pub use Rattle.seg_map.specs.Places.{IsSomeMap, first_pair, item_of, nodes_of_pairs, value_of_pair}
 pub use Rattle.seg_map.specs.declared.places.Place.{Place as MapPlace}
 pub use Rattle.seg_index.proofs.Laws.{prepared}
-pub use Rattle.seg_index.specs.Capacities.{IsReserved, IsRoomy, IsShrunk}
 pub use Rattle.seg_index.specs.Growth.{AddKeeps, Adds, CanGrow, GivesBack, IsGrowth, KeepsRest, beside_table}
-pub use Rattle.seg_index.specs.Growth.{grown_bytes, unlinked, without_link}
 pub use Rattle.seg_index.specs.Held.{HasIndex, IsIndexOf, capacity_at, entry_count, place_of}
-pub use Rattle.seg_index.specs.Index.{IsIndexAt, grown_capacity}
-pub use Rattle.seg_index.specs.Keys.{name_len_at}
-pub use Rattle.seg_index.specs.Lookups.{HasKeys, IsPlace}
-pub use Rattle.seg_index.specs.declared.index.Index.{Index}
 pub use Rattle.seg_index.specs.declared.index.Index.TheVariants.{Named, Unique}
-pub use Rattle.seg_index.specs.declared.keys.Key.{Key as Entry}
-pub use Rattle.seg_index.specs.declared.keys.Key.TheVariants.{Code, Name}
 pub use Rattle.seg_index.specs.declared.keys.Lookup.TheVariants.{Absent, Found}
+pub use Rattle.seg_index.specs.{Capacities.IsReserved, declared.index.Index.Index, declared.keys.Key.Key as Entry}
+pub use Rattle.seg_index.specs.{Capacities.IsRoomy, Capacities.IsShrunk, Growth.without_link, Index.grown_capacity}
+pub use Rattle.seg_index.specs.{Growth.grown_bytes, Index.IsIndexAt, Keys.name_len_at, Lookups.HasKeys, Lookups.IsPlace}
+pub use Rattle.seg_index.specs.{Growth.unlinked, declared.keys.Key.TheVariants.Code, declared.keys.Key.TheVariants.Name}
 pub use Rattle.segment_manager.specs.Answers.{Answer, Done, Element, Made, Number, Refused, TextElement, Truth}
-pub use Rattle.segment_manager.specs.Answers.{is_untouched, refusal_of}
 pub use Rattle.segment_manager.specs.objects.Begun.{Begins, IsAbsentAt, IsBegun, IsBegunAlone, IsBegunEntry, IsHeaded}
 pub use Rattle.segment_manager.specs.objects.Begun.{IsLoose, IsLooseAlone, IsLooseEntry, IsNotBegun, IsReadyFor}
 pub use Rattle.segment_manager.specs.objects.Begun.{IsTakenKey, IsWanted, LeadsThere}
 pub use Rattle.segment_manager.specs.Calls.{IsTileOfIndex, elements_at, elements_of, kind_at}
 pub use Rattle.segment_manager.specs.containers.Changeable.{IsChangeable, IsToChange, IsUnchangeable}
-pub use Rattle.seg_types.specs.Literals.{IsValueOf, and_then, pair_of, values_of}
-pub use Rattle.segment_manager.specs.containers.Contents.{Contents, IsRefilled, are_bytes, bytes_at, container_at}
-pub use Rattle.segment_manager.specs.containers.Contents.{container_place, contents_of, has_values, place_of_kind}
-pub use Rattle.segment_manager.specs.containers.Contents.{has_sizes, has_storage, sizes_at, sizes_at_kind, sizes_of}
-pub use Rattle.segment_manager.specs.containers.Contents.{sizes_of_kind}
+pub use Rattle.segment_manager.specs.containers.Contents.{Contents, bytes_at, has_values, has_sizes, sizes_at, sizes_of}
+pub use Rattle.segment_manager.specs.containers.Contents.{IsRefilled, are_bytes, container_at, contents_of, has_storage}
+pub use Rattle.segment_manager.specs.containers.Contents.{container_place, place_of_kind, sizes_at_kind, sizes_of_kind}
 pub use Rattle.segment_manager.specs.Denotes.{Denotes, IsHeader, IsObjectAt, IsValueAt, handles, padded_name}
-pub use Rattle.segment_manager.specs.Denotes.{two_halves}
 pub use Rattle.segment_manager.specs.objects.Destroyed.{Becomes, Empties, HoldsObject, emptied}
 pub use Rattle.segment_manager.specs.Directory.{Bytes, Directory, Elements, IsDirectory, Numbers, Object, Pairs, Texts}
 pub use Rattle.segment_manager.specs.Directory.{Value, by_kind, by_name, count_of, empty, extents_of, has_good_name}
@@ -123,22 +100,19 @@ pub use Rattle.segment_manager.specs.Directory.{is_object, is_owned_text, kind_o
 pub use Rattle.segment_manager.specs.Directory.{padded, put_object, remove_object, replace_object, rises, rises_from}
 pub use Rattle.segment_manager.specs.Directory.{same_bytes, sorted, table_extents, unique_objects, value_extents}
 pub use Rattle.segment_manager.specs.Directory.{value_len, with_changed, with_object, without_object}
+pub use Rattle.segment_manager.specs.{Answers.is_untouched, Answers.refusal_of, Denotes.two_halves}
+pub use Rattle.seg_types.specs.Literals.{IsValueOf, and_then, pair_of, values_of}
 unfoldable pub use Rattle.segment_manager.specs.Directory.{live}
 pub use Rattle.segment_manager.specs.objects.ElementLists.{first_size, length_at_kind, number_or_none}
 pub use Rattle.segment_manager.specs.containers.Filled.{Constructs, FindsOrConstructs, IsBegunFor, IsDenied, IsGiven}
 pub use Rattle.segment_manager.specs.containers.Filled.{IsMadeValue, IsNoValue, MakesValue, with_count}
 pub use Rattle.segment_manager.specs.objects.Found.{IsBelow, handle_at, is_object_at, pair_answer}
-pub use Rattle.segment_manager.specs.objects.Heads.{IsEntry}
 pub use Rattle.segment_manager.specs.indexes.Indexed.{Seeks, class_of_index, entries_of, objects_of, order_of}
 pub use Rattle.segment_manager.specs.indexes.Indexed.{reserve_of, table_of, with_table_of}
 pub use Rattle.segment_manager.specs.objects.Instances.{IsInstance, IsMissing, SaysAt, SaysOf}
-pub use Rattle.segment_manager.specs.objects.Items.{TakesItems}
 pub use Rattle.segment_manager.specs.indexes.Iterating.{GoesOn, GoesOnNames, NameWalk, Walk, is_own, is_own_span}
-pub use Rattle.segment_manager.specs.indexes.Iterating.{own_spans}
 pub use Rattle.segment_manager.specs.Keeping.{HasPlaces, KeepsWhere, LacksKey}
-pub use Rattle.segment_manager.specs.Layout.{head_len}
 pub use Rattle.segment_manager.specs.indexes.Listed.{HasEntries, HasEntry, IsAnonymousAt, IsListed}
-pub use Rattle.segment_manager.specs.objects.Located.{IsLocated}
 pub use Rattle.segment_manager.specs.containers.Maps.{HasPairs, ReleasesPairs, map_at, numbers_in, numbers_of}
 pub use Rattle.segment_manager.specs.containers.Maps.{pair_above, pair_at_end, pair_below, pair_from, pair_up_to}
 pub use Rattle.segment_manager.specs.containers.Maps.{told_of, told_of_map, value_or_absent}
@@ -146,30 +120,25 @@ pub use Rattle.segment_manager.specs.objects.NewObjects.{IsNewKeyOf, IsOfKind, I
 pub use Rattle.segment_manager.specs.Plan.{Need, New, Plan, Refuse, Regrown as RegrownNeed, Reply, Request, bare}
 pub use Rattle.segment_manager.specs.Plan.{class_of, met, name_of, perform, with, with_capacity, with_entry}
 pub use Rattle.segment_manager.specs.Plan.{with_new_index, with_new_object, with_owned_text, with_owned_texts}
-pub use Rattle.segment_manager.specs.Plan.{with_place, with_storage, with_value}
 pub use Rattle.segment_manager.specs.blocks.Resized.{Resizes, grown, shrunk}
 pub use Rattle.segment_manager.specs.objects.Standing.{HasObject, IsHeadAt, IsHeadOf, StandsAt, pair_of_kind, repeated}
-pub use Rattle.segment_manager.specs.objects.Standing.{room_for}
 pub use Rattle.segment_manager.specs.State.{Answers, IsReply, IsReplyOfKind, IsSegment, IsStep, IsStepOfKind}
 pub use Rattle.segment_manager.specs.State.{KeepsRefused, LeadsOn, Moves, StandsFor, State, Stays, answer_of}
 pub use Rattle.segment_manager.specs.State.{done_answer, handle_answer, refusal_in, scalar_answer, truth_answer}
-pub use Rattle.segment_manager.specs.Staying.{is_elementwise}
-pub use Rattle.segment_manager.specs.Step.{changed, effect, element_at, found, found_at, get, is_read_only}
-pub use Rattle.segment_manager.specs.Step.{map_of, plan, set, storage_of, texts_of, with_items}
-pub use Rattle.segment_manager.specs.Step.{with_table}
+pub use Rattle.segment_manager.specs.Step.{changed, effect, element_at, found, found_at, get, is_read_only, map_of}
+pub use Rattle.segment_manager.specs.Step.{plan, set, storage_of, texts_of, with_items, with_table}
+pub use Rattle.segment_manager.specs.{objects.Heads.IsEntry, objects.Items.TakesItems, indexes.Iterating.own_spans}
+pub use Rattle.segment_manager.specs.{Layout.head_len, objects.Located.IsLocated, Plan.with_place, Plan.with_storage}
+pub use Rattle.segment_manager.specs.{Plan.with_value, objects.Standing.room_for, Staying.is_elementwise}
 unfoldable pub use Rattle.segment_manager.specs.Step.{step, step_of_kind}
 pub use Rattle.segment_manager.specs.containers.Stored.{AnswersSafely, HasEnough, StepsSafely, command_of}
-pub use Rattle.segment_manager.specs.containers.TextLists.{LeadsOnOfKind}
-pub use Rattle.segment_manager.specs.containers.ToChange.{IsNotToChange}
 pub use Rattle.segment_manager.specs.containers.Walks.{IsMap, first_of, item_of_kinds, item_seen, pairs_at, pairs_of}
-pub use Rattle.segment_manager.specs.declared.objects.beginning.NewEntry.{NewEntry}
-pub use Rattle.segment_manager.specs.declared.objects.head.Head.{Head}
-pub use Rattle.segment_manager.specs.declared.modes.Mode.{Mode}
 pub use Rattle.segment_manager.specs.declared.modes.Mode.TheVariants.{CopyOnWrite, Write}
-pub use Rattle.segment_manager.specs.declared.containers.storages.Change.{Change}
 pub use Rattle.segment_manager.specs.declared.containers.storages.Change.TheVariants.{Clear, Reserve, Shrink}
-pub use Rattle.segment_manager.specs.declared.objects.targets.Object.{Object as Located}
-pub use Rattle.segment_manager.specs.declared.objects.telling.Instance.{Instance}
+pub use Rattle.segment_manager.specs.{containers.TextLists.LeadsOnOfKind, declared.objects.beginning.NewEntry.NewEntry}
+pub use Rattle.segment_manager.specs.{containers.ToChange.IsNotToChange, declared.containers.storages.Change.Change}
+pub use Rattle.segment_manager.specs.{declared.objects.head.Head.Head, declared.objects.telling.Instance.Instance}
+pub use Rattle.segment_manager.specs.{declared.modes.Mode.Mode, declared.objects.targets.Object.Object as Located}
 
 -- what the exit of a `?` returns is the error that it met
 pub exit-is : {T E : Type 0} (r : Result T E) (why : E) → IsErrAnd r (λ e. e ≡ why) → r ≡ Err why

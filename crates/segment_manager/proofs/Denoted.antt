@@ -1,21 +1,18 @@
 -- What the bytes denote after one object is added, removed or changed, also where its index is written too.
-use Rattle.segment_manager.proofs.Common.{◌≡◌, refl, sym, ap, subst, ◌∙◌, ℕ, suc, ◌+◌, ◌≢◌, Bool, ◌&&◌, List, [], ◌∷◌}
-use Rattle.segment_manager.proofs.Common.{length, arith, IsTrue, nat_le, AllByRecursion, Memory, Cut, Same, bytes_of}
-use Rattle.segment_manager.proofs.Common.{Extent, LiveSet, handle, is_proper, LaysOut, SameBlock, Keeps, Table}
-use Rattle.segment_manager.proofs.Common.{is_table, Anonymous, IsIndexAt, Object, Directory, IsDirectory, live}
-use Rattle.segment_manager.proofs.Common.{extents_of, value_extents, table_extents, is_object, is_index, rises}
-use Rattle.segment_manager.proofs.Common.{remove_object, with_object, with_changed, without_object, named_objects}
-use Rattle.segment_manager.proofs.Common.{unique_objects, by_name, by_kind, Denotes, IsObjectAt, IsHeader, handles}
-use Rattle.segment_manager.proofs.Common.{Same-part, flat_map, list_all, rises_from}
-use Rattle.segment_manager.proofs.Order.{Differs, inserted, live-rises, rising-insert, all_of-inserted}
-use Rattle.segment_manager.proofs.Live.{adding, removing, of_each, IsFound, IsIn, live-put, live-without}
-use Rattle.segment_manager.proofs.Faces.{IsLike, replace-rises, anonymous-named, anonymous-unique, ordered-with}
-use Rattle.segment_manager.proofs.Faces.{ordered-without, ordered-changed, by_name-face, by_kind-face}
-use Rattle.segment_manager.proofs.objects.ObjectLists.{all-put, all-remove, all-replace, list_all-put, list_all-remove}
-use Rattle.segment_manager.proofs.objects.ObjectLists.{list_all-replace, stands_apart, put-rises, remove-rises}
-use Rattle.segment_manager.proofs.Words.{first, second, no_more}
-use Rattle.segment_manager.proofs.Frame.{any_objects-same, any_index-same, header-same}
-use Rattle.segment_manager.proofs.{indexes.Indexes.directory-less}
+use Rattle.segment_manager.proofs as own
+use own.Common.{◌≡◌, refl, sym, ap, subst, ◌∙◌, ℕ, suc, ◌+◌, ◌≢◌, Bool, ◌&&◌, List, [], ◌∷◌, length, arith, IsTrue}
+use own.Common.{nat_le, AllByRecursion, Memory, Cut, Same, bytes_of, Extent, LiveSet, handle, is_proper, LaysOut}
+use own.Common.{SameBlock, Keeps, Table, is_table, Anonymous, IsIndexAt, Object, Directory, IsDirectory, live}
+use own.Common.{extents_of, value_extents, table_extents, is_object, is_index, rises, remove_object, with_object}
+use own.Common.{with_changed, without_object, named_objects, unique_objects, by_name, by_kind, Denotes, IsObjectAt}
+use own.Common.{IsHeader, handles, Same-part, flat_map, list_all, rises_from}
+use own.Faces.{IsLike, replace-rises, anonymous-named, anonymous-unique, ordered-with, ordered-without, ordered-changed}
+use own.objects.ObjectLists.{all-put, all-remove, all-replace, list_all-put, list_all-remove, list_all-replace}
+use own.objects.ObjectLists.{stands_apart, put-rises, remove-rises}
+use own.{Order.Differs, Order.inserted, Order.live-rises, Live.removing, Live.of_each, Live.IsFound, Live.live-put}
+use own.{Order.rising-insert, Live.adding, Live.live-without, Faces.by_name-face, Faces.by_kind-face, Frame.header-same}
+use own.{Order.all_of-inserted, Live.IsIn, Frame.any_objects-same, Frame.any_index-same, indexes.Indexes.directory-less}
+use Rattle.raw_region.proofs.Facts.{first, second, no_more}
 use Rattle.block_tags.specs.declared.tile.Role.TheVariants.{Index}
 use Rattle.seg_types.specs.declared.kinds.Class.TheVariants.{Named, Unique}
 
@@ -47,8 +44,7 @@ pub frame-stays : {format : ℕ} (old new : Cut) {d : Directory} (xs : List Exte
     → AllByRecursion (SameBlock (bytes_of old.bytes) (bytes_of new.bytes)) (table_extents d.unique)
     → IsFrame format (bytes_of new.bytes) d
 frame-stays old new {d} xs h k n u =
-    let m = bytes_of old.bytes in
-    let m' = bytes_of new.bytes in
+    let m = bytes_of old.bytes in let m' = bytes_of new.bytes in
     record {
       header = header-same k.front (Same-part m m' 32 128 80 128 k.behind (omega arith) (omega arith)) h.header;
       named = index-stays (named_objects d) by_name h.directory.named
@@ -62,8 +58,7 @@ frame-stays old new {d} xs h k n u =
 -- an object begins where no extent did
 pub fresh : (d : Directory) (o : Object) → IsTrue (is_proper (adding (live d) (extents_of o)))
     → Differs o.extent (live d).extents
-fresh d o h =
-    (all_of-inserted (λ (y : Extent). o.extent.offset ≢ y.offset) (value_extents o.value) (live d).extents
+fresh d o h = (all_of-inserted (λ (y : Extent). o.extent.offset ≢ y.offset) (value_extents o.value) (live d).extents
     (rising-insert 128 o.extent (inserted (value_extents o.value) (live d).extents)
     (live-rises (adding (live d) (extents_of o)) h)).differs).1
 
@@ -73,9 +68,8 @@ pub directory-with : {format : ℕ} {d : Directory} (o : Object) → IsDirectory
 directory-with {format} {d} o h is_there c p = record {
   proper = subst (λ l. IsTrue (is_proper l)) (sym (live-put d o p)) p;
   objects = list_all-put (is_object format) o d.objects is_there h.objects;
-  by_offset = put-rises 0 o d.objects (omega arith)
-      (stands_apart o d.objects (of_each (λ (y : Extent). o.extent.offset ≢ y.offset) (fresh d o p)).objects)
-      h.by_offset;
+  by_offset = put-rises 0 o d.objects (omega arith) (stands_apart o d.objects (of_each (λ (y : Extent). o.extent.offset
+      ≢ y.offset) (fresh d o p)).objects) h.by_offset;
   named = subst (λ os. IsTrue (is_index d.named os by_name))
       (sym (ordered-with Named by_name d o (anonymous-named o c))) h.named;
   unique = subst (λ os. IsTrue (is_index d.unique os by_kind))
@@ -123,9 +117,8 @@ pub denotes-without : {format : ℕ} (old new : Cut) {d : Directory} (o : Object
 denotes-without {format} old new {d} o h f c l k =
     let same = live-without d o f h.directory.proper in
     let l' : LaysOut format new.bytes (live (without_object d o)) = subst (LaysOut format new.bytes) (sym same) l in
-    let blocks = of_each (SameBlock (bytes_of old.bytes) (bytes_of new.bytes))
-    (subst (λ (s : LiveSet). AllByRecursion (SameBlock (bytes_of old.bytes) (bytes_of new.bytes)) s.extents)
-    (sym same) k.blocks) in
+    let blocks = of_each (SameBlock (bytes_of old.bytes) (bytes_of new.bytes)) (subst (λ (s : LiveSet). AllByRecursion
+    (SameBlock (bytes_of old.bytes) (bytes_of new.bytes)) s.extents) (sym same) k.blocks) in
     let frame = frame-stays old new (removing (live d) (extents_of o)).extents h k blocks.named blocks.unique in
     record {
       directory = directory-without o h.directory f c l'.proper;
@@ -135,9 +128,8 @@ denotes-without {format} old new {d} o h f c l k =
           (sym (ordered-without Named by_name d o f (anonymous-named o c))) frame.named;
       unique = subst (λ os. IsIndexAt (bytes_of new.bytes) 56 d.unique (handles os))
           (sym (ordered-without Unique by_kind d o f (anonymous-unique o c))) frame.unique;
-      objects =
-          any_objects-same format (bytes_of old.bytes) (bytes_of new.bytes) (remove_object (handle o.extent) d.objects)
-          (list_all-remove (is_object format) (handle o.extent) d.objects h.directory.objects) blocks.objects
+      objects = any_objects-same format (bytes_of old.bytes) (bytes_of new.bytes) (remove_object (handle o.extent)
+          d.objects) (list_all-remove (is_object format) (handle o.extent) d.objects h.directory.objects) blocks.objects
           (all-remove (IsObjectAt (bytes_of old.bytes)) (handle o.extent) d.objects h.objects);
     }
 
@@ -165,10 +157,9 @@ denotes-replaced format old new d o o' h f like is_there l k at =
       heap = l;
       named = subst (IsIndexAt (bytes_of new.bytes) 32 d.named) (sym n.entries) frame.named;
       unique = subst (IsIndexAt (bytes_of new.bytes) 56 d.unique) (sym u.entries) frame.unique;
-      objects = all-replace (IsObjectAt (bytes_of new.bytes)) o' d.objects at
-          (any_objects-same format (bytes_of old.bytes) (bytes_of new.bytes)
-          (remove_object (handle o'.extent) d.objects)
-          (list_all-remove (is_object format) (handle o'.extent) d.objects h.directory.objects) blocks.objects
+      objects = all-replace (IsObjectAt (bytes_of new.bytes)) o' d.objects at (any_objects-same format
+          (bytes_of old.bytes) (bytes_of new.bytes) (remove_object (handle o'.extent) d.objects) (list_all-remove
+          (is_object format) (handle o'.extent) d.objects h.directory.objects) blocks.objects
           (all-remove (IsObjectAt (bytes_of old.bytes)) (handle o'.extent) d.objects h.objects));
     }
 
@@ -206,19 +197,17 @@ denotes-put {format} {b} {b'} {d} e {o} h s os is_there l k blocks i at =
       heap = subst (LaysOut format b') (sym (live-put e o l.proper)) l;
       named = i.named_at;
       unique = i.unique_at;
-      objects = all-put (IsObjectAt (bytes_of b')) o e.objects at
-          (subst (AllByRecursion (IsObjectAt (bytes_of b'))) (sym os)
-          (any_objects-same format (bytes_of b) (bytes_of b') d.objects h.directory.objects blocks h.objects));
+      objects = all-put (IsObjectAt (bytes_of b')) o e.objects at (subst (AllByRecursion (IsObjectAt (bytes_of b')))
+          (sym os) (any_objects-same format (bytes_of b) (bytes_of b') d.objects h.directory.objects blocks h.objects));
     }
 
 -- One object less, of any class: the indexes are written as those of the others.
 pub denotes-taken : {format : ℕ} {b : List ℕ} {b' : List ℕ} {d : Directory} (o : Object) → Denotes format b d → IsIn d o
     → LaysOut format b' (removing (live d) (extents_of o)) → KeepsFront (bytes_of b) (bytes_of b')
     → AllByRecursion (SameBlock (bytes_of b) (bytes_of b'))
-    (flat_map extents_of (remove_object (handle o.extent) d.objects))
-    → IsIndexAt (bytes_of b') 32 d.named (handles (named_objects (without_object d o)))
-    → IsIndexAt (bytes_of b') 56 d.unique (handles (unique_objects (without_object d o)))
-    → Denotes format b' (without_object d o)
+    (flat_map extents_of (remove_object (handle o.extent) d.objects)) → IsIndexAt (bytes_of b') 32 d.named
+    (handles (named_objects (without_object d o))) → IsIndexAt (bytes_of b') 56 d.unique
+    (handles (unique_objects (without_object d o))) → Denotes format b' (without_object d o)
 denotes-taken {format} {b} {b'} {d} o h f l k blocks n u =
     let l' : LaysOut format b' (live (without_object d o)) =
     subst (LaysOut format b') (sym (live-without d o f h.directory.proper)) l in

@@ -1,7 +1,7 @@
 -- The laws of directories, and of the bytes that denote them, for other crates.
 
 -- lists of facts: of a part, and of two parts
-pub use Rattle.segment_manager.proofs.Words.{AllByRecursion-append, AllByRecursion-behind, AllByRecursion-front}
+pub use Rattle.raw_region.proofs.Facts.{AllByRecursion-append, AllByRecursion-behind, AllByRecursion-front}
 -- extents by offset: a hole ends where it begins or later, a list that rises does so with an extent put in and from
 -- lower on, and what holds of each extent holds of each when they are sorted, and back
 pub use Rattle.segment_manager.proofs.Order.{all-sorted, all_of-sorted, rising-insert, rising-weak}

@@ -2,7 +2,6 @@ mod Common
 mod Denoted
 mod Refusals
 mod Unchanged
-mod Words
 mod Frame
 mod Order
 mod Live

@@ -5,7 +5,7 @@ use Rattle.segment_manager.proofs.Common.{flat_map, AllByRecursion, eqb-true, eq
 use Rattle.segment_manager.proofs.Common.{is_proper, ByHandle, Object, Directory, sorted, live, extents_of}
 use Rattle.segment_manager.proofs.Common.{table_extents, has_key, put_object, remove_object, replace_object}
 use Rattle.segment_manager.proofs.Common.{with_object, with_changed, without_object}
-use Rattle.segment_manager.proofs.Words.{AllByRecursion-front, AllByRecursion-behind}
+use Rattle.raw_region.proofs.Facts.{AllByRecursion-front, AllByRecursion-behind}
 use Rattle.segment_manager.proofs.Order.{Apart, Rising, inserted, inserted-comm, sorted-append, all_of-sorted}
 use Rattle.segment_manager.proofs.Order.{live-rises, rising-inserted, apart-inserted, without_all, without-inserted}
 
@@ -20,8 +20,7 @@ tables_of d = table_extents d.named ++ table_extents d.unique
 -- one object's extents are put in among the others
 pub spread-cons : (o : Object) (os : List Object) (t : List Extent)
     → spread (o ∷ os) t ≡ inserted (extents_of o) (spread os t)
-spread-cons o os t =
-    ap sorted (append_assoc (extents_of o) (flat_map extents_of os) t)
+spread-cons o os t = ap sorted (append_assoc (extents_of o) (flat_map extents_of os) t)
     ∙ sorted-append (extents_of o) (flat_map extents_of os ++ t)
 
 -- ---- one more
@@ -30,15 +29,12 @@ put-if : (b : Bool) (o p : Object) (ps qs : List Object) (t : List Extent) → A
     → spread qs t ≡ inserted (extents_of o) (spread ps t)
     → spread (if b then o ∷ p ∷ ps else p ∷ qs) t ≡ inserted (extents_of o) (spread (p ∷ ps) t)
 put-if true o p ps qs t a e = spread-cons o (p ∷ ps) t
-put-if false o p ps qs t a e =
-    spread-cons p qs t ∙ ap (inserted (extents_of p)) e
-    ∙ sym (inserted-comm (extents_of o) (extents_of p) (spread ps t) a)
-    ∙ ap (inserted (extents_of o)) (sym (spread-cons p ps t))
+put-if false o p ps qs t a e = spread-cons p qs t ∙ ap (inserted (extents_of p)) e ∙ sym (inserted-comm (extents_of o)
+    (extents_of p) (spread ps t) a) ∙ ap (inserted (extents_of o)) (sym (spread-cons p ps t))
 
 -- the extents of an object that is put among the others
-pub spread-put : (n : ℕ) (o : Object) (os : List Object) (t : List Extent)
-    → Rising n (inserted (extents_of o) (spread os t))
-    → spread (put_object o os) t ≡ inserted (extents_of o) (spread os t)
+pub spread-put : (n : ℕ) (o : Object) (os : List Object) (t : List Extent) → Rising n (inserted (extents_of o)
+    (spread os t)) → spread (put_object o os) t ≡ inserted (extents_of o) (spread os t)
 spread-put n o [] t h = spread-cons o [] t
 spread-put n o (p ∷ ps) t h =
     let h1 : Rising n (inserted (extents_of o) (inserted (extents_of p) (spread ps t))) =
@@ -66,8 +62,7 @@ live-extents d = refl
 pub live-put : (d : Directory) (o : Object) → IsTrue (is_proper (adding (live d) (extents_of o)))
     → live (with_object d o) ≡ adding (live d) (extents_of o)
 unfolding live
-live-put d o h =
-    ap (λ (xs : List Extent). let l : LiveSet = record { size = d.size; extents = xs } in l)
+live-put d o h = ap (λ (xs : List Extent). let l : LiveSet = record { size = d.size; extents = xs } in l)
     (spread-put 128 o d.objects (tables_of d) (live-rises (adding (live d) (extents_of o)) h))
 
 -- ---- one less
@@ -116,12 +111,10 @@ replace-behind o p ps n =
     ap (λ b. if b then o ∷ ps else p ∷ replace_object o ps) (ne_eqb (handle o.extent) (handle p.extent) n)
 
 remove-place : (n : ℕ) {h : ℕ} {p : Object} {ps : List Object} {o : Object} (t : List Extent) → Place h p ps o
-    → Rising n (spread (p ∷ ps) t)
-    → (IsFound h ps o → Rising n (spread ps t) → spread ps t ≡ inserted (extents_of o) (spread (remove_object h ps) t))
-    → spread (p ∷ ps) t ≡ inserted (extents_of o) (spread (remove_object h (p ∷ ps)) t)
-remove-place n {h} {p} {ps} {o} t (here e f) r k =
-    spread-cons p ps t ∙ ap (λ (q : Object). inserted (extents_of q) (spread ps t)) f
-    ∙ ap (λ qs. inserted (extents_of o) (spread qs t)) (sym (remove-here h p ps e))
+    → Rising n (spread (p ∷ ps) t) → (IsFound h ps o → Rising n (spread ps t) → spread ps t ≡ inserted (extents_of o)
+    (spread (remove_object h ps) t)) → spread (p ∷ ps) t ≡ inserted (extents_of o) (spread (remove_object h (p ∷ ps)) t)
+remove-place n {h} {p} {ps} {o} t (here e f) r k = spread-cons p ps t ∙ ap (λ (q : Object). inserted (extents_of q)
+    (spread ps t)) f ∙ ap (λ qs. inserted (extents_of o) (spread qs t)) (sym (remove-here h p ps e))
 remove-place n {h} {p} {ps} {o} t (behind e f) r k =
     let rest = spread (remove_object h ps) t in
     let r1 : Rising n (inserted (extents_of p) (spread ps t)) = subst (Rising n) (spread-cons p ps t) r in
@@ -149,8 +142,7 @@ IsIn d o = IsFound (handle o.extent) d.objects o
 pub live-split : (d : Directory) (o : Object) → IsIn d o → IsTrue (is_proper (live d))
     → live d ≡ adding (live (without_object d o)) (extents_of o)
 unfolding live
-live-split d o f h =
-    ap (λ (xs : List Extent). let l : LiveSet = record { size = d.size; extents = xs } in l)
+live-split d o f h = ap (λ (xs : List Extent). let l : LiveSet = record { size = d.size; extents = xs } in l)
     (spread-remove 128 (handle o.extent) d.objects o (tables_of d) f (live-rises (live d) h))
 
 -- without an object: all its extents are released
@@ -166,15 +158,12 @@ live-without d o f h =
 -- ---- one changed
 
 change-place : (n : ℕ) {p : Object} {ps : List Object} {o : Object} (o' : Object) (t : List Extent)
-    → Place (handle o'.extent) p ps o
-    → Rising n (inserted (extents_of o') (spread (remove_object (handle o'.extent) (p ∷ ps)) t))
-    → (IsFound (handle o'.extent) ps o
-    → Rising n (inserted (extents_of o') (spread (remove_object (handle o'.extent) ps) t))
-    → spread (replace_object o' ps) t ≡ inserted (extents_of o') (spread (remove_object (handle o'.extent) ps) t))
-    → spread (replace_object o' (p ∷ ps)) t ≡ inserted (extents_of o')
+    → Place (handle o'.extent) p ps o → Rising n (inserted (extents_of o') (spread (remove_object (handle o'.extent)
+    (p ∷ ps)) t)) → (IsFound (handle o'.extent) ps o → Rising n (inserted (extents_of o')
+    (spread (remove_object (handle o'.extent) ps) t)) → spread (replace_object o' ps) t ≡ inserted (extents_of o')
+    (spread (remove_object (handle o'.extent) ps) t)) → spread (replace_object o' (p ∷ ps)) t ≡ inserted (extents_of o')
     (spread (remove_object (handle o'.extent) (p ∷ ps)) t)
-change-place n {p} {ps} o' t (here e f) r k =
-    ap (λ qs. spread qs t) (replace-here o' p ps e) ∙ spread-cons o' ps t
+change-place n {p} {ps} o' t (here e f) r k = ap (λ qs. spread qs t) (replace-here o' p ps e) ∙ spread-cons o' ps t
     ∙ ap (λ qs. inserted (extents_of o') (spread qs t)) (sym (remove-here (handle o'.extent) p ps e))
 change-place n {p} {ps} o' t (behind e f) r k =
     let rest = spread (remove_object (handle o'.extent) ps) t in
@@ -202,8 +191,7 @@ pub live-changed : (d : Directory) (o o' : Object) → IsFound (handle o'.extent
     → IsTrue (is_proper (adding (live (without_object d o')) (extents_of o')))
     → live (with_changed d o') ≡ adding (live (without_object d o')) (extents_of o')
 unfolding live
-live-changed d o o' f h =
-    ap (λ (xs : List Extent). let l : LiveSet = record { size = d.size; extents = xs } in l)
+live-changed d o o' f h = ap (λ (xs : List Extent). let l : LiveSet = record { size = d.size; extents = xs } in l)
     (spread-change 128 d.objects o o' (tables_of d) f
     (live-rises (adding (live (without_object d o')) (extents_of o')) h))
 

@@ -8,8 +8,7 @@ use Rattle.segment_manager.specs.{Parts.part_of, containers.Walks.Item}
 
 -- the next pair is the one at a place
 abbrev pub IsNext : State → ℕ → ScalarKind → ScalarKind → Option (ScalarValue × ScalarValue) → ℕ → Type 0
-IsNext s h k v o i =
-    (d : Directory) → StandsFor s.cut.bytes d → option_map item_seen o ≡ option_map (item_of_kinds k v)
+IsNext s h k v o i = (d : Directory) → StandsFor s.cut.bytes d → option_map item_seen o ≡ option_map (item_of_kinds k v)
     (option_map item_of (slice_get (pairs_at d (ByHandle h)) i))
 
 -- there is one
@@ -44,9 +43,8 @@ none-behind (p ∷ ps) (suc i) e = none-behind ps i e
 pub next-first : (s : State) (h : ℕ) (k v : ScalarKind) (o : Option (ScalarValue × ScalarValue))
     → Answers s (λ d. option_map (item_of_kinds k v) (option_map item_of (first_of (pairs_at d (ByHandle h)))))
     (option_map item_seen o) → IsNext s h k v o 0
-next-first s h k v o a d l =
-    a.answers d l ∙ ap (λ (r : Option NumberPair). option_map (item_of_kinds k v) (option_map item_of r))
-    (sym (first-at (pairs_at d (ByHandle h))))
+next-first s h k v o a d l = a.answers d l ∙ ap (λ (r : Option NumberPair). option_map (item_of_kinds k v)
+    (option_map item_of r)) (sym (first-at (pairs_at d (ByHandle h))))
 
 module _ (s : State) (h : ℕ) (k v : ScalarKind) (i : ℕ) where
   abbrev part : (Item → List ℕ) → Directory → List ℕ
@@ -55,14 +53,12 @@ module _ (s : State) (h : ℕ) (k v : ScalarKind) (i : ℕ) where
   -- nothing is written where there is none, and then there is none behind
   pub none-text : IsNext s h k v None i → (text : Item → List ℕ) (d : Directory) → StandsFor s.cut.bytes d
       → [] ≡ part text d
-  none-text n text d l =
-      ap (part_of (λ p. text (item_of_kinds k v (item_of p))))
+  none-text n text d l = ap (part_of (λ p. text (item_of_kinds k v (item_of p))))
       (sym (none-if k v (slice_get (pairs_at d (ByHandle h)) i) (n d l)))
 
   pub next-none : IsNext s h k v None i → IsNext s h k v None (i + 1)
   next-none n d l =
-      let ps = pairs_at d (ByHandle h) in
-      let more : suc i ≡ i + 1 = omega arith in
+      let ps = pairs_at d (ByHandle h) in let more : suc i ≡ i + 1 = omega arith in
       ap (λ (r : Option NumberPair). option_map (item_of_kinds k v) (option_map item_of r))
       (sym (none-behind ps i (none-if k v (slice_get ps i) (n d l))))
       ∙ ap (λ (m : ℕ). option_map (item_of_kinds k v) (option_map item_of (slice_get ps m))) more
@@ -88,8 +84,7 @@ module _ (s : State) (h : ℕ) (k v : ScalarKind) (i : ℕ) where
         → Answers s (λ d. option_map (item_of_kinds (kind_of_scalar x) v)
         (pair_above (value_of_scalar x) (pairs_at d (ByHandle h)))) (option_map item_seen o) → IsNext s h k v o (i + 1)
     next-behind o a d l =
-        let p = pair-there l in
-        let kinds : kind_of_scalar x ≡ k = ap (λ t. t.0.0) p.same in
+        let p = pair-there l in let kinds : kind_of_scalar x ≡ k = ap (λ t. t.0.0) p.same in
         let keys : value_of_scalar x ≡ p.pair.key = ap (λ t. t.0.1) p.same in
         a.answers d l ∙ (λ j. option_map (item_of_kinds (kinds j) v) (pair_above (keys j) (pairs_at d (ByHandle h))))
         ∙ ap (option_map (item_of_kinds k v)) (walk-next s.cut.bytes d (ByHandle h) i p.pair l.denotes p.is)

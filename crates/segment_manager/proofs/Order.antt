@@ -79,6 +79,5 @@ differs-handles x (z ∷ zs) n = ((λ e. n.0 (omega (arith, e))), differs-handle
 
 -- a new block is one more
 pub resized-fresh : (l : LiveSet) (x : Extent) → Differs x l.extents → resized l x ≡ added l x
-resized-fresh l x n =
-    ap (λ xs. let l' : LiveSet = record l { extents = insert x xs } in
+resized-fresh l x n = ap (λ xs. let l' : LiveSet = record l { extents = insert x xs } in
     l') (others-none (handle x) l.extents (differs-handles x l.extents n))

@@ -3,7 +3,8 @@
 use Rattle.segment_manager.proofs.Common.{◌≡◌, ℕ, zero, suc, ◌+◌, ◌<◌, Bool, true, false, List, [], ◌∷◌, ◌++◌, length}
 use Rattle.segment_manager.proofs.Common.{take, nat_lt, Option, Some, None, Result, Ok, Err, slice_get, refl, sym, ap}
 use Rattle.segment_manager.proofs.Common.{subst, ◌∙◌, append_assoc, arith, flat_map, ltb-true, ltb-false, take_all}
-use Rattle.segment_manager.proofs.{Common.slice_get_within, Words.none_more}
+use Rattle.segment_manager.proofs.{Common.slice_get_within}
+use Rattle.raw_region.proofs.Facts.{none_more}
 use Rattle.std.specs.Result.{IsErr}
 use Rattle.std.proofs.lemmas.{Grind.flat_map-append, Option.get_or_from_slice_get, List.append-nil, List.take_more}
 use Rattle.raw_region.specs.Device.{Took, Writes}
@@ -27,8 +28,7 @@ split-if {part} {i} {n} true e h k =
           ∙ ap (λ l. parts_until part i ++ l) (append_assoc (part i) s.more (part n));
     }
 split-if {part} {i} {n} false e h k =
-    let below = ltb-false i n e in
-    let same : n ≡ i = omega arith in
+    let below = ltb-false i n e in let same : n ≡ i = omega arith in
     record {
       more = [];
       parts =
@@ -80,8 +80,7 @@ module _ (part : ℕ → List ℕ) (old mid new : Took) (i : ℕ) (before : Writ
   pub part-told : {B F : Type 0} (y : B) → Writes {E = F} mid new (Ok y) (part i)
       → Writes old new well (parts_until part (i + 1))
   part-told {B} {F} y w =
-      let more : suc i ≡ i + 1 = omega arith in
-      let one = Ok y in
+      let more : suc i ≡ i + 1 = omega arith in let one = Ok y in
       subst (λ m. Writes old new well (parts_until part m)) more (record {
         ok = (writes-then old mid new 0 one (parts_until part i) (part i) before w).ok;
         err = tt;
@@ -93,6 +92,5 @@ module _ (part : ℕ → List ℕ) (old mid new : Took) (i : ℕ) (before : Writ
       → (result : Result C G) → IsErr result → Writes old new result (parts_until part n)
   part-cut n within y w result is_err =
       let s = split part i n within in
-      subst (λ text. Writes old new result text) (sym s.parts)
-      (writes-then old mid new 0 result (parts_until part i) (part i ++ s.more) before
-      (writes-cut mid new y result (part i) s.more is_err w))
+      subst (λ text. Writes old new result text) (sym s.parts) (writes-then old mid new 0 result (parts_until part i)
+      (part i ++ s.more) before (writes-cut mid new y result (part i) s.more is_err w))

@@ -1,18 +1,17 @@
 -- What bytes denote by an older format they denote by the current one, where version, tags and free tree are those of
 -- the current one.
-use Rattle.segment_manager.proofs.Common.{◌≡◌, refl, ap, ◌∙◌, ℕ, zero, suc, Bool, true, false, not, ◌&&◌, ◌==◌, List}
-use Rattle.segment_manager.proofs.Common.{[], ◌∷◌, length, arith, IsTrue, nat_le, nat_lt, if◌then◌else◌, AllByRecursion}
-use Rattle.segment_manager.proofs.Common.{list_all, chars, is_utf8, and_from, and_parts, le-leb, leb-true, lt-leb}
-use Rattle.segment_manager.proofs.Common.{le-ltb, current, Memory, Same, bytes_of, word_at, Same-part, Same-word}
-use Rattle.segment_manager.proofs.Common.{LaysOut, SameBlock, is_kind_of, is_control, is_name, is_printable_name}
-use Rattle.segment_manager.proofs.Common.{is_text_name, Denotes, IsHeader, Directory, IsDirectory, Object, by_kind}
-use Rattle.segment_manager.proofs.Common.{by_name, has_good_name, is_class, is_good_value, is_object, kind_of, live}
-use Rattle.segment_manager.proofs.Common.{named_objects, object_len, unique_objects, serves, ObjectRole}
+use Rattle.segment_manager.proofs as own
+use own.Common.{◌≡◌, refl, ap, ◌∙◌, ℕ, zero, suc, Bool, true, false, not, ◌&&◌, ◌==◌, List, [], ◌∷◌, length, arith}
+use own.Common.{IsTrue, nat_le, nat_lt, if◌then◌else◌, AllByRecursion, list_all, chars, is_utf8, and_from, and_parts}
+use own.Common.{le-leb, leb-true, lt-leb, le-ltb, current, Memory, Same, bytes_of, word_at, Same-part, Same-word}
+use own.Common.{LaysOut, SameBlock, is_kind_of, is_control, is_name, is_printable_name, is_text_name, Denotes, IsHeader}
+use own.Common.{Directory, IsDirectory, Object, by_kind, by_name, has_good_name, is_class, is_good_value, is_object}
+use own.Common.{kind_of, live, named_objects, object_len, unique_objects, serves, ObjectRole}
+use own.{Codes.known-kind, Denoted.index-stays, Frame.any_objects-same, Live.of_each}
 use Rattle.std.specs.Str.{IsAscii}
 use Rattle.std.proofs.lemmas.Bool.{and_left, or_from, not_from_false}
 use Rattle.std.proofs.lemmas.Str.{IsUtf8-from_ascii, chars-IsAscii, is_utf8-from_IsUtf8}
 use Rattle.seg_types.specs.declared.kinds.Class.TheVariants.{Named}
-use Rattle.segment_manager.proofs.{Codes.known-kind, Denoted.index-stays, Frame.any_objects-same, Live.of_each}
 
 -- ---- names and kinds
 
@@ -36,8 +35,7 @@ printable-ascii (c ∷ cs) h (suc i) = printable-ascii cs (and_parts (is_printab
 
 printable-no_control : (c : ℕ) → IsTrue (is_printable c) → IsTrue (not (is_control c))
 printable-no_control c h =
-    let parts = and_parts (nat_le 0x20 c) (nat_le c 0x7E) h in
-    let low = leb-true 0x20 c parts.0 in
+    let parts = and_parts (nat_le 0x20 c) (nat_le c 0x7E) h in let low = leb-true 0x20 c parts.0 in
     let high = leb-true c 0x7E parts.1 in
     not_from_false (is_control c) (or_from (nat_lt c 0x20) (nat_le 0x7F c && nat_le c 0x9F) (le-ltb c 0x20 low)
     (and_left (nat_le 0x7F c) (nat_le c 0x9F) (lt-leb 0x7F c (omega arith))))
@@ -47,15 +45,13 @@ unfolding is_text_name
 printable-text name h =
     let parts = and_parts (nat_le 1 (length name) && nat_le (length name) 63) (list_all is_printable name) h in
     let sizes = and_parts (nat_le 1 (length name)) (nat_le (length name) 63) parts.0 in
-    let few = leb-true (length name) 63 sizes.1 in
-    let ascii = printable-ascii name parts.1 in
+    let few = leb-true (length name) 63 sizes.1 in let ascii = printable-ascii name parts.1 in
     let calm = all-weaker is_printable (λ c. not (is_control c)) name printable-no_control parts.1 in
-    and_from (nat_le 1 (length name) && nat_le (length name) 255 && is_utf8 name)
-    (list_all (λ c. not (is_control c)) (chars name))
-    (and_from (nat_le 1 (length name) && nat_le (length name) 255) (is_utf8 name)
+    and_from (nat_le 1 (length name) && nat_le (length name) 255 && is_utf8 name) (list_all (λ c. not (is_control c))
+    (chars name)) (and_from (nat_le 1 (length name) && nat_le (length name) 255) (is_utf8 name)
     (and_from (nat_le 1 (length name)) (nat_le (length name) 255) sizes.0 (le-leb (length name) 255 (omega arith)))
-    (is_utf8-from_IsUtf8 name (IsUtf8-from_ascii name ascii)))
-    (ap (list_all (λ c. not (is_control c))) (chars-IsAscii name ascii) ∙ calm)
+    (is_utf8-from_IsUtf8 name (IsUtf8-from_ascii name ascii))) (ap (list_all (λ c. not (is_control c)))
+    (chars-IsAscii name ascii) ∙ calm)
 
 -- a name of any format is one of the current
 name-later : (format : ℕ) (name : List ℕ) → IsTrue (is_name format name) → IsTrue (is_name current name)
@@ -73,17 +69,14 @@ if-weaker false a b c f h = h
 four-weaker : (a b c d x y : Bool) → (IsTrue a → IsTrue x) → IsTrue y → IsTrue (a && b && c && d)
     → IsTrue (x && y && c && d)
 four-weaker a b c d x y f k h =
-    let three = and_parts (a && b && c) d h in
-    let two = and_parts (a && b) c three.0 in
+    let three = and_parts (a && b && c) d h in let two = and_parts (a && b) c three.0 in
     and_from (x && y && c) d (and_from (x && y) c (and_from x y (f (and_parts a b two.0).0) k) two.1) three.1
 
 object-later : (format : ℕ) (o : Object) → IsTrue (is_object format o) → IsTrue (is_object current o)
-object-later format o h =
-    four-weaker (has_good_name format o) (is_kind_of format (kind_of o.value)) (is_good_value o.value)
-    (serves o.extent ObjectRole (object_len o.name o.value))
-    (has_good_name current o) (is_kind_of current (kind_of o.value))
-    (if-weaker (is_class Named o) (is_name format o.name) (is_name current o.name) (length o.name == 0)
-    (name-later format o.name)) (known-kind (kind_of o.value)) h
+object-later format o h = four-weaker (has_good_name format o) (is_kind_of format (kind_of o.value)) (is_good_value
+    o.value) (serves o.extent ObjectRole (object_len o.name o.value)) (has_good_name current o) (is_kind_of current
+    (kind_of o.value)) (if-weaker (is_class Named o) (is_name format o.name) (is_name current o.name) (length o.name ==
+    0) (name-later format o.name)) (known-kind (kind_of o.value)) h
 
 -- a directory of any format is one of the current
 pub directory-later : (format : ℕ) (d : Directory) → IsDirectory format d → IsDirectory current d
@@ -117,8 +110,7 @@ header-later {m} {m'} s h = record {
 pub denotes-later : (format : ℕ) (old new : List ℕ) (d : Directory) → Denotes format old d
     → StaysButVersion (bytes_of old) (bytes_of new) d → LaysOut current new (live d) → Denotes current new d
 denotes-later format old new d h s l =
-    let m = bytes_of old in
-    let m' = bytes_of new in
+    let m = bytes_of old in let m' = bytes_of new in
     let blocks = of_each (SameBlock m m') s.blocks in
     record {
       directory = directory-later format d h.directory;

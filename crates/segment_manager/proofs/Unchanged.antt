@@ -1,15 +1,13 @@
 -- What only reads leaves the directory, and a step leads on.
-use Rattle.segment_manager.proofs.Common.{◌≡◌, refl, sym, ap, subst, Bool, false, Option, Some, None, Result, Ok, Err}
-use Rattle.segment_manager.proofs.Common.{false≢true, Extent, LiveSet, resized, Refusal, NoSpace, Kind, Key, Command}
-use Rattle.segment_manager.proofs.Common.{is_changing, Mode, Directory, live, Answer, Refused, refusal_of, Plan, met}
-use Rattle.segment_manager.proofs.Common.{perform, plan, step, step_of_kind, State, StandsFor, IsStep, LeadsOn}
-use Rattle.segment_manager.proofs.Common.{answer_of, refusal_in}
-use Rattle.segment_manager.proofs.Refusals.{Leaves, by_change, by_other, by_refusal, by_request, by_same, plan-leaves}
-use Rattle.segment_manager.proofs.Refusals.{plan_of_kind-leaves, step-refused}
+use Rattle.segment_manager.proofs as own
+use own.Common.{◌≡◌, refl, sym, ap, subst, Bool, false, Option, Some, None, Result, Ok, Err, false≢true, Extent}
+use own.Common.{LiveSet, resized, Refusal, NoSpace, Kind, Key, Command, is_changing, Mode, Directory, live, Answer}
+use own.Common.{Refused, refusal_of, Plan, met, perform, plan, step, step_of_kind, State, StandsFor, IsStep, LeadsOn}
+use own.Refusals.{Leaves, by_change, by_other, by_refusal, by_request, by_same, plan-leaves, plan_of_kind-leaves}
+use own.{Common.answer_of, Common.refusal_in, Refusals.step-refused}
 
-asked-reads : {d : Directory} (o : Option Extent) (after : Extent → Answer × Directory)
-    → ((x : Extent) → (after x).1 ≡ d)
-    → (elim o as (λ _. Answer × Directory) [ None ↦ (Refused NoSpace, d) | Some x ↦ after x ]).1 ≡ d
+asked-reads : {d : Directory} (o : Option Extent) (after : Extent → Answer × Directory) → ((x : Extent)
+    → (after x).1 ≡ d) → (elim o as (λ _. Answer × Directory) [ None ↦ (Refused NoSpace, d) | Some x ↦ after x ]).1 ≡ d
 asked-reads None after k = refl
 asked-reads (Some x) after k = k x
 
@@ -19,9 +17,8 @@ perform-reads other e l p by_refusal = refl
 perform-reads other e l p by_same = refl
 perform-reads other e l p (by_change o k) = absurd (false≢true (sym e))
 perform-reads other e l p (by_other k) = absurd (false≢true (sym e))
-perform-reads {d} other e l p (by_request {need = need} {next = next} k) =
-    asked-reads (met l need) (λ x. perform d (resized l x) (next x))
-    (λ x. perform-reads other e (resized l x) (next x) (k x))
+perform-reads {d} other e l p (by_request {need = need} {next = next} k) = asked-reads (met l need)
+    (λ x. perform d (resized l x) (next x)) (λ x. perform-reads other e (resized l x) (next x) (k x))
 
 -- a command that only reads leaves the directory
 pub step-reads : (mode : Mode) (d : Directory) (c : Command) → is_changing c ≡ false → (step mode d c).1 ≡ d
@@ -52,9 +49,8 @@ refusal_in-answer f none (Ok a) = none a
 refusal_in-answer f none (Err r) = refl
 
 -- so a call of which the whole answer is known leads on
-pub result-leads : {A : Type 0} (f : A → Answer) → ((a : A) → refusal_of (f a) ≡ None)
-    → {old new : State} (c : Command) (result : Result A Refusal) → IsStep old new c (answer_of f result)
-    → LeadsOn old new c (refusal_in result)
+pub result-leads : {A : Type 0} (f : A → Answer) → ((a : A) → refusal_of (f a) ≡ None) → {old new : State} (c : Command)
+    (result : Result A Refusal) → IsStep old new c (answer_of f result) → LeadsOn old new c (refusal_in result)
 result-leads f none {old} {new} c result m =
     subst (LeadsOn old new c) (refusal_in-answer f none result) (step-leads old new c (answer_of f result) m)
 
@@ -66,6 +62,5 @@ refused-is answer e = cc
 -- what is refused stays where it is
 pub refused-stays : (old new : State) (c : Command) (r : Refusal) → LeadsOn old new c (Some r) → (d : Directory)
     → StandsFor old.cut.bytes d → StandsFor new.cut.bytes d
-refused-stays old new c r m d h =
-    subst (StandsFor new.cut.bytes) (step-refused old.mode c r (refused-is (step old.mode d c).0 (m.answers d h)))
-    (m.denotes d h)
+refused-stays old new c r m d h = subst (StandsFor new.cut.bytes)
+    (step-refused old.mode c r (refused-is (step old.mode d c).0 (m.answers d h))) (m.denotes d h)

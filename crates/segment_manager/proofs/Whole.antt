@@ -2,7 +2,7 @@
 use Rattle.segment_manager.proofs.Common.{◌≡◌, refl, sym, ap, ◌∙◌, ℕ, zero, suc, ℤ, Bool, true, ◌&&◌, List, [], ◌∷◌}
 use Rattle.segment_manager.proofs.Common.{◌++◌, map, take, drop, IsTrue, flat_map, insert, remove, slice_set, list_all}
 use Rattle.segment_manager.proofs.Common.{map-append, take-map, ScalarKind, is_value, size_of, spelling, spelled}
-use Rattle.segment_manager.proofs.Words.{first, second}
+use Rattle.raw_region.proofs.Facts.{first, second}
 use Rattle.std.proofs.lemmas.List.{drop-map}
 
 -- ---- lists

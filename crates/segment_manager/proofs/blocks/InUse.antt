@@ -1,10 +1,10 @@
 -- The blocks of a directory, as its live set has them: each is found by its handle, has the room that its extent holds,
 -- and lies at a whole place.
-use Rattle.segment_manager.proofs.Common.{◌≡◌, ℕ, ◌+◌, ◌%◌, Option, Some, None, List, [], ◌∷◌, arith, IsTrue, IfSome}
-use Rattle.segment_manager.proofs.Common.{flat_map, option_to_list, AllByRecursion, Extent, LiveSet, handle, holds}
-use Rattle.segment_manager.proofs.Common.{is_proper, extent_at, has_room, Object, Directory, extents_of, live}
-use Rattle.segment_manager.proofs.Order.{IsFoundIn, found-each, live-rises}
-use Rattle.segment_manager.proofs.{Common.value_extents, Words.no_more, Words.AllByRecursion-behind, Live.of_each}
+use Rattle.segment_manager.proofs.Common.{◌≡◌, Option, IsTrue, IfSome, flat_map, Extent, extent_at, has_room, Directory}
+use Rattle.segment_manager.proofs.Common.{ℕ, ◌+◌, ◌%◌, Some, None, List, [], ◌∷◌, arith, handle, holds, Object, live}
+use Rattle.segment_manager.proofs.Common.{option_to_list, AllByRecursion, LiveSet, is_proper, extents_of, value_extents}
+use Rattle.segment_manager.proofs.{Order.IsFoundIn, Order.found-each, Order.live-rises, Live.of_each}
+use Rattle.raw_region.proofs.Facts.{no_more, AllByRecursion-behind}
 use Rattle.best_fit.proofs.Laws.{IsSound, found-room, live-sound}
 
 -- ---- what holds of each extent of a list that rises
@@ -30,12 +30,11 @@ pub record IsInUse (l : LiveSet) (x : Extent) : Type 0 where
   pub whole : handle x % 16 ≡ 0
 
 all-in_use : (l : LiveSet) → IsTrue (is_proper l) → AllByRecursion (IsInUse l) l.extents
-all-in_use l h =
-    all-both (IsFoundIn l.extents) IsSound (IsInUse l) (λ x f s. record {
-      found = f;
-      room = λ n k. found-room l (handle x) n x f (no_more (n + 16) x.len k);
-      whole = omega (arith, s.aligned);
-    }) l.extents (found-each 128 l.extents (live-rises l h)) (live-sound l h)
+all-in_use l h = all-both (IsFoundIn l.extents) IsSound (IsInUse l) (λ x f s. record {
+  found = f;
+  room = λ n k. found-room l (handle x) n x f (no_more (n + 16) x.len k);
+  whole = omega (arith, s.aligned);
+}) l.extents (found-each 128 l.extents (live-rises l h)) (live-sound l h)
 
 -- the block of each object itself
 own-extents : (P : Extent → Type 0) (os : List Object) → AllByRecursion P (flat_map extents_of os)

@@ -1,23 +1,20 @@
 -- Which handles are those of objects, and that the blocks of objects among those of a live set are those of the
 -- directory's objects, in its order.
-use Rattle.segment_manager.proofs.Common.{◌≡◌, refl, sym, ap, ◌∙◌, ℕ, suc, ◌*◌, Bool, true, false, ◌&&◌, ◌||◌, ◌==◌}
-use Rattle.segment_manager.proofs.Common.{Option, Some, None, List, [], ◌∷◌, ◌++◌, length, map, arith, if◌then◌else◌}
-use Rattle.segment_manager.proofs.Common.{cond, IsTrue, nat_lt, nat_le, find, flat_map, option_to_list, is_some, int_lt}
-use Rattle.segment_manager.proofs.Common.{AllByRecursion, list_all, list_any, eqb-true, eqb-false, eq-eqb, ne_eqb}
-use Rattle.segment_manager.proofs.Common.{and_right, ObjectRole, Storage, Node, Extent, handle, holds, Table, is_table}
-use Rattle.segment_manager.proofs.Common.{serves, same_role, ScalarKind, ByHandle, size_of, is_value, is_kind_of}
-use Rattle.segment_manager.proofs.Common.{OwnedText, is_rising, node_len, NumberPair, is_number_pair, Value, Numbers}
-use Rattle.segment_manager.proofs.Common.{Elements, Bytes, Pairs, Texts, Object, Directory, IsDirectory, live, sorted}
-use Rattle.segment_manager.proofs.Common.{extents_of, value_extents, table_extents, has_key, object_at, object_len}
-use Rattle.segment_manager.proofs.Common.{kind_of, is_object, is_good_value, has_own_block, is_owned_text}
-use Rattle.segment_manager.proofs.Common.{has_good_name, is_index, rises, named_objects, unique_objects, by_name}
-use Rattle.segment_manager.proofs.Common.{by_kind}
-use Rattle.segment_manager.proofs.Words.{first, second, AllByRecursion-append}
-use Rattle.segment_manager.proofs.Live.{tables_of, live-extents}
-use Rattle.segment_manager.proofs.{blocks.Blocks.own-block}
+use Rattle.segment_manager.proofs.Common.{◌≡◌, sym, ◌∙◌, ℕ, suc, ◌*◌, ◌∷◌, map}
+use Rattle.segment_manager.proofs.Common.{refl, arith, holds, Table, Value, Bytes, Pairs, Texts, Object, sorted, rises}
+use Rattle.segment_manager.proofs.Common.{ap, value_extents, table_extents, is_good_value, has_own_block, is_owned_text}
+use Rattle.segment_manager.proofs.Common.{Bool, true, ◌&&◌, ◌||◌, ◌==◌, Some, None, List, ◌++◌, cond, find, Node, live}
+use Rattle.segment_manager.proofs.Common.{false, IsTrue, nat_lt, nat_le, int_lt, eq-eqb, ne_eqb, Extent, handle, serves}
+use Rattle.segment_manager.proofs.Common.{Option, length, Storage, size_of, Numbers, has_key, kind_of, by_name, by_kind}
+use Rattle.segment_manager.proofs.Common.{[], list_all, list_any, OwnedText, is_rising, Directory, object_at, is_object}
+use Rattle.segment_manager.proofs.Common.{if◌then◌else◌, option_to_list, AllByRecursion, is_number_pair, unique_objects}
+use Rattle.segment_manager.proofs.Common.{flat_map, eqb-false, and_right, same_role, NumberPair, extents_of, object_len}
+use Rattle.segment_manager.proofs.Common.{is_some, eqb-true, is_table, ByHandle, is_value, node_len, Elements, is_index}
+use Rattle.segment_manager.proofs.Common.{ObjectRole, ScalarKind, is_kind_of, IsDirectory, has_good_name, named_objects}
+use Rattle.raw_region.proofs.Facts.{first, second, AllByRecursion-append}
+use Rattle.segment_manager.proofs.{Live.tables_of, Live.live-extents, blocks.Blocks.own-block}
 use Rattle.std.proofs.lemmas.List.Folds.{list_any-append}
-use Rattle.block_tags.specs.declared.tile.Role.TheVariants.{Index}
-use Rattle.block_tags.specs.Tiles.{role_bits}
+use Rattle.block_tags.specs.{declared.tile.Role.TheVariants.Index, Tiles.role_bits}
 use Rattle.best_fit.specs.Fit.{insert}
 
 -- ---- some extent of a live set passes a test
@@ -36,9 +33,8 @@ and_same : (a : Bool) → (a && true) ≡ a
 and_same true = refl
 and_same false = refl
 
-any-insert-if : (t : Extent → Bool) (b : Bool) (x z : Extent) (zs ws : List Extent)
-    → list_any t ws ≡ (t x || list_any t zs)
-    → list_any t (if b then x ∷ z ∷ zs else z ∷ ws) ≡ (t x || list_any t (z ∷ zs))
+any-insert-if : (t : Extent → Bool) (b : Bool) (x z : Extent) (zs ws : List Extent) → list_any t ws ≡ (t x || list_any t
+    zs) → list_any t (if b then x ∷ z ∷ zs else z ∷ ws) ≡ (t x || list_any t (z ∷ zs))
 any-insert-if t true x z zs ws e = refl
 any-insert-if t false x z zs ws e = ap (λ b. t z || b) e ∙ or-swap (t z) (t x) (list_any t zs)
 
@@ -77,8 +73,7 @@ find-some false o rest = refl
 any-objects : (t : Extent → Bool) (h : ℕ) (os : List Object) → AllByRecursion (IsTold t h) os
     → list_any t (flat_map extents_of os) ≡ is_some (find (has_key (ByHandle h)) os)
 any-objects t h [] a = refl
-any-objects t h (o ∷ os) a =
-    list_any-append t (extents_of o) (flat_map extents_of os)
+any-objects t h (o ∷ os) a = list_any-append t (extents_of o) (flat_map extents_of os)
     ∙ ap (λ b. (t o.extent || b) || list_any t (flat_map extents_of os)) (none-any t (value_extents o.value) a.0.value)
     ∙ ap (λ b. b || list_any t (flat_map extents_of os)) (or-none (t o.extent) false refl)
     ∙ (λ i. a.0.own i || any-objects t h os a.1 i)
@@ -87,8 +82,7 @@ any-objects t h (o ∷ os) a =
 -- then one of the live set passes exactly where there is an object of the handle
 pub any-live : (t : Extent → Bool) (h : ℕ) (d : Directory) → AllByRecursion (IsTold t h) d.objects
     → NonePasses t (tables_of d) → list_any t (live d).extents ≡ is_some (object_at d (ByHandle h))
-any-live t h d a b =
-    ap (list_any t) (live-extents d) ∙ any_of-sorted t (flat_map extents_of d.objects ++ tables_of d)
+any-live t h d a b = ap (list_any t) (live-extents d) ∙ any_of-sorted t (flat_map extents_of d.objects ++ tables_of d)
     ∙ list_any-append t (flat_map extents_of d.objects) (tables_of d)
     ∙ or-none (list_any t (flat_map extents_of d.objects)) (list_any t (tables_of d)) (none-any t (tables_of d) b)
     ∙ any-objects t h d.objects a
@@ -143,10 +137,9 @@ owned-none h bytes (Some x) e = (
 all_owned-none : (h : ℕ) (ps : List OwnedText) → IsTrue (list_all is_owned_text ps)
     → NonePasses (is_object_block h) (flat_map (λ (p : OwnedText). option_to_list p.extent) ps)
 all_owned-none h [] e = tt
-all_owned-none h (p ∷ ps) e =
-    none-append (is_object_block h) (option_to_list p.extent) (flat_map (λ (p : OwnedText). option_to_list p.extent) ps)
-    (owned-none h p.bytes p.extent (own-block p (first (is_owned_text p) (list_all is_owned_text ps) e)))
-    (all_owned-none h ps (second (is_owned_text p) (list_all is_owned_text ps) e))
+all_owned-none h (p ∷ ps) e = none-append (is_object_block h) (option_to_list p.extent) (flat_map (λ (p : OwnedText).
+    option_to_list p.extent) ps) (owned-none h p.bytes p.extent (own-block p (first (is_owned_text p)
+    (list_all is_owned_text ps) e))) (all_owned-none h ps (second (is_owned_text p) (list_all is_owned_text ps) e))
 
 nodes-none : (h : ℕ) (k v : ScalarKind) (ps : List NumberPair) → IsTrue (list_all (is_number_pair k v) ps)
     → NonePasses (is_object_block h) (map (λ (p : NumberPair). p.node) ps)
@@ -161,20 +154,18 @@ nodes-none h k v (p ∷ ps) e =
 
 value-none : (h : ℕ) (v : Value) → IsTrue (is_good_value v) → NonePasses (is_object_block h) (value_extents v)
 value-none h (Numbers k zs) e = tt
-value-none h (Elements k zs t) e =
-    storage-none h (size_of k) t.capacity t.extent
+value-none h (Elements k zs t) e = storage-none h (size_of k) t.capacity t.extent
     (second (nat_le (length zs) t.capacity) (is_table Storage (size_of k) t)
     (first (nat_le (length zs) t.capacity && is_table Storage (size_of k) t) (list_all (is_value k) zs) e))
 value-none h (Bytes bs t) e =
     storage-none h 1 t.capacity t.extent (second (nat_le (length bs) t.capacity) (is_table Storage 1 t)
     (first (nat_le (length bs) t.capacity && is_table Storage 1 t) (list_all (λ b. nat_lt b 256) bs) e))
 value-none h (Pairs k v ps) e = nodes-none h k v ps (second (is_rising int_lt ps) (list_all (is_number_pair k v) ps) e)
-value-none h (Texts ps t) e =
-    none-append (is_object_block h) (table_extents t) (flat_map (λ (p : OwnedText). option_to_list p.extent) ps)
-    (storage-none h 16 t.capacity t.extent (second (nat_le (length ps) t.capacity) (is_table Storage 16 t)
-    (first (nat_le (length ps) t.capacity && is_table Storage 16 t) (list_all is_owned_text ps) e)))
-    (all_owned-none h ps (second (nat_le (length ps) t.capacity && is_table Storage 16 t)
-    (list_all is_owned_text ps) e))
+value-none h (Texts ps t) e = none-append (is_object_block h) (table_extents t) (flat_map (λ (p : OwnedText).
+    option_to_list p.extent) ps) (storage-none h 16 t.capacity t.extent (second (nat_le (length ps) t.capacity)
+    (is_table Storage 16 t) (first (nat_le (length ps) t.capacity && is_table Storage 16 t) (list_all is_owned_text ps)
+    e))) (all_owned-none h ps (second (nat_le (length ps) t.capacity && is_table Storage 16 t) (list_all is_owned_text
+    ps) e))
 
 pub object-told : (format h : ℕ) (o : Object) → IsTrue (is_object format o) → IsTold (is_object_block h) h o
 object-told format h o e =
@@ -193,21 +184,18 @@ objects-told : (format h : ℕ) (os : List Object) → IsTrue (list_all (is_obje
 objects-told format h [] e = tt
 objects-told format h (o ∷ os) e = (
   object-told format h o (first (is_object format o) (list_all (is_object format) os) e),
-  objects-told format h os
-      (second (is_object format o) (list_all (is_object format) os) e),
+  objects-told format h os (second (is_object format o) (list_all (is_object format) os) e),
 )
 
 pub table-of : (t : Table) (os : List Object) (lt : Object → Object → Bool) → IsTrue (is_index t os lt)
     → IsTrue (is_table Index 8 t)
-table-of t os lt e =
-    first (is_table Index 8 t) (nat_le (length os) t.capacity)
+table-of t os lt e = first (is_table Index 8 t) (nat_le (length os) t.capacity)
     (first (is_table Index 8 t && nat_le (length os) t.capacity) (rises lt os) e)
 
 -- the handle is an object's exactly where a block of it is in use for an object
 pub handle-is-object : {format : ℕ} {d : Directory} (h : ℕ) → IsDirectory format d
     → list_any (is_object_block h) (live d).extents ≡ is_some (object_at d (ByHandle h))
-handle-is-object {format} {d} h k =
-    any-live (is_object_block h) h d (objects-told format h d.objects k.objects)
+handle-is-object {format} {d} h k = any-live (is_object_block h) h d (objects-told format h d.objects k.objects)
     (none-append (is_object_block h) (table_extents d.named) (table_extents d.unique)
     (index-none h 8 d.named.capacity d.named.extent (table-of d.named (named_objects d) by_name k.named))
     (index-none h 8 d.unique.capacity d.unique.extent (table-of d.unique (unique_objects d) by_kind k.unique)))

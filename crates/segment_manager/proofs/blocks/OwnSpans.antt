@@ -5,15 +5,13 @@ use Rattle.segment_manager.proofs.Common.{AllByRecursion, list_all, eq-eqb, Exte
 use Rattle.segment_manager.proofs.Common.{IsDirectory, live, sorted, value_extents, table_extents, is_object}
 use Rattle.segment_manager.proofs.Common.{named_objects, unique_objects, by_name, by_kind, subst, ◌+◌, ◌-◌, ◌<◌, ◌≤◌}
 use Rattle.segment_manager.proofs.Common.{filter, ltb-false, end_of, rises_from, is_own, is_own_span, own_spans}
-use Rattle.segment_manager.proofs.Words.{first, second}
 use Rattle.segment_manager.proofs.Live.{tables_of, live-extents, spread, spread-cons}
-use Rattle.segment_manager.proofs.{objects.ObjectLists.rises-rest, indexes.Indexes.rises-above, Order.all-sorted}
-use Rattle.segment_manager.proofs.{Order.inserted}
 use Rattle.segment_manager.proofs.blocks.OwnBlocks.{NonePasses, none-append, is_object_block, index-none, object-told}
-use Rattle.segment_manager.proofs.blocks.OwnBlocks.{table-of}
-use Rattle.best_fit.specs.Fit.{insert}
+use Rattle.segment_manager.proofs.{Order.inserted, blocks.OwnBlocks.table-of}
+use Rattle.raw_region.proofs.Facts.{first, second}
+use Rattle.segment_manager.proofs.{objects.ObjectLists.rises-rest, indexes.Indexes.rises-above, Order.all-sorted}
+use Rattle.best_fit.specs.{Fit.insert, Extents.Span, Extents.span_between, Extents.spans_from}
 use Rattle.std.proofs.lemmas.List.Elements.{filter-append}
-use Rattle.best_fit.specs.Extents.{Span, span_between, spans_from}
 
 -- ---- a filter of extents that are put in by offset
 
@@ -99,10 +97,9 @@ own-spread p n (o ∷ os) t r a h =
     let rest = own-spread p (o.extent.offset + 1) os t (rises-rest n o os r) a.1 h in
     let values = filter-skips p (value_extents o.value) (spread os t) a.0.value ∙ rest in
     let behind = behind-blocks o.extent.offset os (rises-above (o.extent.offset + 1) os (rises-rest n o os r)) in
-    ap (filter p) (spread-cons o os t)
-    ∙ filter-front p o.extent (inserted (value_extents o.value) (spread os t)) a.0.own
-    (of-filter (λ (z : Extent). o.extent.offset < z.offset) p (inserted (value_extents o.value) (spread os t))
-    (subst (AllByRecursion (λ (z : Extent). o.extent.offset < z.offset)) (sym values) behind))
+    ap (filter p) (spread-cons o os t) ∙ filter-front p o.extent (inserted (value_extents o.value) (spread os t))
+    a.0.own (of-filter (λ (z : Extent). o.extent.offset < z.offset) p (inserted (value_extents o.value)
+    (spread os t)) (subst (AllByRecursion (λ (z : Extent). o.extent.offset < z.offset)) (sym values) behind))
     ∙ ap (λ (xs : List Extent). o.extent ∷ xs) values
 
 -- ---- by the roles
@@ -130,20 +127,17 @@ objects-taken : (format : ℕ) (os : List Object) → IsTrue (list_all (is_objec
 objects-taken format [] e = tt
 objects-taken format (o ∷ os) e = (
   object-taken format o (first (is_object format o) (list_all (is_object format) os) e),
-  objects-taken format os
-      (second (is_object format o) (list_all (is_object format) os) e),
+  objects-taken format os (second (is_object format o) (list_all (is_object format) os) e),
 )
 
 tables-none : {format : ℕ} {d : Directory} → IsDirectory format d → NonePasses is_own (tables_of d)
-tables-none {d} k = none-own (tables_of d) (λ h.
-    none-append (is_object_block h) (table_extents d.named) (table_extents d.unique)
-    (index-none h 8 d.named.capacity d.named.extent (table-of d.named (named_objects d) by_name k.named))
+tables-none {d} k = none-own (tables_of d) (λ h. none-append (is_object_block h) (table_extents d.named) (table_extents
+    d.unique) (index-none h 8 d.named.capacity d.named.extent (table-of d.named (named_objects d) by_name k.named))
     (index-none h 8 d.unique.capacity d.unique.extent (table-of d.unique (unique_objects d) by_kind k.unique)))
 
 -- the blocks of objects are theirs, in their order
 pub own-blocks : {format : ℕ} {d : Directory} → IsDirectory format d → filter is_own (live d).extents ≡ blocks d.objects
-own-blocks {format} {d} k =
-    ap (filter is_own) (live-extents d)
+own-blocks {format} {d} k = ap (filter is_own) (live-extents d)
     ∙ own-spread is_own 0 d.objects (tables_of d) k.by_offset (objects-taken format d.objects k.objects) (tables-none k)
 
 -- ---- among the blocks and gaps
@@ -157,9 +151,8 @@ gap-if true s e = filter-past is_own_span s [] e
 gap-if false s e = refl
 
 no-gap : (a b : ℕ) (ss : List Span) → filter is_own_span (span_between a b ++ ss) ≡ filter is_own_span ss
-no-gap a b ss =
-    filter-append is_own_span (span_between a b) ss ∙ ap (λ (gone : List Span). gone ++ filter is_own_span ss)
-    (gap-if (nat_lt a b) (record { offset = a; len = b - a; use_of = None }) refl)
+no-gap a b ss = filter-append is_own_span (span_between a b) ss ∙ ap (λ (gone : List Span). gone ++ filter is_own_span
+    ss) (gap-if (nat_lt a b) (record { offset = a; len = b - a; use_of = None }) refl)
 
 used-if : (b : Bool) (x : Extent) (xs : List Extent) {ss : List Span} → ss ≡ map as_used xs
     → cond b (as_used x ∷ ss) ss ≡ map as_used (cond b (x ∷ xs) xs)
@@ -169,8 +162,7 @@ used-if false x xs e = e
 spans-own : (from : ℕ) (xs : List Extent) (to : ℕ)
     → filter is_own_span (spans_from from xs to) ≡ map as_used (filter is_own xs)
 spans-own from [] to = gap-if (nat_lt from to) (record { offset = from; len = to - from; use_of = None }) refl
-spans-own from (x ∷ xs) to =
-    no-gap from x.offset (as_used x ∷ spans_from (end_of x) xs to)
+spans-own from (x ∷ xs) to = no-gap from x.offset (as_used x ∷ spans_from (end_of x) xs to)
     ∙ used-if (is_own x) x (filter is_own xs) (spans-own (end_of x) xs to)
 
 pub all-own_spans : {format : ℕ} {d : Directory} → IsDirectory format d → own_spans d ≡ map as_used (blocks d.objects)

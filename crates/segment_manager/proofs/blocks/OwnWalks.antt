@@ -8,17 +8,15 @@ use Rattle.segment_manager.proofs.Common.{proper_from, spans, legal_size, ByHand
 use Rattle.segment_manager.proofs.Common.{object_at, rises_from, is_object_at, IsInstance, SaysAt, SaysOf, is_own}
 use Rattle.segment_manager.proofs.Common.{is_own_span, own_spans, Answers, IsSegment, State, StandsFor}
 use Rattle.segment_manager.proofs.objects.ObjectLists.{rises-front, rises-rest}
-use Rattle.segment_manager.proofs.Words.{second, first, AllByRecursion-filter, none_more}
+use Rattle.raw_region.proofs.Facts.{second, first, AllByRecursion-filter, none_more}
 use Rattle.segment_manager.proofs.blocks.OwnSpans.{all-own_spans, as_used, blocks, own-blocks}
 use Rattle.segment_manager.proofs.{indexes.Bridge.each-by_handle, Calling.denotes-live, indexes.EntryPlaces.all-at}
 use Rattle.std.proofs.Common.{add-one}
 use Rattle.block_tags.specs.Tiles.{tile_at, tiles_from}
 use Rattle.best_fit.specs.Extents.{Span as LiveSpan}
 use Rattle.best_fit.proofs.Laws.{proper_from-IsFirst, proper_from-reaches}
-use Rattle.segment_manager.specs.declared.blocks.tiles.Span.{Span}
-use Rattle.segment_manager.specs.{Calls.as_span, indexes.Iterating.GoesOnOwn, indexes.Iterating.GoesOnTiles}
-use Rattle.segment_manager.specs.{indexes.Iterating.HasPassed, indexes.Iterating.IsOwnBlock, indexes.Iterating.TileWalk}
-use Rattle.segment_manager.specs.{indexes.Iterating.own_before, indexes.Iterating.own_count}
+use Rattle.segment_manager.specs.indexes.Iterating.{GoesOnOwn, GoesOnTiles, HasPassed, IsOwnBlock, TileWalk, own_before}
+use Rattle.segment_manager.specs.{declared.blocks.tiles.Span.Span, Calls.as_span, indexes.Iterating.own_count}
 
 -- ---- places among those that pass
 
@@ -80,8 +78,7 @@ passes-none p (y ∷ ys) (suc i) e = end-if (p y) y (filter p ys) (filter p (tak
 tile-more : (b : Bool) (m : Memory) (at end n : ℕ) → length (tiles_from n m (at + (tile_at m at).len) end) ≤ n
     → length (elim b as (λ _. List Tile) [
       | false ↦ []
-      | true ↦ tile_at m at ∷ tiles_from n m (at + (tile_at m at).len)
-          end
+      | true ↦ tile_at m at ∷ tiles_from n m (at + (tile_at m at).len) end
     ]) ≤ suc n
 tile-more false m at end n l = omega arith
 tile-more true m at end n l = omega arith
@@ -120,8 +117,7 @@ module _ {old cur : TileWalk} (new : TileWalk) (s : IsStill old cur) where
   pub own-past : {span : Span} → GoesOnTiles cur (Some span) new → is_own_span (as_span span) ≡ false → IsStill old new
   own-past g e = record {
     segment = g.segment ∙ s.segment;
-    count = λ d k.
-        ap (own_before d) (g.place ∙ add-one cur.at)
+    count = λ d k. ap (own_before d) (g.place ∙ add-one cur.at)
         ∙ none-more is_own_span (spans (live d)) cur.at (sym (g.says.answers d (same-bytes k))) e ∙ s.count d k;
   }
 
@@ -130,21 +126,17 @@ module _ {old cur : TileWalk} (new : TileWalk) (s : IsStill old cur) where
       → GoesOnOwn old (Some span) new
   own-found g e = record {
     segment = g.segment ∙ s.segment;
-    says = λ d k.
-        sym (ap (slice_get (own_spans d)) (sym (s.count d k))
+    says = λ d k. sym (ap (slice_get (own_spans d)) (sym (s.count d k))
         ∙ passes-there is_own_span (spans (live d)) cur.at (sym (g.says.answers d (same-bytes k))) e);
-    count = λ d k.
-        ap (own_before d) (g.place ∙ add-one cur.at)
-        ∙ one-more is_own_span (spans (live d)) cur.at (sym (g.says.answers d (same-bytes k))) e
-        ∙ ap suc (s.count d k) ∙ sym (add-one (own_before d old.at));
+    count = λ d k. ap (own_before d) (g.place ∙ add-one cur.at) ∙ one-more is_own_span (spans (live d)) cur.at
+        (sym (g.says.answers d (same-bytes k))) e ∙ ap suc (s.count d k) ∙ sym (add-one (own_before d old.at));
   }
 
   -- or to the end
   pub own-end : GoesOnTiles cur None new → GoesOnOwn old None new
   own-end g = record {
     segment = g.segment ∙ s.segment;
-    says = λ d k.
-        sym (ap (slice_get (own_spans d)) (sym (s.count d k))
+    says = λ d k. sym (ap (slice_get (own_spans d)) (sym (s.count d k))
         ∙ passes-none is_own_span (spans (live d)) cur.at (sym (g.says.answers d (same-bytes k))));
     count = λ d k. ap (own_before d) g.place ∙ s.count d k;
   }
@@ -159,8 +151,7 @@ none-mapped f (x ∷ xs) (suc i) e = none-mapped f xs i e
 -- all objects came
 pub objects-end : (s : State) (at : ℕ) {d : Directory} → StandsFor s.cut.bytes d → None ≡ slice_get (own_spans d) at
     → length d.objects ≤ at
-objects-end s at {d} k e =
-    none_more d.objects at (none-mapped (λ (o : Object). o.extent) d.objects at
+objects-end s at {d} k e = none_more d.objects at (none-mapped (λ (o : Object). o.extent) d.objects at
     (none-mapped as_used (blocks d.objects) at
     (ap (λ ss. slice_get ss at) (sym (all-own_spans k.denotes.directory)) ∙ sym e)))
 
@@ -193,15 +184,13 @@ all-blocks P (o ∷ os) h = (h.0, all-blocks P os h.1)
 live-within : (d : Directory) → IsTrue (is_proper (live d))
     → AllByRecursion (λ (x : Extent). end_of x ≤ (live d).size - 16) (live d).extents
 unfolding is_proper
-live-within d h =
-    all-within 128 (live d).extents ((live d).size - 16)
+live-within d h = all-within 128 (live d).extents ((live d).size - 16)
     (second (is_legal_size (live d).size) (proper_from 128 (live d).extents ((live d).size - 16)) h)
 
 -- the blocks of objects lie within the segment
 own-within : {b : List ℕ} {d : Directory} → StandsFor b d
     → AllByRecursion (λ (o : Object). end_of o.extent ≤ (live d).size - 16) d.objects
-own-within {d} k =
-    all-blocks (λ (x : Extent). end_of x ≤ (live d).size - 16) d.objects
+own-within {d} k = all-blocks (λ (x : Extent). end_of x ≤ (live d).size - 16) d.objects
     (subst (AllByRecursion (λ (x : Extent). end_of x ≤ (live d).size - 16)) (own-blocks k.denotes.directory)
     (AllByRecursion-filter (λ (x : Extent). end_of x ≤ (live d).size - 16) is_own (live d).extents
     (live-within d k.denotes.directory.proper)))
@@ -215,19 +204,16 @@ rises-few n m (o ∷ os) l r a =
     omega (arith, (rises-front n o os r), rest)
 
 pub objects-few : (b : List ℕ) (g : IsSegment b) → length g.0.objects ≤ 1073741825
-objects-few b g =
-    omega (
-      arith,
-      rises-few 0 ((live g.0).size - 16) g.0.objects (omega arith) g.1.denotes.directory.by_offset
-          (own-within g.1),
-      segment-short b g,
-      g.1.denotes.heap.size,
-    )
+objects-few b g = omega (
+  arith,
+  rises-few 0 ((live g.0).size - 16) g.0.objects (omega arith) g.1.denotes.directory.by_offset (own-within g.1),
+  segment-short b g,
+  g.1.denotes.heap.size,
+)
 
 -- how many objects there are, as the tags say
 pub counts-own : {b : List ℕ} {d : Directory} → StandsFor b d → own_count b ≡ length d.objects
-counts-own {b} {d} k =
-    ap (λ (l : LiveSet). length (filter is_own l.extents)) (denotes-live current b d k.denotes)
+counts-own {b} {d} k = ap (λ (l : LiveSet). length (filter is_own l.extents)) (denotes-live current b d k.denotes)
     ∙ ap length (own-blocks k.denotes.directory) ∙ length-map d.objects (λ o. o.extent)
 
 -- ---- a call of the iterator
@@ -257,8 +243,7 @@ module _ {s : State} {at : ℕ} {span : Span} (own : IsOwnBlock s at span) where
       → SaysAt s (λ d. d.objects) at said
   owner-says h {said} e f = record {
     says = λ d k.
-        let o = owner k in
-        let p = f.says d k in
+        let o = owner k in let p = f.says d k in
         let same = same_Some p.0 o.object (sym p.1 ∙ owner-found k e) in
         (o.object, o.is, subst (λ (q : Object). IsInstance q said) same p.2);
   }
@@ -274,16 +259,14 @@ module _ {s : State} {at : ℕ} {span : Span} (own : IsOwnBlock s at span) where
 
   pub owner-short : IsSegment s.cut.bytes → span.offset ≤ 1073741824
   owner-short g =
-      let d : Directory = g.0 in
-      let o = owner g.1 in
+      let d : Directory = g.0 in let o = owner g.1 in
       let within = all-at (λ (p : Object). end_of p.extent ≤ (live d).size - 16) d.objects at (own-within g.1) o.is in
       omega (arith, within, o.offset, segment-short s.cut.bytes g, g.1.denotes.heap.size)
 
 module _ {s : State} {old new : TileWalk} {at : ℕ} {r : Option Span} (h : HasPassed s old at)
     (g : GoesOnOwn old r new) where
   at-own : {d : Directory} → StandsFor s.cut.bytes d → option_map as_span r ≡ slice_get (own_spans d) at
-  at-own {d} k =
-      g.says d (subst (λ (t : State). StandsFor t.cut.bytes d) (sym h.segment) k)
+  at-own {d} k = g.says d (subst (λ (t : State). StandsFor t.cut.bytes d) (sym h.segment) k)
       ∙ ap (slice_get (own_spans d)) (sym (h.count.answers d k))
 
   -- a block came

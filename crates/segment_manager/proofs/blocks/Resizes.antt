@@ -1,13 +1,12 @@
 -- What the bytes stand for where the end of the heap moves, and then the size is written.
-use Rattle.segment_manager.proofs.Common.{◌≡◌, refl, sym, ap, subst, ◌∙◌, ℕ, ◌+◌, ◌≤◌, inl, inr, List, length, arith}
-use Rattle.segment_manager.proofs.Common.{AllByRecursion, Cut, Same, bytes_of, word_at, current, Same-part, Same-word}
-use Rattle.segment_manager.proofs.Common.{LiveSet, IsChanged, LaysOut, SameBlock, live_of, blocks-trans, lay_out_one}
-use Rattle.segment_manager.proofs.Common.{Directory, by_kind, by_name, live, named_objects, unique_objects, Denotes}
-use Rattle.segment_manager.proofs.Common.{IsHeader, Resizes, grown, shrunk, IsSegment, StandsFor, State}
+use Rattle.segment_manager.proofs as own
+use own.Common.{◌≡◌, refl, sym, ap, subst, ◌∙◌, ℕ, ◌+◌, ◌≤◌, inl, inr, List, length, arith, AllByRecursion, Cut, Same}
+use own.Common.{bytes_of, word_at, current, Same-part, Same-word, LiveSet, IsChanged, LaysOut, SameBlock, live_of}
+use own.Common.{blocks-trans, lay_out_one, Directory, by_kind, by_name, live, named_objects, unique_objects, Denotes}
+use own.Common.{IsHeader, Resizes, grown, shrunk, IsSegment, StandsFor, State}
+use own.{Calling.denotes-live, Denoted.index-stays, Frame.any_objects-same, Live.live-size, Live.of_each}
 use Rattle.best_fit.specs.Ends.{EndsAt, HasEndMoved, least_size, of_size}
 use Rattle.best_fit.proofs.Laws.{changed-header_blocks, ends-then}
-use Rattle.segment_manager.proofs.{Calling.denotes-live, Denoted.index-stays, Frame.any_objects-same}
-use Rattle.segment_manager.proofs.Live.{live-size, of_each}
 
 -- the live set of a directory of another size
 live-of_size : (d : Directory) (n : ℕ) → of_size (live d) n ≡ live (record d { size = n })
@@ -20,11 +19,9 @@ module _ (old mid new : Cut) (n : ℕ) (moved : HasEndMoved current old mid n) (
   mid_live = lay_out_one current mid.bytes (of_size (live_of old.bytes) n) moved.live
 
   pub blocks : AllByRecursion (SameBlock (bytes_of old.bytes) (bytes_of new.bytes)) (live_of old.bytes).extents
-  blocks =
-      blocks-trans (bytes_of old.bytes) (bytes_of mid.bytes) (bytes_of new.bytes)
-      (live_of old.bytes).extents moved.keeps.blocks
-      (subst (λ (l : LiveSet). AllByRecursion (SameBlock (bytes_of mid.bytes) (bytes_of new.bytes)) l.extents) mid_live
-      (changed-header_blocks current mid new 16 8 change (omega arith)))
+  blocks = blocks-trans (bytes_of old.bytes) (bytes_of mid.bytes) (bytes_of new.bytes) (live_of old.bytes).extents
+      moved.keeps.blocks (subst (λ (l : LiveSet). AllByRecursion (SameBlock (bytes_of mid.bytes) (bytes_of new.bytes))
+      l.extents) mid_live (changed-header_blocks current mid new 16 8 change (omega arith)))
 
   front : Same (bytes_of old.bytes) (bytes_of new.bytes) 0 16
   front = record { at = λ k low high. change.rest.at k (inl (omega arith)) ∙ moved.keeps.front.at k low (omega arith) }
@@ -33,8 +30,7 @@ module _ (old mid new : Cut) (n : ℕ) (moved : HasEndMoved current old mid n) (
   behind = record { at = λ k low high. change.rest.at k (inr (omega arith)) ∙ moved.keeps.behind.at k low high }
 
   laid : {d : Directory} → Denotes current old.bytes d → LaysOut current new.bytes (live (record d { size = n }))
-  laid {d} h =
-      subst (LaysOut current new.bytes)
+  laid {d} h = subst (LaysOut current new.bytes)
       (mid_live ∙ ap (λ (l : LiveSet). of_size l n) (denotes-live current old.bytes d h) ∙ live-of_size d n) change.live
 
   header : (d : Directory) → Denotes current old.bytes d → IsHeader current (bytes_of new.bytes) n
@@ -63,12 +59,10 @@ module _ (old mid new : Cut) (n : ℕ) (moved : HasEndMoved current old mid n) (
         };
         header = header d h;
         heap = laid h;
-        named = index-stays (named_objects d) by_name h.directory.named
-            (Same-part (bytes_of old.bytes) (bytes_of new.bytes) 32 128 32 56 behind (omega arith) (omega arith))
-            each.named h.named;
-        unique = index-stays (unique_objects d) by_kind h.directory.unique
-            (Same-part (bytes_of old.bytes) (bytes_of new.bytes) 32 128 56 80 behind (omega arith) (omega arith))
-            each.unique h.unique;
+        named = index-stays (named_objects d) by_name h.directory.named (Same-part (bytes_of old.bytes)
+            (bytes_of new.bytes) 32 128 32 56 behind (omega arith) (omega arith)) each.named h.named;
+        unique = index-stays (unique_objects d) by_kind h.directory.unique (Same-part (bytes_of old.bytes)
+            (bytes_of new.bytes) 32 128 56 80 behind (omega arith) (omega arith)) each.unique h.unique;
         objects = any_objects-same current (bytes_of old.bytes)
             (bytes_of new.bytes) d.objects h.directory.objects each.objects h.objects;
       }
@@ -102,16 +96,14 @@ resizes {old} {new} {mid} {n} mode moved change word is = record {
 pub grows : {old new : State} {mid : Cut} (extra : ℕ) → new.mode ≡ old.mode
     → HasEndMoved current old.cut mid (length old.cut.bytes + extra) → IsChanged current mid new.cut 16 8
     → word_at (bytes_of new.cut.bytes) 16 ≡ length mid.bytes → Resizes old new (λ d. grown d extra)
-grows extra mode moved change word =
-    resizes mode moved change (word ∙ moved.live.size)
+grows extra mode moved change word = resizes mode moved change (word ∙ moved.live.size)
     (λ d h. ap (λ n. let e : Directory = record d { size = n + extra } in e) (sym (stands-size h)))
 
 -- as far as the last extent
 pub shrinks : {old new : State} {mid : Cut} → new.mode ≡ old.mode
     → HasEndMoved current old.cut mid (least_size (live_of old.cut.bytes)) → IsChanged current mid new.cut 16 8
     → word_at (bytes_of new.cut.bytes) 16 ≡ length mid.bytes → Resizes old new (λ d. shrunk d)
-shrinks {old} mode moved change word =
-    resizes mode moved change (word ∙ moved.live.size)
+shrinks {old} mode moved change word = resizes mode moved change (word ∙ moved.live.size)
     (λ d h. ap (λ (l : LiveSet). let e : Directory = record d { size = least_size l } in
     e) (denotes-live current old.cut.bytes d h.denotes))
 

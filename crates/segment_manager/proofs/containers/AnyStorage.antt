@@ -1,13 +1,11 @@
 -- A call on whatever has storage: the kind of the object of the key says which call it is.
-use Rattle.segment_manager.proofs.Common.{◌≡◌, refl, sym, ap, ◌∙◌, ℕ, true, false, Option, Some, None, Result, Ok, Err}
-use Rattle.segment_manager.proofs.Common.{eq-eqb, Kind, Refusal, NotFound, WrongKind, code_of}
-use Rattle.segment_manager.proofs.Common.{Key, Command, Answer, Refused, kind_at, sizes_at, sizes_at_kind}
-use Rattle.segment_manager.proofs.Common.{sizes_of, Directory, Object, kind_of, live, object_at}
-use Rattle.segment_manager.proofs.Common.{IsMissing, Refuse, perform, Answers, IsStep, IsStepOfKind, State, effect}
-use Rattle.segment_manager.proofs.Common.{has_storage, is_read_only, step, step_of_kind, Mode}
-use Rattle.segment_manager.proofs.{Common.Change, Common.command_of, containers.Refilled.refused-steps}
-use Rattle.segment_manager.proofs.{containers.Refilled.told-some, Steps.step_of_kind-step, Steps.moves-same}
-use Rattle.segment_manager.proofs.{containers.StorageSteps.change-refused, containers.StorageSteps.no-storage}
+use Rattle.segment_manager.proofs as own
+use own.Common.{◌≡◌, refl, sym, ap, ◌∙◌, ℕ, true, false, Option, Some, None, Result, Ok, Err, eq-eqb, Kind, Refusal}
+use own.Common.{NotFound, WrongKind, code_of, Key, Command, Answer, Refused, kind_at, sizes_at, sizes_at_kind, sizes_of}
+use own.Common.{Directory, Object, kind_of, live, object_at, IsMissing, Refuse, perform, Answers, IsStep, IsStepOfKind}
+use own.Common.{State, effect, has_storage, is_read_only, step, step_of_kind, Mode, Change, command_of}
+use own.containers.StorageSteps.{change-refused, no-storage}
+use own.{containers.Refilled.refused-steps, containers.Refilled.told-some, Steps.step_of_kind-step, Steps.moves-same}
 
 -- the object of the key, which is of the kind
 pub record IsOfKindAt (d : Directory) (key : Key) (kind : Kind) : Type 0 where
@@ -15,9 +13,8 @@ pub record IsOfKindAt (d : Directory) (key : Key) (kind : Kind) : Type 0 where
   pub is : object_at d key ≡ Some object
   pub kind_is : kind_of object.value ≡ kind
 
-told-if : (d : Directory) (key : Key) (kind : Kind) (r : Option Object) → object_at d key ≡ r
-    → Ok kind ≡ elim r as (λ _. Result Kind Refusal) [ None ↦ Err NotFound | Some o ↦ Ok (kind_of o.value) ]
-    → IsOfKindAt d key kind
+told-if : (d : Directory) (key : Key) (kind : Kind) (r : Option Object) → object_at d key ≡ r → Ok kind ≡ elim r as
+    (λ _. Result Kind Refusal) [ None ↦ Err NotFound | Some o ↦ Ok (kind_of o.value) ] → IsOfKindAt d key kind
 told-if d key kind None e f = absurd (cc)
 told-if d key kind (Some o) e f =
     let same : kind_of o.value ≡ kind = cc in record { object = o; is = e; kind_is = same }
@@ -29,30 +26,25 @@ kind-told d key kind e = told-if d key kind (object_at d key) refl e
 pub nowhere-steps : (s : State) (key : Key) (why : Refusal) (c : Command) → is_read_only s.mode ≡ false
     → IsMissing s key why
     → ((d : Directory) → object_at d key ≡ None → effect d c ≡ Refuse NotFound) → IsStep s s c (Refused why)
-nowhere-steps s key why c writing m none =
-    refused-steps s c why writing
+nowhere-steps s key why c writing m none = refused-steps s c why writing
     (λ d l. ap (perform d (live d)) (none d (m.missing d l)) ∙ (λ i. (Refused (sym m.is i), d)))
 
 -- the step of the kind is the command's
 pub of_kind-same : (mode : Mode) (d : Directory) (key : Key) (kind : Kind) (c : Command) → IsOfKindAt d key kind
     → step_of_kind mode d key kind c ≡ step mode d c
-of_kind-same mode d key kind c e =
-    step_of_kind-step mode d key kind c e.object e.is
+of_kind-same mode d key kind c e = step_of_kind-step mode d key kind c e.object e.is
     (eq-eqb (code_of kind) (code_of (kind_of e.object.value)) (ap code_of (sym e.kind_is)))
 
 pub of_kind-steps : (old new : State) (key : Key) (kind : Kind) (c : Command) (answer : Answer)
     → Answers old (λ d. kind_at d key) (Ok kind) → IsStepOfKind old new key kind c answer → IsStep old new c answer
-of_kind-steps old new key kind c answer a r =
-    moves-same old new answer (λ d. step_of_kind old.mode d key kind c) (λ d. step old.mode d c)
-    (λ d k. of_kind-same old.mode d key kind c (kind-told d key kind (a.answers d k))) r
+of_kind-steps old new key kind c answer a r = moves-same old new answer (λ d. step_of_kind old.mode d key kind c)
+    (λ d. step old.mode d c) (λ d k. of_kind-same old.mode d key kind c (kind-told d key kind (a.answers d k))) r
 
 -- it has no storage
 pub change-other : (change : Change) (s : State) (key : Key) (kind : Kind) → is_read_only s.mode ≡ false
     → has_storage kind ≡ false → Answers s (λ d. kind_at d key) (Ok kind)
     → IsStep s s (command_of change key) (Refused WrongKind)
-change-other change s key kind writing h a =
-    refused-steps s (command_of change key) WrongKind writing
-    (λ d l.
+change-other change s key kind writing h a = refused-steps s (command_of change key) WrongKind writing (λ d l.
     let e : IsOfKindAt d key kind = kind-told d key kind (a.answers d l) in
     ap (perform d (live d))
     (change-refused change d key e.object e.is (no-storage e.object.value (ap has_storage e.kind_is ∙ h))))
@@ -62,20 +54,16 @@ change-other change s key kind writing h a =
 -- the sizes of the object of the key, which is of the kind
 pub sizes-found : (d : Directory) (key : Key) (kind : Kind) (o : Object) → object_at d key ≡ Some o
     → kind_of o.value ≡ kind → sizes_at_kind d key kind ≡ sizes_of o.value
-sizes-found d key kind o e f =
-    told-some d key kind (λ o. sizes_of o.value) o true e
+sizes-found d key kind o e f = told-some d key kind (λ o. sizes_of o.value) o true e
     (eq-eqb (code_of kind) (code_of (kind_of o.value)) (ap code_of (sym f)))
 
 -- the sizes of the kind are the object's
-pub measures-kind : (s : State) (key : Key) (kind : Kind) (r : Result (ℕ × ℕ) Refusal)
-    → Answers s (λ d. kind_at d key) (Ok kind) → Answers s (λ d. sizes_at_kind d key kind) r
-    → Answers s (λ d. sizes_at d key) r
+pub measures-kind : (s : State) (key : Key) (kind : Kind) (r : Result (ℕ × ℕ) Refusal) → Answers s (λ d. kind_at d key)
+    (Ok kind) → Answers s (λ d. sizes_at_kind d key kind) r → Answers s (λ d. sizes_at d key) r
 measures-kind s key kind r a m = record {
   answers = λ d l.
       let e : IsOfKindAt d key kind = kind-told d key kind (a.answers d l) in
-      m.answers d l ∙ sizes-found d key kind e.object e.is e.kind_is
-      ∙ sym
-      (ap
+      m.answers d l ∙ sizes-found d key kind e.object e.is e.kind_is ∙ sym (ap
       (λ (q : Option Object). elim q as (λ _. Result (ℕ × ℕ) Refusal)
       [ None ↦ Err NotFound | Some o ↦ sizes_of o.value ]) e.is);
 }

@@ -3,18 +3,17 @@ use Rattle.segment_manager.proofs.Common.{◌≡◌, refl, sym, ap, subst, ◌�
 use Rattle.segment_manager.proofs.Common.{Refusal, Key, ByHandle, Command, is_changing, Mode, Answer, Refused, kind_at}
 use Rattle.segment_manager.proofs.Common.{IsChangeable, IsToChange, IsUnchangeable, Directory, live, IsMissing}
 use Rattle.segment_manager.proofs.Common.{IsLocated, Plan, Refuse, perform, Answers, IsReply, IsStep, State, StandsFor}
-use Rattle.segment_manager.proofs.Steps.{open-reading, refuses-read_only, step-effect}
-use Rattle.segment_manager.proofs.{Common.effect, Common.is_read_only, Common.step, containers.AnyStorage.nowhere-steps}
-use Rattle.segment_manager.proofs.{containers.Refilled.refused-steps, objects.Locating.kind-by_key}
-use Rattle.segment_manager.proofs.{objects.Locating.located-here}
-use Rattle.segment_manager.specs.declared.modes.Mode.TheVariants.{ReadOnly}
-use Rattle.segment_manager.specs.declared.objects.targets.Object.{Object}
+use Rattle.segment_manager.proofs.{Common.effect, Common.is_read_only, Steps.open-reading, Steps.step-effect}
+use Rattle.segment_manager.proofs.{Common.step, containers.AnyStorage.nowhere-steps, containers.Refilled.refused-steps}
+use Rattle.segment_manager.proofs.{Steps.refuses-read_only, objects.Locating.kind-by_key, objects.Locating.located-here}
+use Rattle.segment_manager.specs.{declared.modes.Mode.TheVariants.ReadOnly, declared.objects.targets.Object.Object}
 use Rattle.seg_types.specs.declared.refusals.Refusal.TheVariants as refusal
 
 -- ---- an object that was located
 
 -- it is of the kind that it says
-pub says-kind : {s : State} {key : Key} {o : Object} {kind : Kind} → IsLocated s key o → o.kind ≡ kind → Answers s (λ d. kind_at d key) (Ok kind)
+pub says-kind : {s : State} {key : Key} {o : Object} {kind : Kind} → IsLocated s key o → o.kind ≡ kind
+    → Answers s (λ d. kind_at d key) (Ok kind)
 says-kind {s} {key} {o} l e = subst (λ k. Answers s (λ d. kind_at d key) (Ok k)) e (kind-by_key s key o l)
 
 module _ {s : State} {key : Key} {o : Object} (h : IsToChange s key o) {kind : Kind} (e : o.kind ≡ kind) where
@@ -36,20 +35,25 @@ pub reading-unchangeable : (s : State) (key : Key) → s.mode ≡ ReadOnly → I
 reading-unchangeable s key e = record { refuses = λ c changes none. refuses-read_only s c (ap is_read_only e) changes }
 
 -- or the object of the key decides
-pub changeable : (s : State) (key : Key) (r : Result Object Refusal) → (s.mode ≡ ReadOnly → ⊥) → MatchResult r (IsLocated s key) (IsMissing s key)
-    → MatchResult r (IsToChange s key) (IsUnchangeable s key)
+pub changeable : (s : State) (key : Key) (r : Result Object Refusal) → (s.mode ≡ ReadOnly → ⊥)
+    → MatchResult r (IsLocated s key) (IsMissing s key) → MatchResult r (IsToChange s key) (IsUnchangeable s key)
 changeable s key (Ok o) writing l = record { writing = not-reading s.mode writing; located = l }
-changeable s key (Err why) writing m = record { refuses = λ c changes none. nowhere-steps s key why c (not-reading s.mode writing) m none }
+changeable s key (Err why) writing m = record
+    { refuses = λ c changes none. nowhere-steps s key why c (not-reading s.mode writing) m none }
 
 -- ---- commands by their plans
 
 -- a plan that comes to a refusal
-pub refuses : (s : State) (c : Command) (why : Refusal) → is_read_only s.mode ≡ false → ((d : Directory) → StandsFor s.cut.bytes d → effect d c ≡ Refuse why) → IsStep s s c (Refused why)
+pub refuses : (s : State) (c : Command) (why : Refusal) → is_read_only s.mode ≡ false
+    → ((d : Directory) → StandsFor s.cut.bytes d → effect d c ≡ Refuse why) → IsStep s s c (Refused why)
 refuses s c why writing each = refused-steps s c why writing (λ d st. ap (perform d (live d)) (each d st))
 
 -- a command that changes nothing is answered as its plan is, whatever the mode
-pub answered-reads : (mode : Mode) (d : Directory) (c : Command) → is_changing c ≡ false → (step mode d c).0 ≡ (perform d (live d) (effect d c)).0
+pub answered-reads : (mode : Mode) (d : Directory) (c : Command) → is_changing c ≡ false
+    → (step mode d c).0 ≡ (perform d (live d) (effect d c)).0
 answered-reads mode d c e = ap (λ (r : Answer × Directory). r.0) (step-effect mode d c (open-reading mode c e))
 
-pub refuses-read : (s : State) (c : Command) (why : Refusal) → is_changing c ≡ false → ((d : Directory) → StandsFor s.cut.bytes d → effect d c ≡ Refuse why) → IsReply s c (Refused why)
-refuses-read s c why e each = record { answers = λ d st. sym (answered-reads s.mode d c e ∙ ap (λ (p : Plan). (perform d (live d) p).0) (each d st)) }
+pub refuses-read : (s : State) (c : Command) (why : Refusal) → is_changing c ≡ false
+    → ((d : Directory) → StandsFor s.cut.bytes d → effect d c ≡ Refuse why) → IsReply s c (Refused why)
+refuses-read s c why e each = record
+    { answers = λ d st. sym (answered-reads s.mode d c e ∙ ap (λ (p : Plan). (perform d (live d) p).0) (each d st)) }

@@ -1,22 +1,21 @@
 -- A vector or text as the value of an object: it stands at its place as the calls of seg_vector see it, and what they
 -- do to it is what becomes of the object.
-use Rattle.segment_manager.proofs.Common.{◌≡◌, refl, sym, ap, subst, ◌∙◌, ℕ, ◌+◌, ◌*◌, ◌≤◌, ℤ, Bool, ◌&&◌, Option, Some}
-use Rattle.segment_manager.proofs.Common.{None, List, [], ◌∷◌, length, append-nil, arith, IsTrue, nat_le}
-use Rattle.segment_manager.proofs.Common.{option_to_list, and_from, le-leb, same_Some, current, Cut, Memory, bytes_of}
-use Rattle.segment_manager.proofs.Common.{ObjectRole, Storage, IsExchanged, Extent, LiveSet, handle, extent_at, live_of}
-use Rattle.segment_manager.proofs.Common.{Table, is_table, serves, ScalarKind, is_kind_of, size_of, Key, IsOwnBlock}
-use Rattle.segment_manager.proofs.Common.{Stands, place_at, IsContainerAt, spelled, Contents, IsRefilled}
-use Rattle.segment_manager.proofs.Common.{container_place, contents_of, has_values, Value, Elements, Bytes, Object}
-use Rattle.segment_manager.proofs.Common.{Directory, count_of, has_good_name, is_good_value, is_object, kind_of}
-use Rattle.segment_manager.proofs.Common.{object_at, padded, value_extents, value_len, Denotes, IsValueAt, StandsAt}
-use Rattle.segment_manager.proofs.{Common.changed, Common.AllByRecursion, Common.live, blocks.Blocks.spelled-length}
-use Rattle.segment_manager.proofs.{Calling.denotes-heap, Calling.denotes-live, Frame.object-roomy}
-use Rattle.segment_manager.proofs.{objects.Here.standing, Live.IsIn, objects.ObjectLists.key-found}
-use Rattle.segment_manager.proofs.{objects.Standings.standing-room, Words.first, Words.second, Words.no_more}
-use Rattle.segment_manager.proofs.{objects.Exchanged.Exchange, objects.Exchanged.between}
-use Rattle.segment_manager.proofs.{objects.Exchanged.denotes-container, containers.MapBlocks.BlocksInUse}
-use Rattle.segment_manager.proofs.{containers.MapBlocks.blocks-in_use, Order.Differs, Order.IsFoundIn}
-use Rattle.segment_manager.proofs.{objects.Rewritten.value_start, objects.Rewritten.with_value}
+use Rattle.segment_manager.proofs.Common.{◌≡◌, refl, Bool, ◌&&◌, Some, None, List, Stands, Value, Bytes, Object, padded}
+use Rattle.segment_manager.proofs.Common.{sym, ap, ◌∙◌, ◌+◌, ◌*◌, ◌≤◌, ℤ, [], ◌∷◌, Cut, Key, live, subst, ObjectRole}
+use Rattle.segment_manager.proofs.Common.{ScalarKind, is_kind_of, IsOwnBlock, IsRefilled, has_values, ℕ, and_from}
+use Rattle.segment_manager.proofs.Common.{extent_at, Directory, is_object, object_at, value_len, IsValueAt, Option}
+use Rattle.segment_manager.proofs.Common.{length, IsTrue, nat_le, le-leb, Memory, Extent, handle, Table, serves}
+use Rattle.segment_manager.proofs.Common.{append-nil, same_Some, IsExchanged, contents_of, is_good_value, value_extents}
+use Rattle.segment_manager.proofs.Common.{arith, Storage, LiveSet, live_of, size_of, spelled, kind_of, Denotes, changed}
+use Rattle.segment_manager.proofs.Common.{option_to_list, IsContainerAt, container_place, has_good_name, AllByRecursion}
+use Rattle.segment_manager.proofs.Common.{current, bytes_of, is_table, place_at, Contents, Elements, count_of, StandsAt}
+use Rattle.segment_manager.proofs.objects.Exchanged.{Exchange, between, denotes-container}
+use Rattle.segment_manager.proofs.containers.MapBlocks.{BlocksInUse, blocks-in_use}
+use Rattle.segment_manager.proofs.objects.Rewritten.{value_start, with_value}
+use Rattle.segment_manager.proofs.{blocks.Blocks.spelled-length, objects.Here.standing, Calling.denotes-heap}
+use Rattle.segment_manager.proofs.{Calling.denotes-live, objects.ObjectLists.key-found, objects.Standings.standing-room}
+use Rattle.segment_manager.proofs.{Frame.object-roomy, Live.IsIn, Order.Differs, Order.IsFoundIn}
+use Rattle.raw_region.proofs.Facts.{second, first, no_more}
 
 -- ---- the value
 
@@ -40,10 +39,9 @@ abbrev bytes_in : List ℕ → Table → Contents
 bytes_in bs t = record { each = 1; len = length bs; table = t; bytes = bs }
 
 -- what is so of vectors of numbers and of texts is so of every value with contents
-pub of-contents : (P : Value → Contents → Type 0)
-    → ((k : ScalarKind) (zs : List ℤ) (t : Table) → P (Elements k zs t) (elements_in k zs t))
-    → ((bs : List ℕ) (t : Table) → P (Bytes bs t) (bytes_in bs t)) → (v : Value) (c : Contents) → contents_of v ≡ Some c
-    → P v c
+pub of-contents : (P : Value → Contents → Type 0) → ((k : ScalarKind) (zs : List ℤ) (t : Table) → P (Elements k zs t)
+    (elements_in k zs t)) → ((bs : List ℕ) (t : Table) → P (Bytes bs t) (bytes_in bs t)) → (v : Value) (c : Contents)
+    → contents_of v ≡ Some c → P v c
 of-contents P f g (Elements k zs t) c e = subst (P (Elements k zs t)) (same_Some (elements_in k zs t) c e) (f k zs t)
 of-contents P f g (Bytes bs t) c e = subst (P (Bytes bs t)) (same_Some (bytes_in bs t) c e) (g bs t)
 of-contents P f g v c e = absurd (cc)
@@ -51,10 +49,8 @@ of-contents P f g v c e = absurd (cc)
 -- a good value is one with no more elements than places, whose storage serves, and whose elements are values
 good-contents : (v : Value) (c : Contents) → contents_of v ≡ Some c
     → is_good_value v ≡ (nat_le c.len c.table.capacity && is_table Storage c.each c.table && has_values v)
-good-contents =
-    of-contents
-    (λ v c. is_good_value v ≡ (nat_le c.len c.table.capacity && is_table Storage c.each c.table && has_values v))
-    (λ k zs t. refl) (λ bs t. refl)
+good-contents = of-contents (λ v c. is_good_value v ≡ (nat_le c.len c.table.capacity && is_table Storage c.each c.table
+    && has_values v)) (λ k zs t. refl) (λ bs t. refl)
 
 contents-long : (v : Value) (c : Contents) → contents_of v ≡ Some c → length c.bytes ≡ c.each * c.len
 contents-long =
@@ -62,8 +58,7 @@ contents-long =
 
 pub contents-fit : (v : Value) (c : Contents) → contents_of v ≡ Some c → IsTrue (is_good_value v) → Fits v c
 contents-fit v c e h =
-    let many : Bool = nat_le c.len c.table.capacity in
-    let serves : Bool = is_table Storage c.each c.table in
+    let many : Bool = nat_le c.len c.table.capacity in let serves : Bool = is_table Storage c.each c.table in
     let all : IsTrue (many && serves && has_values v) = subst (λ (t : Bool). IsTrue t) (good-contents v c e) h in
     let front : IsTrue (many && serves) = first (many && serves) (has_values v) all in
     record {
@@ -74,15 +69,13 @@ contents-fit v c e h =
     }
 
 pub contents-shape : (v : Value) (c : Contents) → contents_of v ≡ Some c → Shape v c
-contents-shape =
-    of-contents Shape (λ k zs t. record { extents = refl; len = refl; count = refl })
+contents-shape = of-contents Shape (λ k zs t. record { extents = refl; len = refl; count = refl })
     (λ bs t. record { extents = refl; len = refl; count = refl })
 
 -- the other way round: elements that have their places make a good value
 pub contents-good : (v : Value) (c : Contents) → contents_of v ≡ Some c → c.len ≤ c.table.capacity
     → IsTrue (is_table Storage c.each c.table) → IsTrue (has_values v) → IsTrue (is_good_value v)
-contents-good v c e f t h =
-    subst (λ (b : Bool). IsTrue b) (sym (good-contents v c e))
+contents-good v c e f t h = subst (λ (b : Bool). IsTrue b) (sym (good-contents v c e))
     (and_from (nat_le c.len c.table.capacity && is_table Storage c.each c.table) (has_values v)
     (and_from (nat_le c.len c.table.capacity) (is_table Storage c.each c.table) (le-leb c.len c.table.capacity f) t) h)
 
@@ -101,19 +94,16 @@ value-said m at =
 
 -- it is good with another value of its kind and length
 pub good-with : (format : ℕ) (o : Object) (w : Value) → IsTrue (is_object format o) → kind_of w ≡ kind_of o.value
-    → value_len w ≡ value_len o.value → IsTrue (is_good_value w)
-    → IsTrue (is_object format (with_value o w))
+    → value_len w ≡ value_len o.value → IsTrue (is_good_value w) → IsTrue (is_object format (with_value o w))
 good-with format o w h kind len good =
     let serving : ℕ → Bool = λ n. serves o.extent ObjectRole (16 + padded (length o.name) + n) in
     let named : Bool = has_good_name format o in
     let front : IsTrue (named && is_kind_of format (kind_of o.value) && is_good_value o.value) =
     first (named && is_kind_of format (kind_of o.value) && is_good_value o.value) (serving (value_len o.value)) h in
-    let room : IsTrue (serving (value_len w)) =
-    subst (λ n. IsTrue (serving n)) (sym len)
+    let room : IsTrue (serving (value_len w)) = subst (λ n. IsTrue (serving n)) (sym len)
     (second (named && is_kind_of format (kind_of o.value) && is_good_value o.value) (serving (value_len o.value)) h) in
-    let kinds : IsTrue (named && is_kind_of format (kind_of w)) =
-    subst (λ k. IsTrue (named && is_kind_of format k)) (sym kind)
-    (first (named && is_kind_of format (kind_of o.value)) (is_good_value o.value) front) in
+    let kinds : IsTrue (named && is_kind_of format (kind_of w)) = subst (λ k. IsTrue (named && is_kind_of format k))
+    (sym kind) (first (named && is_kind_of format (kind_of o.value)) (is_good_value o.value) front) in
     and_from (named && is_kind_of format (kind_of w) && is_good_value w) (serving (value_len w))
     (and_from (named && is_kind_of format (kind_of w)) (is_good_value w) kinds good) room
 
@@ -143,8 +133,7 @@ contents-stand b d key o c k e h =
     let s : StandsAt b (handle o.extent) o = standing b d key o k e in
     let f : IsIn d o = key-found current d key o k.directory e in
     let good : Fits o.value c = contents-fit o.value c h (object-roomy current o s.good).value in
-    let shape : Shape o.value c = contents-shape o.value c h in
-    let len = shape.len in
+    let shape : Shape o.value c = contents-shape o.value c h in let len = shape.len in
     record {
       heap = denotes-heap current b d k;
       words = subst (λ at. IsContainerAt (bytes_of b) at c.len c.table c.bytes) (start-place o)
@@ -165,20 +154,16 @@ pub contents-changed : (old new : Cut) (d : Directory) (key : Key) (o : Object) 
 contents-changed old new d key o w c c' k e h h' kind values r =
     let s : StandsAt old.bytes (handle o.extent) o = standing old.bytes d key o k e in
     let f : IsIn d o = key-found current d key o k.directory e in
-    let was : Shape o.value c = contents-shape o.value c h in
-    let is : Shape w c' = contents-shape w c' h' in
-    let good : IsTrue (is_object current (with_value o w)) =
-    good-with current o w s.good kind (is.len ∙ sym was.len)
+    let was : Shape o.value c = contents-shape o.value c h in let is : Shape w c' = contents-shape w c' h' in
+    let good : IsTrue (is_object current (with_value o w)) = good-with current o w s.good kind (is.len ∙ sym was.len)
     (contents-good w c' h' r.stands.fits r.stands.table values) in
     let x : Exchange o (with_value o w) (option_to_list c.table.extent) (option_to_list c'.table.extent) =
     between o (with_value o w) [] (option_to_list c.table.extent) (option_to_list c'.table.extent) []
     (was.extents ∙ sym (append-nil (option_to_list c.table.extent))) (is.extents
     ∙ sym (append-nil (option_to_list c'.table.extent))) in
     let change : IsExchanged current old new (value_start o) 24 (option_to_list c.table.extent)
-    (option_to_list c'.table.extent) =
-    subst (λ at. IsExchanged current old new at 24 (option_to_list c.table.extent) (option_to_list c'.table.extent))
-    (sym (start-place o)) r.change in
+    (option_to_list c'.table.extent) = subst (λ at. IsExchanged current old new at 24 (option_to_list c.table.extent)
+    (option_to_list c'.table.extent)) (sym (start-place o)) r.change in
     denotes-container current old new d o w (option_to_list c.table.extent) (option_to_list c'.table.extent) k f x kind
-    (is.count ∙ sym was.count) was.len s.good good change
-    (subst (λ at. IsValueAt (bytes_of new.bytes) at w) (sym (start-place o))
-    (value-said (bytes_of new.bytes) (place_at (container_place o)) w c' h' r.stands.words))
+    (is.count ∙ sym was.count) was.len s.good good change (subst (λ at. IsValueAt (bytes_of new.bytes) at w)
+    (sym (start-place o)) (value-said (bytes_of new.bytes) (place_at (container_place o)) w c' h' r.stands.words))

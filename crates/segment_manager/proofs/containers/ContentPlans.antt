@@ -1,16 +1,14 @@
 -- The plans of the commands on a vector of numbers or a text.
-use Rattle.segment_manager.proofs.Common.{◌≡◌, refl, ap, ◌∙◌, ℕ, ◌-◌, ℤ, pos, nat_abs, Bool, true, false, Option, Some}
-use Rattle.segment_manager.proofs.Common.{None, Result, Ok, Err, List, [], ◌∷◌, ◌++◌, length, map, take, if◌then◌else◌}
-use Rattle.segment_manager.proofs.Common.{insert, remove, slice_get, slice_set, nat_lt, Table, cut_table, ScalarKind}
-use Rattle.segment_manager.proofs.Common.{U8, Refusal, OutOfRange, WrongKind, size_of, Key, Literal, value_of_literal}
-use Rattle.segment_manager.proofs.Common.{capacity_for_one, capacity_for_text, Done, Element, Value, Elements, Bytes}
-use Rattle.segment_manager.proofs.Common.{Texts, Object, Directory, live, object_at, Plan, Refuse, Reply, with}
-use Rattle.segment_manager.proofs.Common.{with_capacity, changed, effect, found_at, storage_of, values_of, with_items}
-use Rattle.segment_manager.proofs.Common.{with_table}
+use Rattle.segment_manager.proofs as own
+use own.Common.{◌≡◌, refl, ap, ◌∙◌, ℕ, ◌-◌, ℤ, pos, nat_abs, Bool, true, false, Option, Some, None, Result, Ok, Err}
+use own.Common.{List, [], ◌∷◌, ◌++◌, length, map, take, if◌then◌else◌, insert, remove, slice_get, slice_set, nat_lt}
+use own.Common.{Table, cut_table, ScalarKind, U8, Refusal, OutOfRange, WrongKind, size_of, Key, Literal}
+use own.Common.{value_of_literal, capacity_for_one, capacity_for_text, Done, Element, Value, Elements, Bytes, Texts}
+use own.Common.{Object, Directory, live, object_at, Plan, Refuse, Reply, with, with_capacity, changed, effect, found_at}
+use own.{Common.storage_of, Common.values_of, Common.with_items, Common.with_table, Steps.with-found}
 use Rattle.segment_manager.specs.Step.{text_among, text_of}
 use Rattle.seg_types.specs.Commands as asked
 use Rattle.segment_manager.specs.Step as step
-use Rattle.segment_manager.proofs.Steps.{with-found}
 
 -- an element that is read or left out, which there is where the index is of one
 abbrev pub of_slice : Option ℤ → Result ℤ Refusal
@@ -18,8 +16,7 @@ of_slice r = elim r as (λ _. Result ℤ Refusal) [ None ↦ Err OutOfRange | So
 
 -- a plan that goes by the object and its value
 by-value : (d : Directory) (key : Key) (o : Object) (v : Value) (next : Object → Value → Plan)
-    → object_at d key ≡ Some o → o.value ≡ v
-    → with (found_at d key) (λ o. next o o.value) ≡ next o v
+    → object_at d key ≡ Some o → o.value ≡ v → with (found_at d key) (λ o. next o o.value) ≡ next o v
 by-value d key o v next e f = with-found d key o (λ o. next o o.value) e ∙ ap (next o) f
 
 -- ---- vectors of numbers
@@ -28,8 +25,7 @@ module _ (d : Directory) (key : Key) (o : Object) (k : ScalarKind) (zs : List �
     (e : object_at d key ≡ Some o) (f : o.value ≡ Elements k zs t) where
   -- an element more, behind the last
   abbrev pub push_with : ℤ → Plan
-  push_with z =
-      with_capacity (size_of k) (capacity_for_one (length zs) t.capacity) t
+  push_with z = with_capacity (size_of k) (capacity_for_one (length zs) t.capacity) t
       (λ u. Reply Done (changed d o (Elements k (zs ++ z ∷ []) u)))
 
   pub push-plan : (l : Literal) (r : Result ℤ Refusal) → value_of_literal k l ≡ r
@@ -46,10 +42,8 @@ module _ (d : Directory) (key : Key) (o : Object) (k : ScalarKind) (zs : List �
 
   -- an element more, among the others
   abbrev pub insert_with : ℕ → Bool → ℤ → Plan
-  insert_with i outside z =
-      if outside then Refuse OutOfRange
-      else with_capacity (size_of k) (capacity_for_one (length zs) t.capacity) t
-      (λ u. Reply Done (changed d o (Elements k (insert zs i z) u)))
+  insert_with i outside z = if outside then Refuse OutOfRange else with_capacity (size_of k)
+      (capacity_for_one (length zs) t.capacity) t (λ u. Reply Done (changed d o (Elements k (insert zs i z) u)))
 
   pub insert-plan : (i : ℕ) (l : Literal) (r : Result ℤ Refusal) (b : Bool) → value_of_literal k l ≡ r
       → nat_lt (length zs) i ≡ b → effect d (asked.Insert key i l) ≡ with r (insert_with i b)
@@ -96,16 +90,14 @@ module _ (d : Directory) (key : Key) (o : Object) (k : ScalarKind) (zs : List �
 -- ---- texts
 
 abbrev append_with : Directory → Object → List ℕ → List ℕ × Table → Plan
-append_with d o more (bs, t) =
-    with_capacity 1 (capacity_for_text (length (bs ++ more)) t.capacity) t
+append_with d o more (bs, t) = with_capacity 1 (capacity_for_text (length (bs ++ more)) t.capacity) t
     (λ u. Reply Done (changed d o (Bytes (bs ++ more) u)))
 
 module _ (d : Directory) (key : Key) (o : Object) (bs : List ℕ) (t : Table) (e : object_at d key ≡ Some o)
     (f : o.value ≡ Bytes bs t) where
   -- more bytes behind the last
-  pub append-plan : (more : List ℕ) → effect d (asked.Append key more)
-      ≡ with_capacity 1 (capacity_for_text (length (bs ++ more)) t.capacity) t
-      (λ u. Reply Done (changed d o (Bytes (bs ++ more) u)))
+  pub append-plan : (more : List ℕ) → effect d (asked.Append key more) ≡ with_capacity 1
+      (capacity_for_text (length (bs ++ more)) t.capacity) t (λ u. Reply Done (changed d o (Bytes (bs ++ more) u)))
   append-plan more = by-value d key o _ (λ o v. with (text_of v) (append_with d o more)) e f
 
   -- others in the place of all
@@ -196,6 +188,5 @@ module _ (d : Directory) (key : Key) (o : Object) (e : object_at d key ≡ Some 
 -- it is no text
 pub append-other : (d : Directory) (key : Key) (o : Object) (more : List ℕ) (r : Refusal) → object_at d key ≡ Some o
     → text_of o.value ≡ Err r → effect d (asked.Append key more) ≡ Refuse r
-append-other d key o more r e f =
-    with-found d key o (λ o. with (text_of o.value) (append_with d o more)) e
+append-other d key o more r e f = with-found d key o (λ o. with (text_of o.value) (append_with d o more)) e
     ∙ ap (λ q. with q (append_with d o more)) f

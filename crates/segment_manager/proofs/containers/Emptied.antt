@@ -1,13 +1,12 @@
 -- The directory with an object's value emptied: the same but for that object, which has one block then.
-use Rattle.segment_manager.proofs.Common.{◌≡◌, ◌≢◌, refl, sym, ap, subst, ◌∙◌, Some, List, [], ◌∷◌, cond, IsTrue, find}
-use Rattle.segment_manager.proofs.Common.{eq-eqb, ne_eqb, handle, Scalar, ScalarKind, ByHandle, Index, Named, Unique}
-use Rattle.segment_manager.proofs.Common.{emptied, Value, Numbers, Object, Directory, count_of, has_key, is_good_value}
-use Rattle.segment_manager.proofs.Common.{kind_of, remove_object, replace_object, value_extents, value_len}
-use Rattle.segment_manager.proofs.Common.{without_object, entries_of, changed, by_name, by_kind, NamedClass}
+use Rattle.segment_manager.proofs.Common.{◌≡◌, ByHandle, emptied, Numbers, count_of, has_key, kind_of, changed, by_name}
+use Rattle.segment_manager.proofs.Common.{◌≢◌, refl, sym, ap, ◌∙◌, Some, List, [], ◌∷◌, cond, find, Value}
+use Rattle.segment_manager.proofs.Common.{subst, eq-eqb, ne_eqb, handle, Scalar, Index, Named, Unique, Object, by_kind}
+use Rattle.segment_manager.proofs.Common.{IsTrue, ScalarKind, Directory, value_len, entries_of, NamedClass, UniqueClass}
+use Rattle.segment_manager.proofs.Common.{is_good_value, remove_object, replace_object, value_extents, without_object}
 use Rattle.segment_manager.proofs.Live.{IsFound, IsIn, Place, behind, found-nothing, found-place, here, remove-behind}
-use Rattle.segment_manager.proofs.{Common.UniqueClass, objects.Rewritten.with_value, Faces.ordered-changed}
-use Rattle.segment_manager.proofs.{Faces.by_name-face, Faces.by_kind-face, Live.remove-here, Live.replace-behind}
-use Rattle.segment_manager.proofs.{Live.replace-here}
+use Rattle.segment_manager.proofs.{Live.remove-here, Live.replace-here, Faces.by_name-face, Faces.by_kind-face}
+use Rattle.segment_manager.proofs.{Live.replace-behind, objects.Rewritten.with_value, Faces.ordered-changed}
 
 -- ---- the value
 
@@ -31,10 +30,9 @@ emptied-numbers k v e = absurd (cc)
 -- ---- the objects, one of which has another value
 
 -- what is so where it comes first, and with one more in front of those among which it stands, is so wherever it stands
-by-place : (o : Object) (P : List Object → Type 0)
-    → ((p : Object) (ps : List Object) → handle o.extent ≡ handle p.extent → p ≡ o → P (p ∷ ps))
-    → ((p : Object) (ps : List Object) → handle o.extent ≢ handle p.extent → P ps → P (p ∷ ps))
-    → (os : List Object) → IsFound (handle o.extent) os o → P os
+by-place : (o : Object) (P : List Object → Type 0) → ((p : Object) (ps : List Object) → handle o.extent ≡ handle
+    p.extent → p ≡ o → P (p ∷ ps)) → ((p : Object) (ps : List Object) → handle o.extent ≢ handle p.extent → P ps
+    → P (p ∷ ps)) → (os : List Object) → IsFound (handle o.extent) os o → P os
 by-place o P first more [] f = absurd (found-nothing (handle o.extent) o f)
 by-place o P first more (p ∷ ps) f = placed (found-place (handle o.extent) p ps o f) (by-place o P first more ps)
   where
@@ -46,40 +44,31 @@ module _ (o : Object) (v : Value) where
   -- it stands among them
   found-replaced : (os : List Object) → IsFound (handle o.extent) os o
       → IsFound (handle o.extent) (replace_object (with_value o v) os) (with_value o v)
-  found-replaced =
-      by-place o (λ os. IsFound (handle o.extent) (replace_object (with_value o v) os) (with_value o v))
+  found-replaced = by-place o (λ os. IsFound (handle o.extent) (replace_object (with_value o v) os) (with_value o v))
       (λ p ps e same.
       subst (λ os. IsFound (handle o.extent) os (with_value o v)) (sym (replace-here (with_value o v) p ps e)) (record {
         is = ap (λ b. cond b (Some (with_value o v)) (find (has_key (ByHandle (handle o.extent))) ps))
             (eq-eqb (handle o.extent) (handle o.extent) refl);
-      }))
-      (λ p ps n k.
-      subst (λ os. IsFound (handle o.extent) os (with_value o v)) (sym (replace-behind (with_value o v) p ps n))
-      (record {
-        is =
-            ap (λ b. cond b (Some p) (find (has_key (ByHandle (handle o.extent))) (replace_object (with_value o v) ps)))
-            (ne_eqb (handle o.extent) (handle p.extent) n) ∙ k.is;
+      })) (λ p ps n k. subst (λ os. IsFound (handle o.extent) os (with_value o v))
+      (sym (replace-behind (with_value o v) p ps n)) (record {
+        is = ap (λ b. cond b (Some p) (find (has_key (ByHandle (handle o.extent))) (replace_object (with_value o v)
+            ps))) (ne_eqb (handle o.extent) (handle p.extent) n) ∙ k.is;
       }))
 
   -- the others are the same
   others-replaced : (os : List Object) → IsFound (handle o.extent) os o
       → remove_object (handle o.extent) (replace_object (with_value o v) os) ≡ remove_object (handle o.extent) os
-  others-replaced =
-      by-place o
-      (λ os. remove_object (handle o.extent) (replace_object (with_value o v) os) ≡ remove_object (handle o.extent) os)
-      (λ p ps e same.
-      ap (remove_object (handle o.extent)) (replace-here (with_value o v) p ps e)
-      ∙ remove-here (handle o.extent) (with_value o v) ps refl ∙ sym (remove-here (handle o.extent) p ps e))
-      (λ p ps n k.
-      ap (remove_object (handle o.extent)) (replace-behind (with_value o v) p ps n)
-      ∙ remove-behind (handle o.extent) p (replace_object (with_value o v) ps) n
+  others-replaced = by-place o (λ os. remove_object (handle o.extent) (replace_object (with_value o v) os)
+      ≡ remove_object (handle o.extent) os) (λ p ps e same. ap (remove_object (handle o.extent)) (replace-here
+      (with_value o v) p ps e) ∙ remove-here (handle o.extent) (with_value o v) ps refl
+      ∙ sym (remove-here (handle o.extent) p ps e)) (λ p ps n k. ap (remove_object (handle o.extent)) (replace-behind
+      (with_value o v) p ps n) ∙ remove-behind (handle o.extent) p (replace_object (with_value o v) ps) n
       ∙ ap (λ os. p ∷ os) k ∙ sym (remove-behind (handle o.extent) p ps n))
 
 -- with the value that it had all are the same
 itself-replaced : (o : Object) (os : List Object) → IsFound (handle o.extent) os o → replace_object o os ≡ os
-itself-replaced o =
-    by-place o (λ os. replace_object o os ≡ os) (λ p ps e same. replace-here o p ps e ∙ ap (λ q. q ∷ ps) (sym same))
-    (λ p ps n k. replace-behind o p ps n ∙ ap (λ os. p ∷ os) k)
+itself-replaced o = by-place o (λ os. replace_object o os ≡ os) (λ p ps e same. replace-here o p ps e
+    ∙ ap (λ q. q ∷ ps) (sym same)) (λ p ps n k. replace-behind o p ps n ∙ ap (λ os. p ∷ os) k)
 
 -- ---- the directory
 
@@ -96,9 +85,7 @@ module _ (d : Directory) (o : Object) (f : IsIn d o) where
   -- the indexes are the same
   pub changed-entries : (i : Index) (v : Value) → kind_of v ≡ kind_of o.value
       → entries_of i (changed d o v) ≡ entries_of i d
-  changed-entries Named v e =
-      (ordered-changed NamedClass by_name by_name-face d o (with_value o v) f
+  changed-entries Named v e = (ordered-changed NamedClass by_name by_name-face d o (with_value o v) f
       (record { extent = refl; name = refl; class = refl; kind = e })).entries
-  changed-entries Unique v e =
-      (ordered-changed UniqueClass by_kind by_kind-face d o (with_value o v) f
+  changed-entries Unique v e = (ordered-changed UniqueClass by_kind by_kind-face d o (with_value o v) f
       (record { extent = refl; name = refl; class = refl; kind = e })).entries

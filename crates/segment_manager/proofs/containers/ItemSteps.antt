@@ -1,20 +1,17 @@
 -- A call on a vector of numbers or on a text is one step: what the calls of seg_vector ensure of the elements at its
 -- place comes to the directory.
-use Rattle.segment_manager.proofs.Common.{◌&&◌, ◌<◌, Bool, Err, IsTrue, List, None, Ok, Result, Some, ap, false, length}
-use Rattle.segment_manager.proofs.Common.{subst, sym, true, ℕ, ℤ, ◌∙◌, ◌≡◌, ◌≤◌, eqb-true, same_Some, MatchResult}
-use Rattle.segment_manager.proofs.Common.{option_to_list, current, Cut, IsExchanged, live_of, Table, Command}
-use Rattle.segment_manager.proofs.Common.{is_changing, code_of, kind_of_code, same_kind, Key, Kind, Vector, ScalarKind}
-use Rattle.segment_manager.proofs.Common.{Refusal, NoSpace, OutOfRange, Stands, place_at, grown_table, IsOutside}
-use Rattle.segment_manager.proofs.Common.{IsWithoutSpace, Place, Answer, Done, Refused, Contents, IsRefilled}
-use Rattle.segment_manager.proofs.Common.{container_at, container_place, contents_of, has_values, Denotes, Directory}
-use Rattle.segment_manager.proofs.Common.{Elements, Object, Value, is_good_value, kind_of, object_at, live, Refuse}
-use Rattle.segment_manager.proofs.Common.{Reply, met, perform, with_capacity, StandsAt, Answers, IsSegment}
-use Rattle.segment_manager.proofs.Common.{IsStepOfKind, StandsFor, State, changed, effect, is_read_only, plan}
-use Rattle.segment_manager.proofs.Steps.{by_no_change_of_kind, open-writing, step_of_kind-found}
-use Rattle.segment_manager.proofs.containers.Refilled.{HoldsAt, Refill, holds-at, room-asked, refill-steps_of_kind}
-use Rattle.segment_manager.proofs.{Common.StepsSafely, containers.Contained.contents-fit}
-use Rattle.segment_manager.proofs.{containers.Contained.contents-stand, containers.Safely.done-so}
-use Rattle.segment_manager.proofs.{containers.Safely.stays, Codes.code-read, Frame.object-roomy, objects.Here.standing}
+use Rattle.segment_manager.proofs as own
+use own.Common.{◌&&◌, ◌<◌, Bool, Err, IsTrue, List, None, Ok, Result, Some, ap, false, length, subst, sym, true, ℕ, ℤ}
+use own.Common.{◌∙◌, ◌≡◌, ◌≤◌, eqb-true, same_Some, MatchResult, option_to_list, current, Cut, IsExchanged, live_of}
+use own.Common.{Table, Command, is_changing, code_of, kind_of_code, same_kind, Key, Kind, Vector, ScalarKind, Refusal}
+use own.Common.{NoSpace, OutOfRange, Stands, place_at, grown_table, IsOutside, IsWithoutSpace, Place, Answer, Done}
+use own.Common.{Refused, Contents, IsRefilled, container_at, container_place, contents_of, has_values, Denotes}
+use own.Common.{Directory, Elements, Object, Value, is_good_value, kind_of, object_at, live, Refuse, Reply, met}
+use own.Common.{perform, with_capacity, StandsAt, Answers, IsSegment, IsStepOfKind, StandsFor, State, changed, effect}
+use own.containers.Refilled.{HoldsAt, Refill, holds-at, room-asked, refill-steps_of_kind}
+use own.{Common.is_read_only, Common.plan, Common.StepsSafely, Steps.by_no_change_of_kind, Steps.open-writing}
+use own.{Steps.step_of_kind-found, containers.Contained.contents-fit, containers.Contained.contents-stand}
+use own.{containers.Safely.done-so, containers.Safely.stays, Codes.code-read, Frame.object-roomy, objects.Here.standing}
 
 -- ---- what is of the kind of a vector
 
@@ -81,8 +78,7 @@ module _ {A : Type 0} (L : Listing A) where
   pub holds-items : (b : List ℕ) (d : Directory) (key : Key) (p : Place) → Denotes current b d
       → Ok p ≡ container_at d key L.kind → HoldsItems L b d key p
   holds-items b d key p den e =
-      let h : HoldsAt d key L.kind p = holds-at d key L.kind p e in
-      let o : Object = h.object in
+      let h : HoldsAt d key L.kind p = holds-at d key L.kind p e in let o : Object = h.object in
       let s : StandsAt b _ o = standing b d key o den h.is in
       let good : IsTrue (is_good_value o.value) = (object-roomy current o s.good).value in
       let v : (xs : List A) × ((t : Table) × (o.value ≡ L.value xs t)) = L.only o.value h.same good in
@@ -103,16 +99,14 @@ module _ {A : Type 0} (L : Listing A) where
 -- ---- one directory
 
 module _ {A : Type 0} {L : Listing A} (old new : Cut) {d : Directory} {key : Key} {p : Place}
-    (den : Denotes current old.bytes d)
-    (h : HoldsItems L old.bytes d key p) where
+    (den : Denotes current old.bytes d) (h : HoldsItems L old.bytes d key p) where
   -- the directory with other elements and places in the object
   abbrev pub with_elements : List A → Table → Directory
   with_elements xs t = changed d h.object (L.value xs t)
 
   -- the object has others now
-  items-refill : (xs : List A) (u : Table) (c : Command) (answer : Answer)
-      → perform d (live d) (effect d c) ≡ (answer, with_elements xs u) → ListedNow L old new p h.table xs u
-      → Refill old new d key c answer
+  items-refill : (xs : List A) (u : Table) (c : Command) (answer : Answer) → perform d (live d) (effect d c)
+      ≡ (answer, with_elements xs u) → ListedNow L old new p h.table xs u → Refill old new d key c answer
   items-refill xs u c answer outcome now = record {
     object = h.object;
     is = h.is;
@@ -129,19 +123,15 @@ module _ {A : Type 0} {L : Listing A} (old new : Cut) {d : Directory} {key : Key
   }
 
   -- in the places that there were, or fewer
-  pub items-now : (xs : List A) (u : Table) (c : Command) (answer : Answer)
-      → effect d c ≡ Reply answer (with_elements xs u) → ListedNow L old new p h.table xs u
-      → Refill old new d key c answer
+  pub items-now : (xs : List A) (u : Table) (c : Command) (answer : Answer) → effect d c ≡ Reply answer (with_elements
+      xs u) → ListedNow L old new p h.table xs u → Refill old new d key c answer
   items-now xs u c answer e now = items-refill xs u c answer (ap (perform d (live d)) e) now
 
   -- in n places, or more
-  pub items-grown : (xs : List A) (n : ℕ) (c : Command) (answer : Answer)
-      → effect d c ≡ with_capacity L.each n h.table (λ u. Reply answer (with_elements xs u))
-      → ListedGrown L old new p h.table n xs → Refill old new d key c answer
-  items-grown xs n c answer e r =
-      items-refill xs r.table c answer
-      (room-asked current old.bytes d c L.each n h.table (Some r.table)
-      (λ u. Reply answer (with_elements xs u)) den e r.grown) r.now
+  pub items-grown : (xs : List A) (n : ℕ) (c : Command) (answer : Answer) → effect d c ≡ with_capacity L.each n h.table
+      (λ u. Reply answer (with_elements xs u)) → ListedGrown L old new p h.table n xs → Refill old new d key c answer
+  items-grown xs n c answer e r = items-refill xs r.table c answer (room-asked current old.bytes d c L.each n h.table
+      (Some r.table) (λ u. Reply answer (with_elements xs u)) den e r.grown) r.now
 
 -- ---- all directories
 
@@ -168,9 +158,7 @@ module _ {A : Type 0} (L : Listing A) (s : State) (key : Key) (p : Place) (b : I
   pub items-stay : (c : Command) (answer : Answer) → (is_read_only s.mode && is_changing c) ≡ false
       → ((d : Directory) → Denotes current s.cut.bytes d → Held d → perform d (live d) (effect d c) ≡ (answer, d))
       → IsStepOfKind s s key L.kind c answer
-  items-stay c answer may each =
-      by_no_change_of_kind s key L.kind c answer
-      (λ d l.
+  items-stay c answer may each = by_no_change_of_kind s key L.kind c answer (λ d l.
       let h : HoldsAt d key L.kind p = holds-at d key L.kind p (found.answers d l) in
       step_of_kind-found s.mode d key L.kind c h.object may h.is h.same ∙ each d l.denotes (found-items d l))
 
@@ -178,8 +166,7 @@ module _ {A : Type 0} (L : Listing A) (s : State) (key : Key) (p : Place) (b : I
     -- it is refused, and nothing has changed
     pub items-refused : (c : Command) (e why : Refusal) → e ≡ why → new ≡ s.cut
         → ((d : Directory) → Denotes current s.cut.bytes d → Held d
-        → perform d (live d) (effect d c) ≡ (Refused why, d))
-        → StepsSafely s new key L.kind c (Err e)
+        → perform d (live d) (effect d c) ≡ (Refused why, d)) → StepsSafely s new key L.kind c (Err e)
     items-refused c e why is same each =
         stays s new key L.kind c e why is same (items-stay c (Refused why) (open-writing s.mode c writing) each)
 
@@ -188,38 +175,27 @@ module _ {A : Type 0} (L : Listing A) (s : State) (key : Key) (p : Place) (b : I
         → effect d c ≡ with_capacity L.each n h.table (λ u. Reply Done (changed d h.object (L.value xs u)))
         → grown_table (live_of s.cut.bytes) L.each n h.table ≡ None
         → perform d (live d) (effect d c) ≡ (Refused NoSpace, d)
-    items-full c n xs d den h e none =
-        room-asked current s.cut.bytes d c L.each n h.table None
+    items-full c n xs d den h e none = room-asked current s.cut.bytes d c L.each n h.table None
         (λ u. Reply Done (changed d h.object (L.value xs u))) den e none
 
     -- a call on the element at an index, in the places that there are
     pub changes-safely : (c : Command) (i : ℕ) (ys : List A → List A) (r : Result (Unit {0}) Refusal)
-        → ((d : Directory) (h : Held d) → i < length h.items
-        → effect d c ≡ Reply Done (changed d h.object (L.value (ys h.items) h.table)))
-        → ((d : Directory) (h : Held d) → length h.items ≤ i → effect d c ≡ Refuse OutOfRange)
-        → ((d : Directory) (h : Held d)
-        → MatchResult r (λ u. (i < length h.items) × ListedNow L s.cut new p h.table (ys h.items) h.table)
-        (IsOutside s.cut new (length h.items) i))
-        → StepsSafely s new key L.kind c r
-    changes-safely c i ys (Ok u) met past each =
-        done-so (items-steps new c Done writing
+        → ((d : Directory) (h : Held d) → i < length h.items → effect d c ≡ Reply Done (changed d h.object
+        (L.value (ys h.items) h.table))) → ((d : Directory) (h : Held d) → length h.items ≤ i → effect d c ≡ Refuse
+        OutOfRange) → ((d : Directory) (h : Held d) → MatchResult r (λ u. (i < length h.items) × ListedNow L s.cut new p
+        h.table (ys h.items) h.table) (IsOutside s.cut new (length h.items) i)) → StepsSafely s new key L.kind c r
+    changes-safely c i ys (Ok u) met past each = done-so (items-steps new c Done writing
         (λ d den h. items-now s.cut new den h (ys h.items) h.table c Done (met d h (each d h).0) (each d h).1))
-    changes-safely c i ys (Err e) met past each =
-        items-refused c e OutOfRange (each b.0 some-items).refusal (each b.0 some-items).same
-        (λ d den h. ap (perform d (live d)) (past d h (each d h).outside))
+    changes-safely c i ys (Err e) met past each = items-refused c e OutOfRange (each b.0 some-items).refusal
+        (each b.0 some-items).same (λ d den h. ap (perform d (live d)) (past d h (each d h).outside))
 
     -- a call that wants places
     pub grows-safely : (c : Command) (n : List A → Table → ℕ) (ys : List A → List A) (r : Result (Unit {0}) Refusal)
-        → ((d : Directory) (h : Held d)
-        → effect d c
-        ≡ with_capacity L.each (n h.items h.table) h.table
-        (λ u. Reply Done (changed d h.object (L.value (ys h.items) u))))
-        → ((d : Directory) (h : Held d)
+        → ((d : Directory) (h : Held d) → effect d c ≡ with_capacity L.each (n h.items h.table) h.table
+        (λ u. Reply Done (changed d h.object (L.value (ys h.items) u)))) → ((d : Directory) (h : Held d)
         → MatchResult r (λ u. ListedGrown L s.cut new p h.table (n h.items h.table) (ys h.items))
-        (IsWithoutSpace s.cut new L.each (n h.items h.table) h.table))
-        → StepsSafely s new key L.kind c r
-    grows-safely c n ys (Ok u) plan each =
-        done-so (items-steps new c Done writing
+        (IsWithoutSpace s.cut new L.each (n h.items h.table) h.table)) → StepsSafely s new key L.kind c r
+    grows-safely c n ys (Ok u) plan each = done-so (items-steps new c Done writing
         (λ d den h. items-grown s.cut new den h (ys h.items) (n h.items h.table) c Done (plan d h) (each d h)))
     grows-safely c n ys (Err e) plan each =
         items-refused c e NoSpace (each b.0 some-items).refusal (each b.0 some-items).same

@@ -1,20 +1,18 @@
 -- What calls on vectors, strings and maps leave to the last byte.
-use Rattle.segment_manager.proofs.Common.{◌≡◌, sym, ap, subst, ◌∙◌, ℕ, ◌≤◌, ℤ, Bool, Option, Some, None, Result, Ok}
-use Rattle.segment_manager.proofs.Common.{Err, List, [], MatchOption, int_lt, none-some, Cut, ScalarKind, StringsKind}
-use Rattle.segment_manager.proofs.Common.{Plain, Refusal, NotFound, Key, MapPlace, Erases, pair_at, NumberPair, Place}
-use Rattle.segment_manager.proofs.Common.{container_at, sizes_of, Object, Directory, object_at, HasPlaces, KeepsWhere}
-use Rattle.segment_manager.proofs.Common.{map_at, Answers, State, StandsFor, pairs_of, Change, HasEnough, Reserve}
-use Rattle.segment_manager.proofs.{containers.MapCalls.HoldsPairs, containers.MapCalls.holds-pairs}
-use Rattle.segment_manager.proofs.{containers.TextsHeld.HoldsTexts, containers.TextsHeld.holds-texts}
-use Rattle.segment_manager.proofs.{containers.PairNumbers.IsScalarOf, containers.PairNumbers.erases-numbers}
-use Rattle.segment_manager.proofs.{containers.ToChange.seen-found}
+use Rattle.segment_manager.proofs as own
+use own.Common.{◌≡◌, sym, ap, subst, ◌∙◌, ℕ, ◌≤◌, ℤ, Bool, Option, Some, None, Result, Ok, Err, List, [], MatchOption}
+use own.Common.{int_lt, none-some, Cut, ScalarKind, StringsKind, Plain, Refusal, NotFound, Key, MapPlace, Erases}
+use own.Common.{pair_at, NumberPair, Place, container_at, sizes_of, Object, Directory, object_at, HasPlaces, KeepsWhere}
+use own.Common.{map_at, Answers, State, StandsFor, pairs_of, Change, HasEnough, Reserve}
+use own.containers.TextsHeld.{HoldsTexts, holds-texts}
+use own.containers.PairNumbers.{IsScalarOf, erases-numbers}
+use own.{containers.MapCalls.HoldsPairs, containers.MapCalls.holds-pairs, containers.ToChange.seen-found}
 use Rattle.segment_manager.specs.{containers.Stored.ChangesTexts, Keeping.LacksPair}
 
 -- the window is as it was, and so is the segment
 pub keeps-cut : (s t : State) (view : s ≡ t) (new : Cut) (P : Directory → Type 0)
     → ((d : Directory) → StandsFor s.cut.bytes d → P d → new ≡ s.cut) → KeepsWhere t (record s { cut = new }) P
-keeps-cut s t view new P each =
-    subst (λ (u : State). KeepsWhere u (record s { cut = new }) P) view
+keeps-cut s t view new P each = subst (λ (u : State). KeepsWhere u (record s { cut = new }) P) view
     (λ d l has. let e = each d l has in λ j. record s { cut = e j })
 
 -- ---- places
@@ -27,17 +25,13 @@ places_in (Err r) = 0
 pub enough-places : (d : Directory) (key : Key) (o : Object) (n len capacity : ℕ) → object_at d key ≡ Some o
     → sizes_of o.value ≡ Ok (len, capacity) → HasPlaces key n d → n ≤ capacity
 enough-places d key o n len capacity is sizes has =
-    let same : Ok (has.len, has.capacity) ≡ Ok (len, capacity) =
-    sym has.says
-    ∙ ap
-    (λ (r : Option Object). elim r as (λ _. Result (ℕ × ℕ) Refusal)
-    [ None ↦ Err NotFound | Some p ↦ sizes_of p.value ]) is ∙ sizes in
+    let same : Ok (has.len, has.capacity) ≡ Ok (len, capacity) = sym has.says ∙ ap (λ (r : Option Object). elim r as
+    (λ _. Result (ℕ × ℕ) Refusal) [ None ↦ Err NotFound | Some p ↦ sizes_of p.value ]) is ∙ sizes in
     subst (λ m. n ≤ m) (ap places_in same) has.enough
 
-pub texts-kept : {s t : State} (view : s ≡ t) (key : Key) {p : Place}
-    → Answers t (λ d. container_at d key StringsKind) (Ok p) → (new : Cut) (change : Change)
-    (r : Result (Unit {0}) Refusal) → ChangesTexts change s.cut new p r → KeepsWhere t (record s { cut = new })
-    (HasEnough change key)
+pub texts-kept : {s t : State} (view : s ≡ t) (key : Key) {p : Place} → Answers t (λ d. container_at d key StringsKind)
+    (Ok p) → (new : Cut) (change : Change) (r : Result (Unit {0}) Refusal) → ChangesTexts change s.cut new p r
+    → KeepsWhere t (record s { cut = new }) (HasEnough change key)
 texts-kept {s} {t} view key {p} found new change r each =
     keeps-cut s t view new (HasEnough change key) (λ d l has. same change each d l has)
   where
@@ -57,14 +51,12 @@ none-erased P Q None e m = m
 none-erased P Q (Some q) e m = absurd (none-some q (sym e))
 
 pub map-kept : {K V : Type 0} {k v : ScalarKind} {kp : Plain K} {vp : Plain V} {kw : K → ℤ} {vw : V → ℤ}
-    → IsScalarOf k kp kw → IsScalarOf v vp vw
-    → (s t : State) (view : s ≡ t) (key : Key) (p q : MapPlace) → q ≡ p → Answers t (λ d. map_at d key k v) (Ok p)
-    → (new : Cut) (x : K) (r : Bool) → Erases kp vp s.cut new q.handle q.at x r
-    → KeepsWhere t (record s { cut = new }) (LacksPair key (kw x))
+    → IsScalarOf k kp kw → IsScalarOf v vp vw → (s t : State) (view : s ≡ t) (key : Key) (p q : MapPlace) → q ≡ p
+    → Answers t (λ d. map_at d key k v) (Ok p) → (new : Cut) (x : K) (r : Bool)
+    → Erases kp vp s.cut new q.handle q.at x r → KeepsWhere t (record s { cut = new }) (LacksPair key (kw x))
 map-kept {k = k} {v = v} {kp = kp} {vp = vp} {kw = kw} kl vl s t view key p q same found new x r each =
-    let there : Answers s (λ d. map_at d key k v) (Ok q) =
-    subst (λ (q : MapPlace). Answers s (λ d. map_at d key k v) (Ok q)) (sym same)
-    (subst (λ (u : State). Answers u (λ d. map_at d key k v) (Ok p)) (sym view) found) in
+    let there : Answers s (λ d. map_at d key k v) (Ok q) = subst (λ (q : MapPlace). Answers s (λ d. map_at d key k v)
+    (Ok q)) (sym same) (subst (λ (u : State). Answers u (λ d. map_at d key k v) (Ok p)) (sym view) found) in
     keeps-cut s t view new (LacksPair key (kw x)) (λ d l lacks.
     let h : HoldsPairs s.cut.bytes d key k v q = holds-pairs s.cut.bytes d key k v q l.denotes (there.answers d l) in
     let pairs : (elim (object_at d key) as (λ _. List NumberPair) [ None ↦ [] | Some o ↦ pairs_of o.value ]) ≡ h.pairs =

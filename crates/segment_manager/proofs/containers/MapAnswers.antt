@@ -1,18 +1,16 @@
 -- What the calls of seg_map ensure of the map at the place that was found, as the steps of the calls on the object's
 -- map.
-use Rattle.segment_manager.proofs.Common.{◌≡◌, sym, subst, ◌∙◌, ℤ, Bool, true, false, Option, Result, Ok, option_map}
-use Rattle.segment_manager.proofs.Common.{Cut, Map, ScalarKind, Plain, Refusal, is_value, Key, Lookup, Put, Remove}
-use Rattle.segment_manager.proofs.Common.{literal_of, Erases, Puts, FindsItem, FindsItemBefore, FindsLastItem}
-use Rattle.segment_manager.proofs.Common.{FindsValue, IsSomeMap, map_at, numbers_in, pair_at_end, told_of_map}
-use Rattle.segment_manager.proofs.Common.{value_or_absent, Answers, IsReplyOfKind, IsSegment, State, is_read_only, List}
-use Rattle.segment_manager.proofs.Common.{NumberPair, int_lt, item_of, truth_answer}
+use Rattle.segment_manager.proofs as own
+use own.Common.{◌≡◌, sym, subst, ◌∙◌, ℤ, Bool, true, false, Option, Result, Ok, option_map, Cut, Map, ScalarKind, Plain}
+use own.Common.{Refusal, is_value, Key, Lookup, Put, Remove, literal_of, Erases, Puts, FindsItem, FindsItemBefore}
+use own.Common.{FindsLastItem, FindsValue, IsSomeMap, map_at, numbers_in, pair_at_end, told_of_map, value_or_absent}
+use own.Common.{Answers, IsReplyOfKind, IsSegment, State, is_read_only, List, NumberPair, int_lt, item_of, truth_answer}
+use own.containers.MapCalls.{TellsSafely, map-erased, map-got, map-put, map-told, put_result, stands-map}
+use own.containers.PairNumbers.{IsScalarOf, erases-numbers, finds-back, finds-item, finds-last, finds-value}
+use own.containers.PairNumbers.{puts-numbers, some-map}
+use own.containers.Safely.{Answered, answered}
 use Rattle.seg_map.specs.{declared.places.Place.Place, Places.last_pair}
 use Rattle.segment_manager.specs.{containers.Maps.IsPairs, containers.Walks.pair_past}
-use Rattle.segment_manager.proofs.containers.MapCalls.{TellsSafely, map-erased, map-got, map-put, map-told, put_result}
-use Rattle.segment_manager.proofs.containers.MapCalls.{stands-map}
-use Rattle.segment_manager.proofs.containers.PairNumbers.{IsScalarOf, erases-numbers, finds-back, finds-item}
-use Rattle.segment_manager.proofs.containers.PairNumbers.{finds-last, finds-value, puts-numbers, some-map}
-use Rattle.segment_manager.proofs.containers.Safely.{Answered, answered}
 
 -- a key that is a value is a number of its kind
 as-value : {T : Type 0} {j : ScalarKind} {tp : Plain T} {w : T → ℤ} → IsScalarOf j tp w → (x : T) → tp.is_value x ≡ true
@@ -20,12 +18,10 @@ as-value : {T : Type 0} {j : ScalarKind} {tp : Plain T} {w : T → ℤ} → IsSc
 as-value l x e = sym (l.values x) ∙ e
 
 module _ {K V : Type 0} {k v : ScalarKind} {kp : Plain K} {vp : Plain V} {kw : K → ℤ} {vw : V → ℤ}
-    (kl : IsScalarOf k kp kw) (vl : IsScalarOf v vp vw)
-    {s t : State} (view : s ≡ t) (key : Key) {p q : Place} (same : q ≡ p) (b : IsSegment s.cut.bytes)
-    (found : Answers t (λ d. map_at d key k v) (Ok p)) where
+    (kl : IsScalarOf k kp kw) (vl : IsScalarOf v vp vw) {s t : State} (view : s ≡ t) (key : Key) {p q : Place}
+    (same : q ≡ p) (b : IsSegment s.cut.bytes) (found : Answers t (λ d. map_at d key k v) (Ok p)) where
   found-there : Answers s (λ d. map_at d key k v) (Ok q)
-  found-there =
-      subst (λ (r : Place). Answers s (λ d. map_at d key k v) (Ok r)) (sym same)
+  found-there = subst (λ (r : Place). Answers s (λ d. map_at d key k v) (Ok r)) (sym same)
       (subst (λ (u : State). Answers u (λ d. map_at d key k v) (Ok p)) (sym view) found)
 
   -- some map of the types stands there
@@ -36,31 +32,25 @@ module _ {K V : Type 0} {k v : ScalarKind} {kp : Plain K} {vp : Plain V} {kw : K
 
   pub got-there : (x : K) (r : Option V) → kp.is_value x ≡ true → FindsValue kp vp s.cut.bytes q.handle q.at x r
       → IsReplyOfKind t key (Map k v) (Lookup key (literal_of k (kw x))) (value_or_absent v (option_map vw r))
-  got-there x r good each =
-      subst (λ (u : State). IsReplyOfKind u key (Map k v) (Lookup key (literal_of k (kw x)))
-      (value_or_absent v (option_map vw r))) view
-      (map-got s key k v q b found-there (kw x) (option_map vw r) (as-value kl x good)
-      (finds-value kl vl s.cut.bytes q.handle q.at x r each))
+  got-there x r good each = subst (λ (u : State). IsReplyOfKind u key (Map k v) (Lookup key (literal_of k (kw x)))
+      (value_or_absent v (option_map vw r))) view (map-got s key k v q b found-there (kw x) (option_map vw r)
+      (as-value kl x good) (finds-value kl vl s.cut.bytes q.handle q.at x r each))
 
   told-there : (say : List NumberPair → Option (ℤ × ℤ)) (r : Option (K × V))
       → ((ps : List NumberPair) → IsPairs k v s.cut.bytes q ps → numbers_in kw vw r ≡ say ps)
       → Answers t (λ d. told_of_map d key k v say) (Ok (numbers_in kw vw r))
-  told-there say r each =
-      subst (λ (u : State). Answers u (λ d. told_of_map d key k v say) (Ok (numbers_in kw vw r))) view
-      (map-told s key k v q b found-there say (numbers_in kw vw r) each)
+  told-there say r each = subst (λ (u : State). Answers u (λ d. told_of_map d key k v say) (Ok (numbers_in kw vw r)))
+      view (map-told s key k v q b found-there say (numbers_in kw vw r) each)
 
-  pub past-there : (above said : Bool) → said ≡ above → (x : K) (r : Option (K × V))
-      → FindsItem kp vp s.cut.bytes q.handle q.at above x r
-      → Answers t (λ d. told_of_map d key k v (pair_past said (kw x))) (Ok (numbers_in kw vw r))
+  pub past-there : (above said : Bool) → said ≡ above → (x : K) (r : Option (K × V)) → FindsItem kp vp s.cut.bytes
+      q.handle q.at above x r → Answers t (λ d. told_of_map d key k v (pair_past said (kw x))) (Ok (numbers_in kw vw r))
   past-there above said is x r each =
       subst (λ (b : Bool). Answers t (λ d. told_of_map d key k v (pair_past b (kw x))) (Ok (numbers_in kw vw r)))
-      (sym is)
-      (told-there (pair_past above (kw x)) r (finds-item kl vl s.cut.bytes q.handle q.at above x r each))
+      (sym is) (told-there (pair_past above (kw x)) r (finds-item kl vl s.cut.bytes q.handle q.at above x r each))
 
-  pub back-there : (reached : Bool) (x : K) (r : Option (K × V))
-      → FindsItemBefore kp vp s.cut.bytes q.handle q.at reached x r
-      → Answers t (λ d. told_of_map d key k v (λ ps. option_map item_of (last_pair int_lt reached (kw x) ps)))
-      (Ok (numbers_in kw vw r))
+  pub back-there : (reached : Bool) (x : K) (r : Option (K × V)) → FindsItemBefore kp vp s.cut.bytes q.handle q.at
+      reached x r → Answers t (λ d. told_of_map d key k v (λ ps. option_map item_of (last_pair int_lt reached (kw x)
+      ps))) (Ok (numbers_in kw vw r))
   back-there reached x r each = told-there _ r (finds-back kl vl s.cut.bytes q.handle q.at reached x r each)
 
   pub last-there : (r : Option (K × V)) → FindsLastItem kp vp s.cut.bytes q.handle q.at r
@@ -75,18 +65,14 @@ module _ {K V : Type 0} {k v : ScalarKind} {kp : Plain K} {vp : Plain V} {kw : K
 
     -- as the call answers it
     pub put-there : {E : Type 0} (x : K) (y : V) (r : Result Bool E) (out : Result Bool Refusal) → out ≡ put_result r
-        → kp.is_value x ≡ true → vp.is_value y ≡ true
-        → Puts kp vp s.cut new q.handle q.at x y r
+        → kp.is_value x ≡ true → vp.is_value y ≡ true → Puts kp vp s.cut new q.handle q.at x y r
         → Answered truth_answer s t new key (Map k v) (Put key (literal_of k (kw x)) (literal_of v (vw y))) out
-    put-there x y r out told good fair each =
-        answered s t view b new key (Map k v) _ out
+    put-there x y r out told good fair each = answered s t view b new key (Map k v) _ out
         (subst (TellsSafely s new key (Map k v) (Put key (literal_of k (kw x)) (literal_of v (vw y)))) (sym told)
         (map-put s key k v q b found-there new writing-there (kw x) (vw y) r (as-value kl x good) (as-value vl y fair)
         (puts-numbers kl vl s.cut new q.handle q.at x y r each)))
 
     pub erased-there : (x : K) (r : Bool) → kp.is_value x ≡ true → Erases kp vp s.cut new q.handle q.at x r
         → Answered truth_answer s t new key (Map k v) (Remove key (literal_of k (kw x))) (Ok r)
-    erased-there x r good each =
-        answered s t view b new key (Map k v) _ (Ok r)
-        (map-erased s key k v q b found-there new writing-there (kw x) r (as-value kl x good)
-        (erases-numbers kl vl s.cut new q.handle q.at x r each))
+    erased-there x r good each = answered s t view b new key (Map k v) _ (Ok r) (map-erased s key k v q b found-there
+        new writing-there (kw x) r (as-value kl x good) (erases-numbers kl vl s.cut new q.handle q.at x r each))

@@ -1,28 +1,21 @@
 -- The calls on maps of numbers, each as one step: what the calls of seg_map ensure of the map at its place comes to the
 -- directory.
-use Rattle.segment_manager.proofs.Common.{◌≡◌, refl, sym, ap, subst, ◌∙◌, ℕ, ℤ, Bool, true, false, Option, Some, None}
-use Rattle.segment_manager.proofs.Common.{Result, Ok, Err, List, [], int_lt, option_map, eq-eqb, current, Cut}
-use Rattle.segment_manager.proofs.Common.{SamePlace, Node, Kind, Map, ScalarKind, Refusal, NoSpace, code_of, is_value}
-use Rattle.segment_manager.proofs.Common.{same_kind, size_of, Key, Command, Literal, literal_of, value_of_literal}
-use Rattle.segment_manager.proofs.Common.{transitive, Erases, IsErased, IsFull, IsPut, IsPutAgain, Puts, node_len}
-use Rattle.segment_manager.proofs.Common.{pair_at, put_pair, remove_pair, NumberPair, FindsValue, nodes_of_pairs}
-use Rattle.segment_manager.proofs.Common.{value_of_pair, ContainerPlace, Element, Refused, Truth, container_at, Denotes}
-use Rattle.segment_manager.proofs.Common.{Pairs, Object, Directory, kind_of, object_at, AnswersSafely, HasPairs, map_at}
-use Rattle.segment_manager.proofs.Common.{numbers_of, told_of, told_of_map, value_or_absent, New, Plan, Reply, Request}
-use Rattle.segment_manager.proofs.Common.{perform, with, Answers, IsReplyOfKind, IsSegment, IsStepOfKind, State}
-use Rattle.segment_manager.proofs.Common.{StandsFor, and_then, changed, effect, is_read_only, map_of, step_of_kind}
-use Rattle.segment_manager.proofs.Common.{LiveSet, Answer, Extent}
-use Rattle.segment_manager.proofs.containers.MapSteps.{IsMapObject, again-denotes, erased-denotes, map-only, map_place}
-use Rattle.segment_manager.proofs.containers.MapSteps.{object-map}
-use Rattle.segment_manager.proofs.Steps.{IsMove, IsOpenFor, by_no_change_of_kind, by_step_of_kind, open-reading}
-use Rattle.segment_manager.proofs.Steps.{open-writing, perform-new, perform-no_space, step_of_kind-found}
-use Rattle.segment_manager.proofs.{Common.live_of, Common.truth_answer, containers.Refilled.HoldsAt}
-use Rattle.segment_manager.proofs.{containers.Refilled.finds-no_container, containers.Refilled.holds-at}
-use Rattle.segment_manager.proofs.{containers.MapSteps.put-denotes, Calling.denotes-live, objects.Here.standing}
-use Rattle.segment_manager.proofs.{objects.ObjectLists.key-found, containers.StorageSteps.step_of_kind-reply}
-use Rattle.segment_manager.proofs.{objects.Stored.literal-read, containers.MapBlocks.blocks-in_use}
-use Rattle.segment_manager.proofs.{containers.MapBlocks.found-key, containers.Refilled.told-some}
-use Rattle.segment_manager.proofs.containers.PairNumbers.{ErasesBy, PutsBy}
+use Rattle.segment_manager.proofs as own
+use own.Common.{◌≡◌, refl, sym, ap, subst, ◌∙◌, ℕ, ℤ, Bool, true, false, Option, Some, None, Result, Ok, Err, List, []}
+use own.Common.{int_lt, option_map, eq-eqb, current, Cut, SamePlace, Node, Kind, Map, ScalarKind, Refusal, NoSpace}
+use own.Common.{code_of, is_value, same_kind, size_of, Key, Command, Literal, literal_of, value_of_literal, transitive}
+use own.Common.{Erases, IsErased, IsFull, IsPut, IsPutAgain, Puts, node_len, pair_at, put_pair, remove_pair, NumberPair}
+use own.Common.{FindsValue, nodes_of_pairs, value_of_pair, ContainerPlace, Element, Refused, Truth, container_at}
+use own.Common.{Denotes, Pairs, Object, Directory, kind_of, object_at, AnswersSafely, HasPairs, map_at, numbers_of}
+use own.Common.{told_of, told_of_map, value_or_absent, New, Plan, Reply, Request, perform, with, Answers, IsReplyOfKind}
+use own.Common.{IsSegment, IsStepOfKind, State, StandsFor, and_then, changed, effect, is_read_only, map_of}
+use own.containers.MapSteps.{IsMapObject, again-denotes, erased-denotes, map-only, map_place, object-map, put-denotes}
+use own.Steps.{IsMove, IsOpenFor, by_no_change_of_kind, by_step_of_kind, open-reading, open-writing, perform-new}
+use own.containers.Refilled.{HoldsAt, finds-no_container, holds-at, told-some}
+use own.{Common.step_of_kind, Common.Answer, Common.Extent, Common.live_of, Common.truth_answer, Calling.denotes-live}
+use own.{Common.LiveSet, objects.ObjectLists.key-found, containers.PairNumbers.ErasesBy, containers.PairNumbers.PutsBy}
+use own.{Steps.perform-no_space, Steps.step_of_kind-found, objects.Here.standing, objects.Stored.literal-read}
+use own.{containers.StorageSteps.step_of_kind-reply, containers.MapBlocks.blocks-in_use, containers.MapBlocks.found-key}
 use Rattle.seg_map.specs.declared.places.Place.{Place}
 use Rattle.seg_map.proofs.Laws.{replaced_nodes}
 use Rattle.segment_manager.specs.{Answers.Absent, containers.Maps.IsPairs}
@@ -58,8 +51,7 @@ pub holds-pairs : (b : List ℕ) (d : Directory) (key : Key) (k v : ScalarKind) 
     → Ok p ≡ map_at d key k v → HoldsPairs b d key k v p
 holds-pairs b d key k v p den e =
     let q = there-if (container_at d key (Map k v)) p e in
-    let h : HoldsAt d key (Map k v) q.0 = holds-at d key (Map k v) q.0 q.1.0 in
-    let o : Object = h.object in
+    let h : HoldsAt d key (Map k v) q.0 = holds-at d key (Map k v) q.0 q.1.0 in let o : Object = h.object in
     let w : (ps : List NumberPair) × (o.value ≡ Pairs k v ps) = map-only k v o.value h.same in
     let known : IsMapObject b d o k v w.0 = record {
       stands = standing b d key o den h.is;
@@ -75,15 +67,13 @@ holds-pairs b d key k v p den e =
       pairs = w.0;
       known = known;
       at = at;
-      map = subst
-          (λ (r : Place). IsPairs k v b r w.0) at (object-map den known);
+      map = subst (λ (r : Place). IsPairs k v b r w.0) at (object-map den known);
     }
 
 -- why there is no such map is why every call for its kind is refused
 pub finds-no_map : (s : State) (key : Key) (k v : ScalarKind) (c : Command) (r : Refusal) → IsOpenFor s.mode c
     → Answers s (λ d. map_at d key k v) (Err r) → IsStepOfKind s s key (Map k v) c (Refused r)
-finds-no_map s key k v c r w a =
-    finds-no_container s key (Map k v) c r w
+finds-no_map s key k v c r w a = finds-no_container s key (Map k v) c r w
     (record { answers = λ d l. nowhere-if (container_at d key (Map k v)) r (a.answers d l) })
 
 -- ---- what the plans come to
@@ -116,8 +106,7 @@ module _ {b : List ℕ} {d : Directory} {key : Key} {k v : ScalarKind} {p : Plac
 
   remove-plan : (l : Literal) (x : ℤ) → value_of_literal k l ≡ Ok x
       → effect d (asked.Remove key l) ≡ removed_with x (pair_at int_lt h.pairs x)
-  remove-plan l x g =
-      plan.remove-plan d key h.object h.is _ read l
+  remove-plan l x g = plan.remove-plan d key h.object h.is _ read l
       ∙ ap (λ r. with r (λ x. removed_with x (pair_at int_lt h.pairs x))) g
 
   -- the pairs with a pair
@@ -135,8 +124,7 @@ module _ {b : List ℕ} {d : Directory} {key : Key} {k v : ScalarKind} {p : Plac
 
   put-plan : (l m : Literal) (x y : ℤ) → value_of_literal k l ≡ Ok x → value_of_literal v m ≡ Ok y
       → effect d (asked.Put key l m) ≡ put_with x y (pair_at int_lt h.pairs x)
-  put-plan l m x y g f =
-      plan.put-plan d key h.object h.is _ read l m
+  put-plan l m x y g f = plan.put-plan d key h.object h.is _ read l m
       ∙ (λ i. with (and_then (g i) (and_then (f i) (Ok []))) (λ new. step.put d h.object k v h.pairs new))
 
 -- ---- steps that answer a truth
@@ -175,19 +163,15 @@ module _ (s : State) (key : Key) (k v : ScalarKind) (p : Place) (b : IsSegment s
   -- the command's plan, performed
   map-plan : (c : Command) → IsOpenFor s.mode c → {d : Directory} (l : StandsFor s.cut.bytes d) (h : Holds d)
       → outcome c d ≡ perform d (live_of s.cut.bytes) (effect d c)
-  map-plan c w {d} l h =
-      step_of_kind-found s.mode d key (Map k v) c h.object w h.is (is-map h)
+  map-plan c w {d} l h = step_of_kind-found s.mode d key (Map k v) c h.object w h.is (is-map h)
       ∙ ap (λ (m : LiveSet). perform d m (effect d c)) (sym (denotes-live current s.cut.bytes d l.denotes))
 
   -- ---- what is read
 
-  pub map-got : (x : ℤ) (r : Option ℤ) → is_value k x ≡ true
-      → FindsValue (numbers_of k) (numbers_of v) s.cut.bytes p.handle p.at x r
-      → IsReplyOfKind s key (Map k v) (asked.Lookup key (literal_of k x)) (value_or_absent v r)
-  map-got x r good each =
-      step_of_kind-reply s key (Map k v) _ _
-      (by_no_change_of_kind s key (Map k v) _ (value_or_absent v r)
-      (λ d l.
+  pub map-got : (x : ℤ) (r : Option ℤ) → is_value k x ≡ true → FindsValue (numbers_of k) (numbers_of v) s.cut.bytes
+      p.handle p.at x r → IsReplyOfKind s key (Map k v) (asked.Lookup key (literal_of k x)) (value_or_absent v r)
+  map-got x r good each = step_of_kind-reply s key (Map k v) _ _
+      (by_no_change_of_kind s key (Map k v) _ (value_or_absent v r) (λ d l.
       let h : Holds d = map_in d l in
       map-plan (asked.Lookup key (literal_of k x)) (open-reading s.mode (asked.Lookup key (literal_of k x)) refl) l h
       ∙ ap (perform d (live_of s.cut.bytes)) (lookup-plan h (literal_of k x) x (literal-read k x good))
@@ -195,9 +179,8 @@ module _ (s : State) (key : Key) (k v : ScalarKind) (p : Place) (b : IsSegment s
       ∙ (λ i. (value_or_absent v (sym (each h.pairs h.map) i), d))))
 
   -- what is said of the pairs is said of those of the object
-  pub map-told : {A : Type 0} (say : List NumberPair → A) (r : A)
-      → ((ps : List NumberPair) → IsPairs k v s.cut.bytes p ps → r ≡ say ps)
-      → Answers s (λ d. told_of_map d key k v say) (Ok r)
+  pub map-told : {A : Type 0} (say : List NumberPair → A) (r : A) → ((ps : List NumberPair) → IsPairs k v s.cut.bytes p
+      ps → r ≡ say ps) → Answers s (λ d. told_of_map d key k v say) (Ok r)
   map-told {A} say r each = record {
     answers = λ d l.
         let h : Holds d = map_in d l in
@@ -233,62 +216,51 @@ module _ (s : State) (key : Key) (k v : ScalarKind) (p : Place) (b : IsSegment s
 
       put-outcome : (o : Option NumberPair) → pair_at int_lt h.pairs x ≡ o
           → outcome (Put x y) d ≡ perform d (live_of s.cut.bytes) (put_with h x y o)
-      put-outcome o e =
-          map-plan (Put x y) (open-writing s.mode (Put x y) writing) l h
-          ∙ ap (perform d (live_of s.cut.bytes))
-          (put-plan h (literal_of k x) (literal_of v y) x y (literal-read k x good) (literal-read v y fair))
-          ∙ ap (λ r. perform d (live_of s.cut.bytes) (put_with h x y r)) e
+      put-outcome o e = map-plan (Put x y) (open-writing s.mode (Put x y) writing) l h
+          ∙ ap (perform d (live_of s.cut.bytes)) (put-plan h (literal_of k x) (literal_of v y) x y (literal-read k x
+          good) (literal-read v y fair)) ∙ ap (λ r. perform d (live_of s.cut.bytes) (put_with h x y r)) e
 
       -- the key is new
-      put-new : pair_at int_lt h.pairs x ≡ None
-          → IsPut (numbers_of k) (numbers_of v) s.cut new p.handle p.at h.pairs x y
-          → IsMove (record s { cut = new }) (Truth true) (outcome (Put x y) d)
+      put-new : pair_at int_lt h.pairs x ≡ None → IsPut (numbers_of k) (numbers_of v) s.cut new p.handle p.at h.pairs x
+          y → IsMove (record s { cut = new }) (Truth true) (outcome (Put x y) d)
       put-new e r =
-          let Becomes : Place → Type 0 =
-          λ c. (r : IsPut (numbers_of k) (numbers_of v) s.cut new c.handle c.at h.pairs x y)
-          → Denotes current new.bytes (with_pairs h (with_pair h x y r.extent)) in
+          let Becomes : Place → Type 0 = λ c. (r : IsPut (numbers_of k) (numbers_of v) s.cut new c.handle c.at h.pairs x
+          y) → Denotes current new.bytes (with_pairs h (with_pair h x y r.extent)) in
           record {
             after = with_pairs h (with_pair h x y r.extent);
-            is = put-outcome None e
-                ∙ perform-new d (live_of s.cut.bytes) Node (node_len (size_of k) (size_of v))
+            is = put-outcome None e ∙ perform-new d (live_of s.cut.bytes) Node (node_len (size_of k) (size_of v))
                 (new_with h x y) r.extent r.placed;
             stands = record { denotes = subst Becomes h.at (put-denotes s.cut new l.denotes h.known x y e) r };
           }
 
       -- a pair has the key
-      put-again : (q : NumberPair) → pair_at int_lt h.pairs x ≡ Some q
-          → IsPutAgain (numbers_of k) (numbers_of v) s.cut new p.handle p.at h.pairs q x y
-          → IsMove (record s { cut = new }) (Truth false) (outcome (Put x y) d)
+      put-again : (q : NumberPair) → pair_at int_lt h.pairs x ≡ Some q → IsPutAgain (numbers_of k) (numbers_of v) s.cut
+          new p.handle p.at h.pairs q x y → IsMove (record s { cut = new }) (Truth false) (outcome (Put x y) d)
       put-again q e r =
           let is : q.key ≡ x = found-key x q h.pairs e in
-          let same : nodes_of_pairs (with_pair h x y q.node) ≡ nodes_of_pairs h.pairs =
-          replaced_nodes int_lt transitive q (record { key = x; value = y; node = q.node })
-          (sym is) refl h.pairs h.map.rising e in
+          let same : nodes_of_pairs (with_pair h x y q.node) ≡ nodes_of_pairs h.pairs = replaced_nodes int_lt transitive
+          q (record { key = x; value = y; node = q.node }) (sym is) refl h.pairs h.map.rising e in
           record {
             after = with_pairs h (with_pair h x y q.node);
             is = put-outcome (Some q) e ∙ (λ i. (Truth false, with_pairs h (with_pair h (is i) y q.node)));
             stands = record {
-              denotes = again-denotes s.cut new l.denotes h.known x y q
-                  (subst (λ (c : Place). IsPutAgain (numbers_of k) (numbers_of v) s.cut new c.handle c.at h.pairs q x y)
-                  (sym h.at) r) same;
+              denotes = again-denotes s.cut new l.denotes h.known x y q (subst (λ (c : Place). IsPutAgain (numbers_of k)
+                  (numbers_of v) s.cut new c.handle c.at h.pairs q x y) (sym h.at) r) same;
             };
           }
 
       -- no gap is long enough for the block of a new one
       put-full : pair_at int_lt h.pairs x ≡ None → IsFull (numbers_of k) (numbers_of v) s.cut new
           → outcome (Put x y) d ≡ (Refused NoSpace, d)
-      put-full e r =
-          put-outcome None e
+      put-full e r = put-outcome None e
           ∙ perform-no_space d (live_of s.cut.bytes) Node (node_len (size_of k) (size_of v)) (new_with h x y) r.none
 
       -- what was put, or put again
       put-moves : (E : Type 0) (t : Bool) (o : Option NumberPair) → pair_at int_lt h.pairs x ≡ o
-          → PutsHere (let one : Result Bool E = Ok t in one) o
-          → Moved (Put x y) t d
+          → PutsHere (let one : Result Bool E = Ok t in one) o → Moved (Put x y) t d
       put-moves E t None e r = (
         r.1.beside.place,
-        subst (λ (t : Bool). IsMove (record s { cut = new }) (Truth t) (outcome (Put x y) d))
-            (sym r.0) (put-new e r.1),
+        subst (λ (t : Bool). IsMove (record s { cut = new }) (Truth t) (outcome (Put x y) d)) (sym r.0) (put-new e r.1),
       )
       put-moves E t (Some q) e r = (
         r.1.beside.place,
@@ -307,17 +279,15 @@ module _ (s : State) (key : Key) (k v : ScalarKind) (p : Place) (b : IsSegment s
     pub map-put : {E : Type 0} (x y : ℤ) (r : Result Bool E) → is_value k x ≡ true → is_value v y ≡ true
         → Puts (numbers_of k) (numbers_of v) s.cut new p.handle p.at x y r
         → TellsSafely s new key (Map k v) (asked.Put key (literal_of k x) (literal_of v y)) (put_result r)
-    map-put {E} x y (Ok t) good fair each =
-        does (λ d l. let h : Holds d = map_in d l in put-moves x y good fair l h E t (pair_at int_lt h.pairs x) refl
-        (each h.pairs h.map))
+    map-put {E} x y (Ok t) good fair each = does (λ d l. let h : Holds d = map_in d l in put-moves x y good fair l h E t
+        (pair_at int_lt h.pairs x) refl (each h.pairs h.map))
     map-put {E} x y (Err why) good fair each =
         let at : (d : Directory) (l : StandsFor s.cut.bytes d)
         → (new ≡ s.cut) × (outcome (Put x y) d ≡ (Refused NoSpace, d)) =
         λ d l. let h : Holds d = map_in d l in put-refused x y good fair l h why (pair_at int_lt h.pairs x) refl
         (each h.pairs h.map) in
         record {
-          step =
-              subst (λ (e : Cut). IsStepOfKind s (record s { cut = e }) key (Map k v) (Put x y) (Refused NoSpace))
+          step = subst (λ (e : Cut). IsStepOfKind s (record s { cut = e }) key (Map k v) (Put x y) (Refused NoSpace))
               (sym (at b.0 b.1).0)
               (by_no_change_of_kind s key (Map k v) (Put x y) (Refused NoSpace) (λ d l. (at d l).1));
           refused = (at b.0 b.1).0;
@@ -331,14 +301,12 @@ module _ (s : State) (key : Key) (k v : ScalarKind) (p : Place) (b : IsSegment s
     module _ (x : ℤ) (good : is_value k x ≡ true) {d : Directory} (l : StandsFor s.cut.bytes d) (h : Holds d) where
       remove-outcome : (o : Option NumberPair) → pair_at int_lt h.pairs x ≡ o
           → outcome (Remove x) d ≡ perform d (live_of s.cut.bytes) (removed_with h x o)
-      remove-outcome o e =
-          map-plan (Remove x) (open-writing s.mode (Remove x) writing) l h
+      remove-outcome o e = map-plan (Remove x) (open-writing s.mode (Remove x) writing) l h
           ∙ ap (perform d (live_of s.cut.bytes)) (remove-plan h (literal_of k x) x (literal-read k x good))
           ∙ ap (λ r. perform d (live_of s.cut.bytes) (removed_with h x r)) e
 
       erase-moves : (t : Bool) (o : Option NumberPair) → pair_at int_lt h.pairs x ≡ o
-          → ErasesBy (numbers_of k) (numbers_of v) s.cut new p.handle p.at h.pairs x t o
-          → Moved (Remove x) t d
+          → ErasesBy (numbers_of k) (numbers_of v) s.cut new p.handle p.at h.pairs x t o → Moved (Remove x) t d
       erase-moves t None e r = (
         subst (SamePlace s.cut) (sym r.1) (record { before = refl; after = refl }),
         record {
@@ -353,16 +321,13 @@ module _ (s : State) (key : Key) (k v : ScalarKind) (p : Place) (b : IsSegment s
           after = with_pairs h (remove_pair int_lt h.pairs x);
           is = remove-outcome (Some q) e ∙ (λ i. (Truth (sym r.0 i), with_pairs h (remove_pair int_lt h.pairs x)));
           stands = record {
-            denotes = erased-denotes s.cut new l.denotes h.known x q e
-                (subst (λ (c : Place). IsErased (numbers_of k) (numbers_of v) s.cut new c.handle c.at h.pairs q x)
-                (sym h.at) r.1);
+            denotes = erased-denotes s.cut new l.denotes h.known x q e (subst (λ (c : Place). IsErased (numbers_of k)
+                (numbers_of v) s.cut new c.handle c.at h.pairs q x) (sym h.at) r.1);
           };
         },
       )
 
-    pub map-erased : (x : ℤ) (t : Bool) → is_value k x ≡ true
-        → Erases (numbers_of k) (numbers_of v) s.cut new p.handle p.at x t
-        → TellsSafely s new key (Map k v) (asked.Remove key (literal_of k x)) (Ok t)
-    map-erased x t good each =
-        does (λ d l. let h : Holds d = map_in d l in erase-moves x good l h t (pair_at int_lt h.pairs x) refl
-        (each h.pairs h.map))
+    pub map-erased : (x : ℤ) (t : Bool) → is_value k x ≡ true → Erases (numbers_of k) (numbers_of v) s.cut new p.handle
+        p.at x t → TellsSafely s new key (Map k v) (asked.Remove key (literal_of k x)) (Ok t)
+    map-erased x t good each = does (λ d l. let h : Holds d = map_in d l in erase-moves x good l h t (pair_at int_lt
+        h.pairs x) refl (each h.pairs h.map))

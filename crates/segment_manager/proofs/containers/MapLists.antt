@@ -1,16 +1,14 @@
 -- The pairs of the object of a key, a map of kinds: what is told of them, how many they are, and that their keys rise.
-use Rattle.segment_manager.proofs.Common.{◌≡◌, sym, ap, subst, ◌∙◌, ℕ, ℤ, true, false, Option, Some, None, Result, Ok}
-use Rattle.segment_manager.proofs.Common.{Err, List, [], length, MatchResult, int_lt, option_map, current, Map}
-use Rattle.segment_manager.proofs.Common.{ScalarKind, Refusal, NotFound, WrongKind, lowest, same_kind, Key, is_rising}
-use Rattle.segment_manager.proofs.Common.{NumberPair, item_of, sizes_of, Denotes, Value, Object, Directory, kind_of}
-use Rattle.segment_manager.proofs.Common.{object_at, first_size, length_at_kind, number_or_none, pair_from, told_of}
-use Rattle.segment_manager.proofs.Common.{told_of_map, first_of, pairs_of}
+use Rattle.segment_manager.proofs as own
+use own.Common.{◌≡◌, sym, ap, subst, ◌∙◌, ℕ, ℤ, true, false, Some, None, Ok, Err, List, [], Map, Key, Value}
+use own.Common.{Option, NotFound, same_kind, is_rising, sizes_of, Directory, object_at, first_size, pair_from, first_of}
+use own.Common.{Result, length, int_lt, current, Refusal, lowest, item_of, Denotes, Object, kind_of, told_of, pairs_of}
+use own.Common.{MatchResult, option_map, ScalarKind, WrongKind, NumberPair, length_at_kind, number_or_none, told_of_map}
+use own.containers.Refilled.{by-kind, told-none, told-some}
+use own.objects.ElementLists.{list-of, listed-length, none-listed}
+use own.containers.PairWalks.{good-value, rising-if, starts, told-of-them}
+use own.{containers.AnyStorage.IsOfKindAt, objects.Here.standing, containers.MapSteps.map-only}
 use Rattle.segment_manager.specs.containers.Walks.{pairs_at_kinds}
-use Rattle.segment_manager.proofs.{containers.AnyStorage.IsOfKindAt, objects.Here.standing}
-use Rattle.segment_manager.proofs.{containers.MapSteps.map-only}
-use Rattle.segment_manager.proofs.containers.Refilled.{by-kind, told-none, told-some}
-use Rattle.segment_manager.proofs.objects.ElementLists.{list-of, listed-length, none-listed}
-use Rattle.segment_manager.proofs.containers.PairWalks.{good-value, rising-if, starts, told-of-them}
 
 refused-told : {A : Type 0} (P : A → Type 0) (Q : Type 0) (r : Result A Refusal) (why : Refusal) → r ≡ Err why → Q
     → MatchResult r P (λ _. Q)
@@ -41,26 +39,19 @@ module _ (d : Directory) (key : Key) (k v : ScalarKind) where
 
   pub map-told : {A : Type 0} (say : List NumberPair → A) (r : Result A Refusal) → r ≡ told_of_map d key k v say
       → MatchResult r (λ a. a ≡ say (pairs_at_kinds d key k v)) (λ why. pairs_at_kinds d key k v ≡ [])
-  map-told say r f =
-      by-kind d key (Map k v)
-      (λ e. refused-told (λ a. a ≡ say listed) (listed ≡ []) r NotFound
-      (f ∙ told-none d key (Map k v) (λ o. told_of say o.value) e) (none-of e))
-      (λ o e g.
+  map-told say r f = by-kind d key (Map k v) (λ e. refused-told (λ a. a ≡ say listed) (listed ≡ []) r NotFound
+      (f ∙ told-none d key (Map k v) (λ o. told_of say o.value) e) (none-of e)) (λ o e g.
       refused-told (λ a. a ≡ say listed) (listed ≡ []) r WrongKind
-      (f ∙ told-some d key (Map k v) (λ o. told_of say o.value) o false e g)
-      (other-of o e g))
-      (λ o e g.
+      (f ∙ told-some d key (Map k v) (λ o. told_of say o.value) o false e g) (other-of o e g)) (λ o e g.
       let is = map-only k v o.value g in
-      answered-told (λ a. a ≡ say listed) (listed ≡ []) r (say is.0)
-      (f ∙ told-some d key (Map k v) (λ o. told_of say o.value) o true e g ∙ ap (told_of say) is.1)
-      (ap say (sym (those-of o e g ∙ ap pairs_of is.1))))
+      answered-told (λ a. a ≡ say listed) (listed ≡ []) r (say is.0) (f ∙ told-some d key (Map k v) (λ o. told_of say
+      o.value) o true e g ∙ ap (told_of say) is.1) (ap say (sym (those-of o e g ∙ ap pairs_of is.1))))
 
   -- ---- how many
 
   map-many : (w : Value) → same_kind (Map k v) (kind_of w) ≡ true → first_size (sizes_of w) ≡ Ok (length (pairs_of w))
   map-many w e =
-      let is =
-      map-only k v w e in ap (λ (w : Value). first_size (sizes_of w)) is.1
+      let is = map-only k v w e in ap (λ (w : Value). first_size (sizes_of w)) is.1
       ∙ sym (ap (λ (w : Value). Ok (length (pairs_of w))) is.1)
 
   pub map-length : (r : Result ℕ Refusal) → r ≡ length_at_kind d key (Map k v)
@@ -71,10 +62,8 @@ module _ (d : Directory) (key : Key) (k v : ScalarKind) where
 
   module _ (b : List ℕ) (den : Denotes current b d) where
     pub map-rises : is_rising int_lt (pairs_at_kinds d key k v) ≡ true
-    map-rises =
-        by-kind d key (Map k v) (λ e. ap (is_rising int_lt) (none-of e))
-        (λ o e g. ap (is_rising int_lt) (other-of o e g))
-        (λ o e g. ap (is_rising int_lt) (those-of o e g)
+    map-rises = by-kind d key (Map k v) (λ e. ap (is_rising int_lt) (none-of e))
+        (λ o e g. ap (is_rising int_lt) (other-of o e g)) (λ o e g. ap (is_rising int_lt) (those-of o e g)
         ∙ rising-if o.value (good-value o (standing b d key o den e).good))
 
     abbrev from_least : List NumberPair → Option (ℤ × ℤ)
@@ -85,16 +74,11 @@ module _ (d : Directory) (key : Key) (k v : ScalarKind) where
 
     pub map-least : told_of_map d key k v (pair_from (lowest k))
         ≡ told_of_map d key k v (λ ps. option_map item_of (first_of ps))
-    map-least =
-        by-kind d key (Map k v)
-        (λ e. told-none d key (Map k v) (λ o. told_of from_least o.value) e
-        ∙ sym (told-none d key (Map k v) (λ o. told_of the_first o.value) e))
-        (λ o e g.
+    map-least = by-kind d key (Map k v) (λ e. told-none d key (Map k v) (λ o. told_of from_least o.value) e
+        ∙ sym (told-none d key (Map k v) (λ o. told_of the_first o.value) e)) (λ o e g.
         told-some d key (Map k v) (λ o. told_of from_least o.value) o false e g
-        ∙ sym (told-some d key (Map k v) (λ o. told_of the_first o.value) o false e g))
-        (λ o e g.
+        ∙ sym (told-some d key (Map k v) (λ o. told_of the_first o.value) o false e g)) (λ o e g.
         let here : IsOfKindAt d key (Map k v) =
         record { object = o; is = e; kind_is = ap kind_of (map-only k v o.value g).1 } in
-        told-of-them d key k v here from_least
-        ∙ ap (λ (a : Option (ℤ × ℤ)). let r : Result (Option (ℤ × ℤ)) Refusal = Ok a in r) (starts d key k v here b den)
-        ∙ sym (told-of-them d key k v here the_first))
+        told-of-them d key k v here from_least ∙ ap (λ (a : Option (ℤ × ℤ)). let r : Result (Option (ℤ × ℤ)) Refusal =
+        Ok a in r) (starts d key k v here b den) ∙ sym (told-of-them d key k v here the_first))

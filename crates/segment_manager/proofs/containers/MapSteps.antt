@@ -1,26 +1,24 @@
 -- A map as the value of an object: it stands at its place as the calls of seg_map see it, and what they do to it is
 -- what becomes of the object.
-use Rattle.segment_manager.proofs.Common.{◌≡◌, refl, sym, ap, subst, ◌∙◌, ℕ, ◌+◌, ◌≤◌, ◌≢◌, inl, ℤ, true, ◌&&◌, Some}
-use Rattle.segment_manager.proofs.Common.{None, List, [], ◌∷◌, length, map, arith, IsTrue, int_lt, AllByRecursion}
-use Rattle.segment_manager.proofs.Common.{list_all, and_from, current, Cut, Memory, Same, bytes_of, SameBlockBut}
-use Rattle.segment_manager.proofs.Common.{Extent, LiveSet, handle, Keeps, LaysOut, extent_at, live_of, lay_out_one, Map}
-use Rattle.segment_manager.proofs.Common.{ScalarKind, same_kind, IsBesideMap, IsErased, IsPut, IsPutAgain, is_rising}
-use Rattle.segment_manager.proofs.Common.{pair_at, put_pair, remove_pair, NumberPair, is_number_pair, HoldsMap}
-use Rattle.segment_manager.proofs.Common.{IsPairIn, nodes_of_pairs, Value, Pairs, Object, Directory, count_of}
-use Rattle.segment_manager.proofs.Common.{is_good_value, is_object, kind_of, live, padded, value_extents, value_len}
-use Rattle.segment_manager.proofs.Common.{Denotes, IsValueAt, head_len, numbers_of, StandsAt, changed, exchanged}
+use Rattle.segment_manager.proofs.Common.{◌≡◌, refl, sym, ◌∙◌, true, ◌&&◌, Some, None, List, Same, Value, Pairs, live}
+use Rattle.segment_manager.proofs.Common.{ap, and_from, bytes_of, Directory, is_object, value_len, IsValueAt, exchanged}
+use Rattle.segment_manager.proofs.Common.{subst, ℕ, arith, int_lt, Memory, Extent, handle, Keeps, IsPut, Object, padded}
+use Rattle.segment_manager.proofs.Common.{◌+◌, ◌≤◌, ◌≢◌, inl, ℤ, [], ◌∷◌, map, Cut, Map}
+use Rattle.segment_manager.proofs.Common.{length, IsTrue, LiveSet, LaysOut, live_of, pair_at, kind_of, Denotes, changed}
+use Rattle.segment_manager.proofs.Common.{AllByRecursion, is_number_pair, nodes_of_pairs, is_good_value, value_extents}
+use Rattle.segment_manager.proofs.Common.{list_all, extent_at, same_kind, is_rising, NumberPair, numbers_of, SameSpread}
+use Rattle.segment_manager.proofs.Common.{current, IsErased, put_pair, HoldsMap, IsPairIn, count_of, head_len, StandsAt}
+use Rattle.segment_manager.proofs.Common.{SameBlockBut, lay_out_one, ScalarKind, IsBesideMap, IsPutAgain, remove_pair}
 use Rattle.segment_manager.proofs.containers.MapBlocks.{BlocksInUse, PartedNodes, no-node, nodes, one-by_handle}
-use Rattle.segment_manager.proofs.containers.MapBlocks.{put-parted}
-use Rattle.segment_manager.proofs.{Common.SameSpread, Calling.denotes-heap, Calling.denotes-live, Calling.object-at}
-use Rattle.segment_manager.proofs.{containers.Contained.start-place, containers.Contained.good-with}
-use Rattle.segment_manager.proofs.{Denoted.denotes-replaced, Faces.IsLike, Frame.IsRoomy, Frame.object-roomy, Live.IsIn}
-use Rattle.segment_manager.proofs.{Order.Apart, Order.Differs, Order.IsFoundIn, objects.Regrown.InPlace}
-use Rattle.segment_manager.proofs.{objects.Regrown.rest, objects.Rewritten.object-held, objects.Rewritten.value_start}
-use Rattle.segment_manager.proofs.{objects.Rewritten.with_value, objects.Standings.standing-room}
-use Rattle.segment_manager.proofs.{containers.ItemSteps.one-kind, Words.first, Words.second}
-use Rattle.segment_manager.proofs.{objects.Exchanged.all-but-beside, objects.Exchanged.Exchange}
-use Rattle.segment_manager.proofs.{objects.Exchanged.between, objects.Exchanged.live-exchanged}
-use Rattle.segment_manager.proofs.{objects.Exchanged.others-beside, containers.MapBlocks.removed-parted}
+use Rattle.segment_manager.proofs.containers.MapBlocks.{put-parted, removed-parted}
+use Rattle.segment_manager.proofs.containers.Contained.{start-place, good-with}
+use Rattle.segment_manager.proofs.objects.Rewritten.{object-held, value_start, with_value}
+use Rattle.segment_manager.proofs.objects.Exchanged.{all-but-beside, Exchange, between, live-exchanged, others-beside}
+use Rattle.segment_manager.proofs.{Calling.denotes-heap, objects.Standings.standing-room, containers.ItemSteps.one-kind}
+use Rattle.segment_manager.proofs.{Calling.denotes-live, Denoted.denotes-replaced, Order.Apart, objects.Regrown.InPlace}
+use Rattle.segment_manager.proofs.{Calling.object-at, Frame.object-roomy, Order.IsFoundIn, objects.Regrown.rest}
+use Rattle.segment_manager.proofs.{Faces.IsLike, Frame.IsRoomy, Live.IsIn, Order.Differs}
+use Rattle.raw_region.proofs.Facts.{first, second}
 use Rattle.seg_map.specs.declared.places.Place.{Place}
 use Rattle.best_fit.proofs.Laws.{spread-refl}
 
@@ -40,9 +38,8 @@ abbrev pub map_place : Object → Place
 map_place o = record { handle = handle o.extent; at = head_len + padded (length o.name) }
 
 each-good : (k v : ScalarKind) (l : LiveSet) (h : ℕ) (ps : List NumberPair) → IsTrue (list_all (is_number_pair k v) ps)
-    → AllByRecursion (λ x. extent_at l (handle x) ≡ Some x) (nodes ps)
-    → AllByRecursion (λ (p : NumberPair). handle p.node ≢ h) ps
-    → AllByRecursion (IsPairIn (numbers_of k) (numbers_of v) l h) ps
+    → AllByRecursion (λ x. extent_at l (handle x) ≡ Some x) (nodes ps) → AllByRecursion (λ (p : NumberPair). handle
+    p.node ≢ h) ps → AllByRecursion (IsPairIn (numbers_of k) (numbers_of v) l h) ps
 each-good k v l h [] g a n = tt
 each-good k v l h (p ∷ ps) g a n = (
   record { good = first (is_number_pair k v p) (list_all (is_number_pair k v) ps) g; listed = a.0; apart = n.0 },
@@ -95,10 +92,8 @@ module _ {b : List ℕ} {d : Directory} {o : Object} {k v : ScalarKind} {ps : Li
         aligned = omega arith;
         room = standing-room b (handle o.extent) (16 + padded (length o.name) + 24) o x.stands (omega (arith, len));
         rising = first (is_rising int_lt ps) (list_all (is_number_pair k v) ps) good;
-        pairs =
-            each-good k v (live_of b) (handle o.extent) ps
-            (second (is_rising int_lt ps) (list_all (is_number_pair k v) ps) good)
-            (subst (λ (l : LiveSet). AllByRecursion (IsFoundIn l.extents) (nodes ps)) l
+        pairs = each-good k v (live_of b) (handle o.extent) ps (second (is_rising int_lt ps) (list_all (is_number_pair k
+            v) ps) good) (subst (λ (l : LiveSet). AllByRecursion (IsFoundIn l.extents) (nodes ps)) l
             (subst (λ w. AllByRecursion (IsFoundIn (live d).extents) (value_extents w)) x.value x.in_use.value))
             (other-handles o.extent ps (subst (λ w. Differs o.extent (value_extents w)) x.value x.in_use.own_apart));
       }
@@ -115,8 +110,7 @@ module _ (old new : Cut) {d : Directory} {o : Object} {k v : ScalarKind} {ps : L
 
   next-good : HoldsMap (numbers_of k) (numbers_of v) new.bytes (handle o.extent) (head_len + padded (length o.name)) qs
       → IsTrue (is_object current (with_value o next))
-  next-good s =
-      good-with current o next x.stands.good (sym (ap kind_of x.value)) (sym (ap value_len x.value))
+  next-good s = good-with current o next x.stands.good (sym (ap kind_of x.value)) (sym (ap value_len x.value))
       (and_from (is_rising int_lt qs) (list_all (is_number_pair k v) qs) s.rising
       (all-good k v (live_of new.bytes) (handle o.extent) qs s.pairs))
 
@@ -124,10 +118,9 @@ module _ (old new : Cut) {d : Directory} {o : Object} {k v : ScalarKind} {ps : L
   module _ (b : IsBesideMap old new (handle o.extent + (head_len + padded (length o.name))) (nodes_of_pairs ps)) where
     stays-beside : (y : Extent) → IsFoundIn (live d).extents y → Differs y (value_extents o.value)
         → SameBlockBut (bytes_of old.bytes) (bytes_of new.bytes) (value_start o) 24 y
-    stays-beside y f n =
-        subst (λ at. SameBlockBut (bytes_of old.bytes) (bytes_of new.bytes) at 24 y) (sym (start-place o))
-        (b.blocks y (ap (λ (l : LiveSet). extent_at l (handle y)) (denotes-live current old.bytes d den) ∙ f)
-        (no-node y ps (subst (λ w. Differs y (value_extents w)) x.value n)))
+    stays-beside y f n = subst (λ at. SameBlockBut (bytes_of old.bytes) (bytes_of new.bytes) at 24 y)
+        (sym (start-place o)) (b.blocks y (ap (λ (l : LiveSet). extent_at l (handle y)) (denotes-live current old.bytes
+        d den) ∙ f) (no-node y ps (subst (λ w. Differs y (value_extents w)) x.value n)))
 
     all-beside : (ys : List Extent) → AllByRecursion (IsFoundIn (live d).extents) ys → Apart ys (value_extents o.value)
         → AllByRecursion (SameBlockBut (bytes_of old.bytes) (bytes_of new.bytes) (value_start o) 24) ys
@@ -136,17 +129,14 @@ module _ (old new : Cut) {d : Directory} {o : Object} {k v : ScalarKind} {ps : L
 
     -- the map has other pairs: blocks of theirs are gone, and others came
     pub pairs-changed : HoldsMap (numbers_of k) (numbers_of v) new.bytes (handle o.extent)
-        (head_len + padded (length o.name)) qs
-        → (gone come : List Extent) → Exchange o (with_value o next) gone come
+        (head_len + padded (length o.name)) qs → (gone come : List Extent) → Exchange o (with_value o next) gone come
         → LaysOut current new.bytes (exchanged (live_of old.bytes) gone come)
         → Denotes current new.bytes (changed d o next)
     pairs-changed s gone come e laid =
-        let m : Memory = bytes_of old.bytes in
-        let m' : Memory = bytes_of new.bytes in
+        let m : Memory = bytes_of old.bytes in let m' : Memory = bytes_of new.bytes in
         let from : ℕ = value_start o in
-        let l : LaysOut current new.bytes (exchanged (live d) gone come) =
-        subst (λ (l : LiveSet). LaysOut current new.bytes (exchanged l gone come))
-        (denotes-live current old.bytes d den) laid in
+        let l : LaysOut current new.bytes (exchanged (live d) gone come) = subst (λ (l : LiveSet). LaysOut current
+        new.bytes (exchanged l gone come)) (denotes-live current old.bytes d den) laid in
         let like : IsLike o (with_value o next) =
         record { extent = refl; name = refl; class = refl; kind = sym (ap kind_of x.value) } in
         let roomy : IsRoomy o = object-roomy current o x.stands.good in
@@ -160,17 +150,14 @@ module _ (old new : Cut) {d : Directory} {o : Object} {k v : ScalarKind} {ps : L
           place = b.place;
           front = b.front;
           behind = b.behind;
-          blocks =
-              all-but-beside m m' from 24 o.extent (rest d o) (omega arith) (omega (arith, len))
-              (others-beside d o (with_value o next) in_place)
-              (all-beside (rest d o) x.in_use.beside x.in_use.beside_apart);
+          blocks = all-but-beside m m' from 24 o.extent (rest d o) (omega arith) (omega (arith, len)) (others-beside d o
+              (with_value o next) in_place) (all-beside (rest d o) x.in_use.beside x.in_use.beside_apart);
         } in
         denotes-replaced current old new d o (with_value o next) den x.found like (next-good s)
-        (subst (LaysOut current new.bytes)
-        (sym (live-exchanged d o (with_value o next) gone come in_place e l.proper)) l) keeps
-        (object-held m m' o next (object-at current old.bytes d (handle o.extent) o den x.found)
-        (sym (ap kind_of x.value)) (sym (ap count_of x.value)) front
-        (subst (λ at. IsValueAt m' at next) (sym (start-place o)) s.map))
+        (subst (LaysOut current new.bytes) (sym (live-exchanged d o (with_value o next) gone come in_place e
+        l.proper)) l) keeps (object-held m m' o next (object-at current old.bytes d (handle o.extent) o den x.found)
+        (sym (ap kind_of x.value)) (sym (ap count_of x.value)) front (subst (λ at. IsValueAt m' at next)
+        (sym (start-place o)) s.map))
 
   -- the nodes of one are those of the other but one, which came or is gone
   pub came : (n : Extent) → PartedNodes (nodes ps) (nodes qs) n → Exchange o (with_value o next) [] (n ∷ [])
@@ -192,38 +179,31 @@ module _ (old new : Cut) {d : Directory} {o : Object} {k v : ScalarKind} {ps : L
 module _ (old new : Cut) {d : Directory} {o : Object} {k v : ScalarKind} {ps : List NumberPair}
     (den : Denotes current old.bytes d) (x : IsMapObject old.bytes d o k v ps) where
   -- a pair more
-  pub put-denotes : (key value : ℤ) → pair_at int_lt ps key ≡ None
-      → (r : IsPut (numbers_of k) (numbers_of v) old new (handle o.extent)
-      (head_len + padded (length o.name)) ps key value)
-      → Denotes current new.bytes
+  pub put-denotes : (key value : ℤ) → pair_at int_lt ps key ≡ None → (r : IsPut (numbers_of k) (numbers_of v) old new
+      (handle o.extent) (head_len + padded (length o.name)) ps key value) → Denotes current new.bytes
       (changed d o (Pairs k v (put_pair int_lt (record { key = key; value = value; node = r.extent }) ps)))
-  put-denotes key value none r =
-      pairs-changed old new _ den x r.beside r.map [] (r.extent ∷ [])
+  put-denotes key value none r = pairs-changed old new _ den x r.beside r.map [] (r.extent ∷ [])
       (came old new _ den x r.extent (put-parted _ ps none)) r.live
 
   -- another value in the block of a pair
-  pub again-denotes : (key value : ℤ) (p : NumberPair)
-      → IsPutAgain (numbers_of k) (numbers_of v) old new (handle o.extent)
-      (head_len + padded (length o.name)) ps p key value
-      → nodes_of_pairs (put_pair int_lt (record { key = key; value = value; node = p.node }) ps) ≡ nodes_of_pairs ps
-      → Denotes current new.bytes
+  pub again-denotes : (key value : ℤ) (p : NumberPair) → IsPutAgain (numbers_of k) (numbers_of v) old new
+      (handle o.extent) (head_len + padded (length o.name)) ps p key value → nodes_of_pairs (put_pair int_lt
+      (record { key = key; value = value; node = p.node }) ps) ≡ nodes_of_pairs ps → Denotes current new.bytes
       (changed d o (Pairs k v (put_pair int_lt (record { key = key; value = value; node = p.node }) ps)))
   again-denotes key value p r same =
       let q : NumberPair = record { key = key; value = value; node = p.node } in
       let qs : List NumberPair = put_pair int_lt q ps in
       let l : live_of new.bytes ≡ live_of old.bytes = lay_out_one current new.bytes (live_of old.bytes) r.live in
       let s = object-map den x in
-      let one : nodes qs ≡ nodes ps =
-      one-by_handle (live_of old.bytes).extents (nodes qs) (nodes ps) (same-handles qs ∙ same ∙ sym (same-handles ps))
-      (subst (λ (l : LiveSet). AllByRecursion (IsFoundIn l.extents) (nodes qs)) l
-      (listed-nodes k v (live_of new.bytes) (handle o.extent) qs r.map.pairs))
-      (listed-nodes k v (live_of old.bytes) (handle o.extent) ps s.pairs) in
+      let one : nodes qs ≡ nodes ps = one-by_handle (live_of old.bytes).extents (nodes qs) (nodes ps) (same-handles qs
+      ∙ same ∙ sym (same-handles ps)) (subst (λ (l : LiveSet). AllByRecursion (IsFoundIn l.extents) (nodes qs)) l
+      (listed-nodes k v (live_of new.bytes) (handle o.extent) qs r.map.pairs)) (listed-nodes k v (live_of old.bytes)
+      (handle o.extent) ps s.pairs) in
       pairs-changed old new _ den x r.beside r.map [] [] (all-same old new qs den x one) r.live
 
   -- a pair less
   pub erased-denotes : (key : ℤ) (p : NumberPair) → pair_at int_lt ps key ≡ Some p
       → IsErased (numbers_of k) (numbers_of v) old new (handle o.extent) (head_len + padded (length o.name)) ps p key
       → Denotes current new.bytes (changed d o (Pairs k v (remove_pair int_lt ps key)))
-  erased-denotes key p e r =
-      pairs-changed old new _ den x r.beside r.map (p.node ∷ []) []
+  erased-denotes key p e r = pairs-changed old new _ den x r.beside r.map (p.node ∷ []) []
       (went old new _ den x p.node (removed-parted key p ps e)) r.live

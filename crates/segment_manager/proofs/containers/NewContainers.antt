@@ -1,16 +1,15 @@
 -- A vector of numbers or a text as the value of a new object: it is made without an element, and then with its elements
 -- in storage for just so many.
-use Rattle.segment_manager.proofs.Common.{◌≡◌, refl, sym, ap, subst, ◌∙◌, ℕ, ℤ, Bool, Some, None, Ok, Err, Result, List}
-use Rattle.segment_manager.proofs.Common.{[], length, map, IsTrue, MatchResult, option_to_list, length-map, current}
-use Rattle.segment_manager.proofs.Common.{Cut, bytes_of, IsExchanged, IsChanged, live_of, Table, no_table, keeps-refl}
-use Rattle.segment_manager.proofs.Common.{laid-heap, ScalarKind, Refusal, NoSpace, Content, Place, Stands, place_at}
-use Rattle.segment_manager.proofs.Common.{AssignsText, IsTextGrown, grown_table, Assigns, IsVectorGrown, IsWithoutSpace}
-use Rattle.segment_manager.proofs.Common.{Contents, flat_map, are_bytes, contents_of, has_values, Value, Elements}
-use Rattle.segment_manager.proofs.Common.{Bytes, count_of, kind_of, value_extents, value_len, IsMadeValue, IsNoValue}
-use Rattle.segment_manager.proofs.Common.{MakesValue, Plan, bare, perform, with_storage, with_value}
-use Rattle.segment_manager.proofs.containers.Contained.{contents-good, value-said}
-use Rattle.segment_manager.proofs.objects.MadeValues.{storage-met, storage-none, stored}
-use Rattle.segment_manager.proofs.Whole.{IsOfKind, whole-spelled, whole-values}
+use Rattle.segment_manager.proofs as own
+use own.Common.{◌≡◌, refl, sym, ap, subst, ◌∙◌, ℕ, ℤ, Bool, Some, None, Ok, Err, Result, List, [], length, map, IsTrue}
+use own.Common.{MatchResult, option_to_list, length-map, current, Cut, bytes_of, IsExchanged, IsChanged, live_of, Table}
+use own.Common.{no_table, keeps-refl, laid-heap, ScalarKind, Refusal, NoSpace, Content, Place, Stands, place_at}
+use own.Common.{AssignsText, IsTextGrown, grown_table, Assigns, IsVectorGrown, IsWithoutSpace, Contents, flat_map}
+use own.Common.{are_bytes, contents_of, has_values, Value, Elements, Bytes, count_of, kind_of, value_extents, value_len}
+use own.Common.{IsMadeValue, IsNoValue, MakesValue, Plan, bare, perform, with_storage, with_value}
+use own.containers.Contained.{contents-good, value-said}
+use own.objects.MadeValues.{storage-met, storage-none, stored}
+use own.Whole.{IsOfKind, whole-spelled, whole-values}
 use Rattle.seg_vector.specs.{TextCalls.StartsText, VectorCalls.Starts}
 use Rattle.seg_types.specs.Commands as asked
 
@@ -101,11 +100,9 @@ module _ {T : Type 0} (k : ScalarKind) (w : T → ℤ) (size : ℕ) (test : T �
     where
       made : (r : Result (Unit {0}) Refusal)
           → MatchResult r (λ u. IsVectorGrown size test sp mid new p no_table (length ys) ys)
-          (IsWithoutSpace mid new size (length ys) no_table)
-          → MakesValue (asked.Elements k (map w ys)) old new p r
-      made (Ok u) g =
-          stored-value (elements-content ys) old mid new p change g.table g.grown g.now.change g.now.vector.stands
-          (sym (whole-values k w size test sp law ys) ∙ g.now.vector.values)
+          (IsWithoutSpace mid new size (length ys) no_table) → MakesValue (asked.Elements k (map w ys)) old new p r
+      made (Ok u) g = stored-value (elements-content ys) old mid new p change g.table g.grown g.now.change
+          g.now.vector.stands (sym (whole-values k w size test sp law ys) ∙ g.now.vector.values)
       made (Err why) g = unstored-value (elements-content ys) old mid new p change why g.same g.none g.refusal
 
 -- ---- a text
@@ -116,9 +113,7 @@ pub string-made : (old mid new : Cut) (p q : Place) (bs : List ℕ) (r : Result 
 string-made old mid new p q bs r small e change begun a =
     made r (subst (λ (x : Place). AssignsText mid new x bs r) e a [] no_table begun.text)
   where
-    made : (r : Result (Unit {0}) Refusal)
-        → MatchResult r (λ u. IsTextGrown mid new p no_table (length bs) bs)
+    made : (r : Result (Unit {0}) Refusal) → MatchResult r (λ u. IsTextGrown mid new p no_table (length bs) bs)
         (IsWithoutSpace mid new 1 (length bs) no_table) → MakesValue (asked.Bytes bs) old new p r
-    made (Ok u) g =
-        stored-value (bytes-content bs) old mid new p change g.table g.grown g.now.change g.now.text small
+    made (Ok u) g = stored-value (bytes-content bs) old mid new p change g.table g.grown g.now.change g.now.text small
     made (Err why) g = unstored-value (bytes-content bs) old mid new p change why g.same g.none g.refusal

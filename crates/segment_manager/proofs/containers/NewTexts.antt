@@ -13,9 +13,8 @@ use Rattle.segment_manager.proofs.containers.TextPlans.{all-met, all-unmet, besi
 module _ (old mid new : Cut) (p : Place) (change : IsChanged current old mid (place_at p) 24) where
   -- its texts are in their blocks
   placed-value : (bss : List (List ℕ)) (t : Table) (ps : List OwnedText) → IsTrue (list_all are_bytes bss)
-      → new_array (live_of mid.bytes) (length bss) ≡ Some t
-      → placed_texts (beside_array (live_of mid.bytes) t) bss ≡ Some ps
-      → IsTextsNow mid new p [] (option_to_list t.extent ++ text_blocks ps) ps t
+      → new_array (live_of mid.bytes) (length bss) ≡ Some t → placed_texts (beside_array (live_of mid.bytes) t)
+      bss ≡ Some ps → IsTextsNow mid new p [] (option_to_list t.extent ++ text_blocks ps) ps t
       → IsMadeValue (asked.Strings bss) old new p
   placed-value bss t ps small array placed now =
       let l : LiveSet = live_of mid.bytes in
@@ -35,14 +34,12 @@ module _ (old mid new : Cut) (p : Place) (change : IsChanged current old mid (pl
 
   -- it is made, and then its texts are put there
   pub texts-made : (q : Place) (bss : List (List ℕ)) (r : Result (Unit {0}) Refusal) → IsTrue (list_all are_bytes bss)
-      → q ≡ p → StartsTexts old mid p → AssignsTexts mid new q bss r
-      → MakesValue (asked.Strings bss) old new p r
+      → q ≡ p → StartsTexts old mid p → AssignsTexts mid new q bss r → MakesValue (asked.Strings bss) old new p r
   texts-made q bss r small e begun a = made bss r small (subst (λ (x : Place). AssignsTexts mid new x bss r) e a)
     where
       made : (bss : List (List ℕ)) (r : Result (Unit {0}) Refusal) → IsTrue (list_all are_bytes bss)
           → AssignsTexts mid new p bss r → MakesValue (asked.Strings bss) old new p r
-      made [] r small a =
-          subst (MakesValue (asked.Strings []) old new p) (sym a.0)
+      made [] r small a = subst (MakesValue (asked.Strings []) old new p) (sym a.0)
           (placed-value [] no_table [] refl refl refl (a.1 [] no_table begun.texts))
       made (bs ∷ bss) (Ok u) small a =
           let m : AreTextsAssigned mid new p [] no_table (bs ∷ bss) =

@@ -1,32 +1,26 @@
 -- The words of containers, and what the calls of seg_vector leave of storage whose elements have one length: as the
 -- steps of the calls on the object, a vector of numbers or a text.
-use Rattle.segment_manager.proofs.Common.{◌≡◌, ap, arith, ℕ, ◌+◌, ◌*◌, ◌∙◌, ◌≤◌, Err, IsTrue, List, None, Ok, Result}
-use Rattle.segment_manager.proofs.Common.{Some, [], false, length, refl, subst, sym, take, true, Cut, Memory, current}
-use Rattle.segment_manager.proofs.Common.{bytes_of, word_at, handle, has_room, live_of, LiveSet, Table, cut_table}
-use Rattle.segment_manager.proofs.Common.{no_table, Kind, MapKind, ScalarKind, StringsKind, Refusal, NoSpace, Key}
-use Rattle.segment_manager.proofs.Common.{Command, Stands, place_at, Place, Change, Clear, Reserve, Shrink, Done}
-use Rattle.segment_manager.proofs.Common.{Refused, Contents, IsRefilled, container_at, contents_of, has_values}
-use Rattle.segment_manager.proofs.Common.{sizes_at_kind, sizes_of, Denotes, IsValueAt, Value, Numbers, Elements, Bytes}
-use Rattle.segment_manager.proofs.Common.{Pairs, Texts, Object, Directory, kind_of, live, padded, value_len, emptied}
-use Rattle.segment_manager.proofs.Common.{Reply, perform, StandsAt, Answers, IsSegment, StandsFor, State, changed}
-use Rattle.segment_manager.proofs.Common.{effect, is_read_only, storage_of, with_items, with_table, HasEnough}
-use Rattle.segment_manager.proofs.Common.{StepsSafely, command_of, has_sizes, has_storage}
-use Rattle.segment_manager.proofs.containers.Contained.{contents-fit, contents-stand, of-contents, start-place}
-use Rattle.segment_manager.proofs.Steps.{by_no_change_of_kind, open-writing, step_of_kind-found}
-use Rattle.segment_manager.proofs.containers.Refilled.{HoldsAt, holds-at, refill-steps_of_kind, room-asked, then_room}
-use Rattle.segment_manager.proofs.containers.ContentPlans.{clear-plan, reserve-plan, shrink-plan}
-use Rattle.segment_manager.proofs.{containers.AnyStorage.sizes-found, Calling.denotes-live, Frame.object-roomy}
-use Rattle.segment_manager.proofs.{objects.Here.standing, containers.ItemSteps.one-kind}
-use Rattle.segment_manager.proofs.{containers.KeptContainers.enough-places, containers.KeptContainers.keeps-cut}
-use Rattle.segment_manager.proofs.{objects.Rewritten.value_start, containers.Safely.done-so, containers.Safely.stays}
-use Rattle.segment_manager.proofs.{objects.Standings.standing-room, objects.Standings.standing-short}
-use Rattle.segment_manager.proofs.{containers.ToChange.seen-found, Common.KeepsWhere}
+use Rattle.segment_manager.proofs as own
+use own.Common.{◌≡◌, cut_table, IsValueAt, Directory, value_len, IsSegment, StandsFor, HasEnough, has_sizes, KeepsWhere}
+use own.Common.{ap, ℕ, ◌+◌, ◌*◌, ◌∙◌, ◌≤◌, Err, Ok, [], sym, take, true, Cut, Kind, Key, Done, live, Plan}
+use own.Common.{arith, Some, false, refl, subst, Table, Place, Clear, Value, Bytes, Pairs, Texts, Reply, State, Option}
+use own.Common.{IsTrue, ScalarKind, IsRefilled, has_values, storage_of, with_items, with_table, command_of, grown_table}
+use own.Common.{List, LiveSet, MapKind, Refusal, NoSpace, Command, Reserve, Refused, Denotes, Numbers, kind_of, emptied}
+use own.Common.{None, length, Memory, handle, Stands, Change, Shrink, Object, padded, perform, Answers, changed, effect}
+use own.Common.{Result, current, word_at, has_room, live_of, no_table, place_at, Contents, sizes_of, Elements, StandsAt}
+use own.Common.{bytes_of, StringsKind, container_at, contents_of, sizes_at_kind, is_read_only, StepsSafely, has_storage}
+use own.containers.Contained.{contents-fit, contents-stand, of-contents, start-place}
+use own.containers.Refilled.{HoldsAt, holds-at, refill-steps_of_kind, room-asked, then_room}
+use own.containers.ContentPlans.{clear-plan, reserve-plan, shrink-plan}
+use own.containers.KeptContainers.{enough-places, keeps-cut}
+use own.objects.Standings.{standing-room, standing-short}
+use own.{Steps.by_no_change_of_kind, Steps.step_of_kind-found, objects.Rewritten.value_start, containers.Safely.done-so}
+use own.{Steps.open-writing, Calling.denotes-live, Frame.object-roomy, objects.Here.standing, containers.Safely.stays}
+use own.{containers.AnyStorage.sizes-found, containers.ItemSteps.one-kind, containers.ToChange.seen-found}
 use Rattle.best_fit.proofs.Laws.{room-less}
-use Rattle.seg_vector.specs.Elements.{IsFitted, IsRewritten}
-use Rattle.seg_vector.specs.Standing.{IsGrown}
+use Rattle.seg_vector.specs.{Elements.IsFitted, Elements.IsRewritten, Standing.IsGrown}
 use Rattle.segment_manager.specs.containers.Stored.{ChangesElements, IsElements, each_of}
 use Rattle.seg_types.specs.Commands as asked
-use Rattle.segment_manager.proofs.Common.{Option, Plan, grown_table}
 
 -- ---- the words of a container
 
@@ -54,8 +48,7 @@ three-words v h = refl
 
 -- as the view before the call names the segment
 module _ {s t : State} (view : s ≡ t) (key : Key) (kind : Kind) (p : Place)
-    (found : Answers t (λ d. container_at d key kind) (Ok p))
-    (sized : has_sizes kind ≡ true) where
+    (found : Answers t (λ d. container_at d key kind) (Ok p)) (sized : has_sizes kind ≡ true) where
   module _ (d : Directory) (l : StandsFor s.cut.bytes d) where
     at-place : HoldsAt d key kind p
     at-place = holds-at d key kind p ((seen-found s t view key kind p found).answers d l)
@@ -97,8 +90,7 @@ module _ {s t : State} (view : s ≡ t) (key : Key) (kind : Kind) (p : Place)
             let len : p.handle + (p.at + 8) ≡ value_start o + 8 = omega (arith, start) in
             (λ i. Ok ((e ∙ ap (word_at memory) len) i, (f ∙ (λ j. places_in memory (start j) (of-kind d l j))) i))
             ∙ said-sizes memory (value_start o) o.value (ap has_sizes (sym (of-kind d l)) ∙ sized)
-            (stands d l).said.value
-            ∙ sym (sizes-found d key kind o (at-place d l).is (sym (of-kind d l)));
+            (stands d l).said.value ∙ sym (sizes-found d key kind o (at-place d l).is (sym (of-kind d l)));
       })
 
 -- ---- values of elements of one length
@@ -111,29 +103,23 @@ pub record IsMoved (v w : Value) (next : Contents) : Type 0 where
 
 table-moved : (u : Table) (v : Value) (c : Contents) → contents_of v ≡ Some c
     → IsMoved v (with_table v u) (record c { table = u })
-table-moved u =
-    of-contents (λ v c. IsMoved v (with_table v u) (record c { table = u }))
-    (λ k zs t. record { kind = refl; held = refl; values = λ h. h })
-    (λ bs t. record { kind = refl; held = refl; values = λ h. h })
+table-moved u = of-contents (λ v c. IsMoved v (with_table v u) (record c { table = u })) (λ k zs t. record
+    { kind = refl; held = refl; values = λ h. h }) (λ bs t. record { kind = refl; held = refl; values = λ h. h })
 
 none-left : (v : Value) (c : Contents) → contents_of v ≡ Some c
     → IsMoved v (with_items v []) (record c { len = 0; bytes = [] })
-none-left =
-    of-contents (λ v c. IsMoved v (with_items v []) (record c { len = 0; bytes = [] }))
-    (λ k zs t. record { kind = refl; held = refl; values = λ h. refl })
-    (λ bs t. record { kind = refl; held = refl; values = λ h. refl })
+none-left = of-contents (λ v c. IsMoved v (with_items v []) (record c { len = 0; bytes = [] })) (λ k zs t. record
+    { kind = refl; held = refl; values = λ h. refl }) (λ bs t. record { kind = refl; held = refl; values = λ h. refl })
 
 pub nothing-left : (v : Value) (c : Contents) → contents_of v ≡ Some c
     → contents_of (emptied v) ≡ Some (record c { len = 0; table = no_table; bytes = [] })
-nothing-left =
-    of-contents (λ v c. contents_of (emptied v) ≡ Some (record c { len = 0; table = no_table; bytes = [] }))
+nothing-left = of-contents (λ v c. contents_of (emptied v) ≡ Some (record c { len = 0; table = no_table; bytes = [] }))
     (λ k zs t. refl) (λ bs t. refl)
 
 storage-said : (v : Value) (c : Contents) → contents_of v ≡ Some c
     → (storage_of v ≡ Ok (c.each, c.len, c.table)) × (sizes_of v ≡ Ok (c.len, c.table.capacity))
-storage-said =
-    of-contents (λ v c. (storage_of v ≡ Ok (c.each, c.len, c.table)) × (sizes_of v ≡ Ok (c.len, c.table.capacity)))
-    (λ k zs t. (refl, refl)) (λ bs t. (refl, refl))
+storage-said = of-contents (λ v c. (storage_of v ≡ Ok (c.each, c.len, c.table))
+    × (sizes_of v ≡ Ok (c.len, c.table.capacity))) (λ k zs t. (refl, refl)) (λ bs t. (refl, refl))
 
 -- the contents of a value of a kind
 abbrev contents_at : Kind → ℕ → Table → List ℕ → Contents
@@ -160,11 +146,9 @@ pub record HoldsElements (b : List ℕ) (d : Directory) (key : Key) (kind : Kind
   pub values : IsTrue (has_values found.object.value)
 
 pub holds-elements : (b : List ℕ) (d : Directory) (key : Key) (kind : Kind) (p : Place) → Denotes current b d
-    → Ok p ≡ container_at d key kind → has_storage kind ≡ true → (kind ≡ StringsKind → ⊥)
-    → HoldsElements b d key kind p
+    → Ok p ≡ container_at d key kind → has_storage kind ≡ true → (kind ≡ StringsKind → ⊥) → HoldsElements b d key kind p
 holds-elements b d key kind p den e stored no_texts =
-    let h : HoldsAt d key kind p = holds-at d key kind p e in
-    let o : Object = h.object in
+    let h : HoldsAt d key kind p = holds-at d key kind p e in let o : Object = h.object in
     let same : kind ≡ kind_of o.value = one-kind kind (kind_of o.value) h.same in
     let x = elements-in o.value (ap has_storage (sym same) ∙ stored) (λ f. no_texts (same ∙ f)) in
     let held : contents_of o.value ≡ Some (contents_at kind x.0 x.1.0 x.1.1.0) =
@@ -189,8 +173,7 @@ module _ {s t : State} (view : s ≡ t) (key : Key) (kind : Kind) (p : Place) (b
   Held d = HoldsElements s.cut.bytes d key kind p
 
   held : (d : Directory) → StandsFor s.cut.bytes d → Held d
-  held d l =
-      holds-elements s.cut.bytes d key kind p l.denotes
+  held d l = holds-elements s.cut.bytes d key kind p l.denotes
       ((seen-found s t view key kind p found).answers d l) stored no_texts
 
   -- some stand there
@@ -199,18 +182,15 @@ module _ {s t : State} (view : s ≡ t) (key : Key) (kind : Kind) (p : Place) (b
       let h : Held b.0 = held b.0 b.1 in
       record { stands = (h.len, (h.table, (h.bytes, h.stands))); some = (each-few kind).0; short = (each-few kind).1 }
 
-  pub elements-kept : (new : Cut) (change : Change) (r : Result (Unit {0}) Refusal)
-      → ChangesElements change s.cut new p (each_of kind) r
-      → KeepsWhere t (record s { cut = new }) (HasEnough change key)
+  pub elements-kept : (new : Cut) (change : Change) (r : Result (Unit {0}) Refusal) → ChangesElements change s.cut new p
+      (each_of kind) r → KeepsWhere t (record s { cut = new }) (HasEnough change key)
   elements-kept new change r a =
       keeps-cut s t view new (HasEnough change key) (λ d l has. same change r a d (held d l) has)
     where
       same : (change : Change) (r : Result (Unit {0}) Refusal) → ChangesElements change s.cut new p (each_of kind) r
           → (d : Directory) (h : Held d) → HasEnough change key d → new ≡ s.cut
-      same (Reserve n) (Ok u) a d h has =
-          (a h.len h.table h.bytes h.stands).enough
-          (enough-places d key h.found.object n _ h.table.capacity h.found.is
-          (storage-said h.found.object.value _ h.held).1 has)
+      same (Reserve n) (Ok u) a d h has = (a h.len h.table h.bytes h.stands).enough (enough-places d key h.found.object
+          n _ h.table.capacity h.found.is (storage-said h.found.object.value _ h.held).1 has)
       same (Reserve n) (Err e) a d h has = (a h.len h.table h.bytes h.stands).same
       same change r a d h has = absurd has
 
@@ -256,9 +236,8 @@ module _ {s t : State} (view : s ≡ t) (key : Key) (kind : Kind) (p : Place) (b
     places-asked : (n : ℕ) (d : Directory) (l : StandsFor s.cut.bytes d) (h : Held d) (r : Option Table)
         → grown_table (live_of s.cut.bytes) (each_of kind) n h.table ≡ r
         → perform d (live d) (effect d (asked.Reserve key n)) ≡ then_room d (live d) h.table (with_places d h) r
-    places-asked n d l h r g =
-        room-asked current s.cut.bytes d (asked.Reserve key n) (each_of kind) n h.table r (with_places d h) l.denotes
-        (reserve-plan d key h.found.object h.found.is _ (said h) n) g
+    places-asked n d l h r g = room-asked current s.cut.bytes d (asked.Reserve key n) (each_of kind) n h.table r
+        (with_places d h) l.denotes (reserve-plan d key h.found.object h.found.is _ (said h) n) g
 
     pub elements-changed : (change : Change) (r : Result (Unit {0}) Refusal)
         → ChangesElements change s.cut new p (each_of kind) r → StepsSafely s new key kind (command_of change key) r
@@ -272,8 +251,7 @@ module _ {s t : State} (view : s ≡ t) (key : Key) (kind : Kind) (p : Place) (b
           outcome = places-asked n d l h (Some g.table) g.grown;
         })
     elements-changed (Reserve n) (Err e) a =
-        let h : Held b.0 = held b.0 b.1 in
-        let full = a h.len h.table h.bytes h.stands in
+        let h : Held b.0 = held b.0 b.1 in let full = a h.len h.table h.bytes h.stands in
         stays s new key kind (asked.Reserve key n) e NoSpace full.refusal full.same
         (by_no_change_of_kind s key kind (asked.Reserve key n) (Refused NoSpace) (λ d l.
         let h : Held d = held d l in

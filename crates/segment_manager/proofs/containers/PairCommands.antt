@@ -7,14 +7,13 @@ use Rattle.segment_manager.proofs.Common.{NumberPair, Located, Answer, Element, 
 use Rattle.segment_manager.proofs.Common.{IsUnchangeable, IsValueOf, Value, Pairs, Object, Directory, kind_of, live}
 use Rattle.segment_manager.proofs.Common.{object_at, IsMissing, IsLocated, Plan, Refuse, Reply, perform, with, Answers}
 use Rattle.segment_manager.proofs.Common.{IsReply, IsReplyOfKind, IsStep, IsStepOfKind, State, StandsFor, and_then}
-use Rattle.segment_manager.proofs.Common.{changed, effect, map_of, pair_of}
+use Rattle.segment_manager.proofs.Common.{changed, effect, map_of, pair_of, found_at}
 use Rattle.segment_manager.proofs.containers.AnyStorage.{IsOfKindAt, kind-told, of_kind-same, of_kind-steps}
 use Rattle.segment_manager.proofs.containers.Changeable.{answered-reads, refuses, refuses-read, says-kind}
 use Rattle.segment_manager.proofs.objects.Locating.{kind-by_key, reply_of_kind-by_key, step_of_kind-by_key}
-use Rattle.segment_manager.proofs.Steps.{with-found, with-not_found}
-use Rattle.segment_manager.proofs.{objects.Stored.literal-read, ElementLaws.same_plan-steps}
-use Rattle.segment_manager.proofs.{containers.MapSteps.map-only, Common.found_at}
-use Rattle.segment_manager.specs.{Answers.Absent}
+use Rattle.segment_manager.proofs.{Steps.with-found, Steps.with-not_found, objects.Stored.literal-read}
+use Rattle.segment_manager.proofs.{ElementLaws.same_plan-steps, containers.MapSteps.map-only}
+use Rattle.segment_manager.specs.Answers.{Absent}
 use Rattle.seg_types.specs.Literals.{IsPairOf}
 use Rattle.seg_types.specs.Commands as asked
 use Rattle.segment_manager.specs.Step as step
@@ -28,8 +27,7 @@ abbrev pub found_with : Directory → ScalarKind → Option NumberPair → Plan
 found_with d v r = elim r as (λ _. Plan) [ None ↦ Reply Absent d | Some p ↦ Reply (Element v p.value) d ]
 
 abbrev pub looks_up : Directory → Literal → ScalarKind × ScalarKind × List NumberPair → Plan
-looks_up d l (k, v, ps) =
-    with (value_of_literal k l)
+looks_up d l (k, v, ps) = with (value_of_literal k l)
     (λ x. elim (pair_at int_lt ps x) [ None ↦ Reply Absent d | Some p ↦ Reply (Element v p.value) d ])
 
 abbrev pub removes_at : Directory → Object → ScalarKind → ScalarKind → List NumberPair → ℤ → Plan
@@ -72,23 +70,18 @@ module _ {s : State} {key : Key} {o : Located} (l : IsLocated s key o)
   none d st = no_map-if (told d st).object.value (λ k v e. other k v (sym (told d st).kind_is ∙ e))
 
   pub lookup-no_map : (at : Literal) → IsReply s (asked.Lookup key at) (Refused WrongKind)
-  lookup-no_map at =
-      refuses-read s (asked.Lookup key at) WrongKind refl
+  lookup-no_map at = refuses-read s (asked.Lookup key at) WrongKind refl
       (λ d st. lookup-plan d key (told d st).object (told d st).is (Err WrongKind) (none d st) at)
 
 module _ {s : State} {key : Key} {o : Located} (h : IsToChange s key o)
     (other : (k v : ScalarKind) → o.kind ≡ Map k v → ⊥) where
   pub put-no_map : (at value : Literal) → IsStep s s (asked.Put key at value) (Refused WrongKind)
-  put-no_map at value =
-      refuses s (asked.Put key at value) WrongKind h.writing
-      (λ d st. let f = told h.located other d st in put-plan d key f.object f.is (Err WrongKind)
-      (none h.located other d st) at value)
+  put-no_map at value = refuses s (asked.Put key at value) WrongKind h.writing (λ d st. let f = told h.located other d
+      st in put-plan d key f.object f.is (Err WrongKind) (none h.located other d st) at value)
 
   pub remove-no_map : (at : Literal) → IsStep s s (asked.Remove key at) (Refused WrongKind)
-  remove-no_map at =
-      refuses s (asked.Remove key at) WrongKind h.writing
-      (λ d st. let f = told h.located other d st in remove-plan d key f.object f.is (Err WrongKind)
-      (none h.located other d st) at)
+  remove-no_map at = refuses s (asked.Remove key at) WrongKind h.writing (λ d st. let f = told h.located other d st
+      in remove-plan d key f.object f.is (Err WrongKind) (none h.located other d st) at)
 
 -- ---- it is a map
 
@@ -122,16 +115,14 @@ module _ (s : State) (key : Key) (k v : ScalarKind) (a : Answers s (λ d. kind_a
   map-at : (d : Directory) → StandsFor s.cut.bytes d → IsMapAt d key k v
   map-at d st =
       let f : IsOfKindAt d key (Map k v) = kind-told d key (Map k v) (a.answers d st) in
-      let m =
-      map-only k v f.object.value
+      let m = map-only k v f.object.value
       (eq-eqb (code_of (Map k v)) (code_of (kind_of f.object.value)) (ap code_of (sym f.kind_is))) in
       record { object = f.object; is = f.is; pairs = m.0; value = m.1 }
 
   -- literals that are read as values are as good as the values' own
   put-read : (new : State) (l m : Literal) (x y : ℤ) (answer : Answer) → pair_of k v l m ≡ Ok (x ∷ y ∷ [])
-      → is_value k x ≡ true → is_value v y ≡ true
-      → IsStepOfKind s new key (Map k v) (asked.Put key (literal_of k x) (literal_of v y)) answer
-      → IsStep s new (asked.Put key l m) answer
+      → is_value k x ≡ true → is_value v y ≡ true → IsStepOfKind s new key (Map k v) (asked.Put key (literal_of k x)
+      (literal_of v y)) answer → IsStep s new (asked.Put key l m) answer
   put-read new l m x y answer e good fair r =
       let own : pair_of k v (literal_of k x) (literal_of v y) ≡ Ok (x ∷ y ∷ []) =
       λ i. and_then (literal-read k x good i) (and_then (literal-read v y fair i) (Ok [])) in
@@ -141,34 +132,25 @@ module _ (s : State) (key : Key) (k v : ScalarKind) (a : Answers s (λ d. kind_a
       (of_kind-steps s new key (Map k v) (asked.Put key (literal_of k x) (literal_of v y)) answer a r)
 
   remove-read : (new : State) (l : Literal) (x : ℤ) (answer : Answer) → value_of_literal k l ≡ Ok x
-      → is_value k x ≡ true
-      → IsStepOfKind s new key (Map k v) (asked.Remove key (literal_of k x)) answer
+      → is_value k x ≡ true → IsStepOfKind s new key (Map k v) (asked.Remove key (literal_of k x)) answer
       → IsStep s new (asked.Remove key l) answer
-  remove-read new l x answer e good r =
-      same_plan-steps s new (asked.Remove key l) (asked.Remove key (literal_of k x)) answer refl
-      (λ d st.
-      remove-of (map-at d st) l ∙ ap (removes_read (map-at d st)) (e ∙ sym (literal-read k x good))
+  remove-read new l x answer e good r = same_plan-steps s new (asked.Remove key l) (asked.Remove key (literal_of k x))
+      answer refl (λ d st. remove-of (map-at d st) l ∙ ap (removes_read (map-at d st)) (e ∙ sym (literal-read k x good))
       ∙ sym (remove-of (map-at d st) (literal_of k x)))
       (of_kind-steps s new key (Map k v) (asked.Remove key (literal_of k x)) answer a r)
 
   lookup-same : (d : Directory) (st : StandsFor s.cut.bytes d) (l : Literal) (x : ℤ) → value_of_literal k l ≡ Ok x
-      → is_value k x ≡ true
-      → effect d (asked.Lookup key (literal_of k x)) ≡ effect d (asked.Lookup key l)
-  lookup-same d st l x e good =
-      lookup-of (map-at d st) (literal_of k x) ∙ ap (looks_up_read (map-at d st)) (literal-read k x good ∙ sym e)
-      ∙ sym (lookup-of (map-at d st) l)
+      → is_value k x ≡ true → effect d (asked.Lookup key (literal_of k x)) ≡ effect d (asked.Lookup key l)
+  lookup-same d st l x e good = lookup-of (map-at d st) (literal_of k x)
+      ∙ ap (looks_up_read (map-at d st)) (literal-read k x good ∙ sym e) ∙ sym (lookup-of (map-at d st) l)
 
   lookup-read : (l : Literal) (x : ℤ) (answer : Answer) → value_of_literal k l ≡ Ok x → is_value k x ≡ true
       → IsReplyOfKind s key (Map k v) (asked.Lookup key (literal_of k x)) answer → IsReply s (asked.Lookup key l) answer
   lookup-read l x answer e good r = record {
-    answers = λ d st.
-        r.answers d st
-        ∙ ap (λ (q : Answer × Directory). q.0)
-        (of_kind-same s.mode d key (Map k v) (asked.Lookup key (literal_of k x))
-        (kind-told d key (Map k v) (a.answers d st)))
-        ∙ answered-reads s.mode d (asked.Lookup key (literal_of k x)) refl
-        ∙ ap (λ (p : Plan). (perform d (live d) p).0) (lookup-same d st l x e good)
-        ∙ sym (answered-reads s.mode d (asked.Lookup key l) refl);
+    answers = λ d st. r.answers d st ∙ ap (λ (q : Answer × Directory). q.0) (of_kind-same s.mode d key (Map k v)
+        (asked.Lookup key (literal_of k x)) (kind-told d key (Map k v) (a.answers d st))) ∙ answered-reads s.mode d
+        (asked.Lookup key (literal_of k x)) refl ∙ ap (λ (p : Plan). (perform d (live d) p).0) (lookup-same d st l x e
+        good) ∙ sym (answered-reads s.mode d (asked.Lookup key l) refl);
   }
 
 -- ---- as the calls say it
@@ -179,68 +161,54 @@ module _ {s : State} {key : Key} {o : Located} (h : IsToChange s key o) {k v : S
 
   -- a pair of the map's kinds
   pub puts-pair : {new : State} (at value : Literal) (p : ScalarValue × ScalarValue) {answer : Answer}
-      → IsPairOf k v (pair_of k v at value) (Ok p)
-      → IsStepOfKind s new (ByHandle o.handle) (Map (kind_of_scalar p.0) (kind_of_scalar p.1))
-      (asked.Put (ByHandle o.handle) (literal_of (kind_of_scalar p.0) (value_of_scalar p.0))
-      (literal_of (kind_of_scalar p.1) (value_of_scalar p.1))) answer
-      → IsStep s new (asked.Put key at value) answer
+      → IsPairOf k v (pair_of k v at value) (Ok p) → IsStepOfKind s new (ByHandle o.handle) (Map (kind_of_scalar p.0)
+      (kind_of_scalar p.1)) (asked.Put (ByHandle o.handle) (literal_of (kind_of_scalar p.0) (value_of_scalar p.0))
+      (literal_of (kind_of_scalar p.1) (value_of_scalar p.1))) answer → IsStep s new (asked.Put key at value) answer
   puts-pair {new} at value (x, y) {answer} ((same, good), (other, fair), read) r =
       let Puts : ScalarKind → ScalarKind → Type 0 = λ i j. IsStepOfKind s new (ByHandle o.handle) (Map i j)
       (asked.Put (ByHandle o.handle) (literal_of i (value_of_scalar x)) (literal_of j (value_of_scalar y))) answer in
       put-read s key k v (says-kind h.located is) new at value (value_of_scalar x)
-      (value_of_scalar y) answer read good fair
-      (step_of_kind-by_key s key o h.located new (Map k v)
+      (value_of_scalar y) answer read good fair (step_of_kind-by_key s key o h.located new (Map k v)
       (asked.Put key (literal_of k (value_of_scalar x)) (literal_of v (value_of_scalar y))) answer
       (subst (Puts k) other (subst (λ j. Puts j (kind_of_scalar y)) same r)))
 
   pub put-no_pair : (at value : Literal) {why : Refusal} → pair_of k v at value ≡ Err why
       → IsStep s s (asked.Put key at value) (Refused why)
-  put-no_pair at value {why} e =
-      refuses s (asked.Put key at value) why h.writing
+  put-no_pair at value {why} e = refuses s (asked.Put key at value) why h.writing
       (λ d st. put-of (there d st) at value ∙ ap (puts_read (there d st)) e)
 
   -- a key of its kind
-  pub removes-key : {new : State} (at : Literal) (x : ScalarValue) {answer : Answer}
-      → IsValueOf k (value_of_literal k at) (Ok x)
-      → IsStepOfKind s new (ByHandle o.handle) (Map (kind_of_scalar x) v)
-      (asked.Remove (ByHandle o.handle)
+  pub removes-key : {new : State} (at : Literal) (x : ScalarValue) {answer : Answer} → IsValueOf k (value_of_literal k
+      at) (Ok x) → IsStepOfKind s new (ByHandle o.handle) (Map (kind_of_scalar x) v) (asked.Remove (ByHandle o.handle)
       (literal_of (kind_of_scalar x) (value_of_scalar x))) answer → IsStep s new (asked.Remove key at) answer
-  removes-key {new} at x {answer} (same, read, good) r =
-      remove-read s key k v (says-kind h.located is) new at (value_of_scalar x) answer read good
-      (step_of_kind-by_key s key o h.located new (Map k v) (asked.Remove key (literal_of k (value_of_scalar x))) answer
-      (subst
-      (λ j. IsStepOfKind s new (ByHandle o.handle) (Map j v)
+  removes-key {new} at x {answer} (same, read, good) r = remove-read s key k v (says-kind h.located is) new at
+      (value_of_scalar x) answer read good (step_of_kind-by_key s key o h.located new (Map k v) (asked.Remove key
+      (literal_of k (value_of_scalar x))) answer (subst (λ j. IsStepOfKind s new (ByHandle o.handle) (Map j v)
       (asked.Remove (ByHandle o.handle) (literal_of j (value_of_scalar x))) answer) same r))
 
   pub remove-no_value : (at : Literal) {why : Refusal} → value_of_literal k at ≡ Err why
       → IsStep s s (asked.Remove key at) (Refused why)
-  remove-no_value at {why} e =
-      refuses s (asked.Remove key at) why h.writing
+  remove-no_value at {why} e = refuses s (asked.Remove key at) why h.writing
       (λ d st. remove-of (there d st) at ∙ ap (removes_read (there d st)) e)
 
 module _ {s : State} {key : Key} {o : Located} (l : IsLocated s key o) {k v : ScalarKind} (is : o.kind ≡ Map k v) where
   pub looks-up-key : (at : Literal) (x : ScalarValue) {answer : Answer} → IsValueOf k (value_of_literal k at) (Ok x)
-      → IsReplyOfKind s (ByHandle o.handle) (Map (kind_of_scalar x) v)
-      (asked.Lookup (ByHandle o.handle)
+      → IsReplyOfKind s (ByHandle o.handle) (Map (kind_of_scalar x) v) (asked.Lookup (ByHandle o.handle)
       (literal_of (kind_of_scalar x) (value_of_scalar x))) answer → IsReply s (asked.Lookup key at) answer
-  looks-up-key at x {answer} (same, read, good) r =
-      lookup-read s key k v (says-kind l is) at (value_of_scalar x) answer read good
-      (reply_of_kind-by_key s key o l (Map k v) (asked.Lookup key (literal_of k (value_of_scalar x))) answer
-      (subst
-      (λ j. IsReplyOfKind s (ByHandle o.handle) (Map j v)
+  looks-up-key at x {answer} (same, read, good) r = lookup-read s key k v (says-kind l is) at (value_of_scalar x) answer
+      read good (reply_of_kind-by_key s key o l (Map k v) (asked.Lookup key (literal_of k (value_of_scalar x))) answer
+      (subst (λ j. IsReplyOfKind s (ByHandle o.handle) (Map j v)
       (asked.Lookup (ByHandle o.handle) (literal_of j (value_of_scalar x))) answer) same r))
 
   pub lookup-no_value : (at : Literal) {why : Refusal} → value_of_literal k at ≡ Err why
       → IsReply s (asked.Lookup key at) (Refused why)
-  lookup-no_value at {why} e =
-      refuses-read s (asked.Lookup key at) why refl
+  lookup-no_value at {why} e = refuses-read s (asked.Lookup key at) why refl
       (λ d st. let m = map-at s key k v (says-kind l is) d st in lookup-of m at ∙ ap (looks_up_read m) e)
 
 -- no object that may be changed has the key
 module _ {s : State} {key : Key} {why : Refusal} (h : IsUnchangeable s key why) where
   pub put-unchangeable : (at value : Literal) → IsStep s s (asked.Put key at value) (Refused why)
-  put-unchangeable at value =
-      h.refuses (asked.Put key at value) refl
+  put-unchangeable at value = h.refuses (asked.Put key at value) refl
       (λ d n. with-not_found d key (λ o. with (map_of o.value) (puts d o at value)) n)
 
   pub remove-unchangeable : (at : Literal) → IsStep s s (asked.Remove key at) (Refused why)
@@ -250,6 +218,5 @@ module _ {s : State} {key : Key} {why : Refusal} (h : IsUnchangeable s key why) 
 -- none has it
 pub lookup-nowhere : {s : State} {key : Key} (at : Literal) {why : Refusal} → IsMissing s key why
     → IsReply s (asked.Lookup key at) (Refused why)
-lookup-nowhere {s} {key} at {why} m =
-    refuses-read s (asked.Lookup key at) why refl
+lookup-nowhere {s} {key} at {why} m = refuses-read s (asked.Lookup key at) why refl
     (λ d st. with-not_found d key (λ o. with (map_of o.value) (looks_up d at)) (m.missing d st) ∙ ap Refuse (sym m.is))

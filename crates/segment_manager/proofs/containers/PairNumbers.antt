@@ -1,20 +1,19 @@
 -- Maps of values of two types as maps of their numbers: lists of pairs, maps at a place, and what the calls of seg_map
 -- ensure of them.
-use Rattle.segment_manager.proofs.Common.{◌≡◌, refl, sym, ap, subst, ◌∙◌, ℕ, ◌+◌, ℤ, Bool, true, false, ◌&&◌, ◌||◌, not}
-use Rattle.segment_manager.proofs.Common.{Option, Some, None, Result, Ok, Err, List, [], ◌∷◌, map, if◌then◌else◌}
-use Rattle.segment_manager.proofs.Common.{IsTrue, MatchOption, MatchResult, find, int_lt, option_map, AllByRecursion}
-use Rattle.segment_manager.proofs.Common.{length-map, current, Cut, Has, Memory, bytes_of, Node, IsExchanged, LiveSet}
-use Rattle.segment_manager.proofs.Common.{handle, IsTreeOf, place, live_of, serves, ScalarKind, Plain, is_value}
-use Rattle.segment_manager.proofs.Common.{IsChanged, size_of, spelling, Erases, IsBesideMap, IsErased, IsFull, IsPut}
-use Rattle.segment_manager.proofs.Common.{IsPutAgain, Puts, Releases, is_key, is_rising, node_len, pair_at, put_pair}
-use Rattle.segment_manager.proofs.Common.{remove_pair, IsNumberPairAt, NumberPair, is_number_pair, FindsItem}
-use Rattle.segment_manager.proofs.Common.{FindsItemBefore, FindsLastItem, FindsValue, HoldsMap, IsPairIn, IsSomeMap}
-use Rattle.segment_manager.proofs.Common.{first_pair, item_of, nodes_of_pairs, value_of_pair, numbers_in, numbers_of}
+use Rattle.segment_manager.proofs as own
+use own.Common.{◌≡◌, refl, sym, ap, subst, ◌∙◌, ℕ, ◌+◌, ℤ, Bool, true, false, ◌&&◌, ◌||◌, not, Option, Some, None}
+use own.Common.{Result, Ok, Err, List, [], ◌∷◌, map, if◌then◌else◌, IsTrue, MatchOption, MatchResult, find, int_lt}
+use own.Common.{option_map, AllByRecursion, length-map, current, Cut, Has, Memory, bytes_of, Node, IsExchanged, LiveSet}
+use own.Common.{handle, IsTreeOf, place, live_of, serves, ScalarKind, Plain, is_value, IsChanged, size_of, spelling}
+use own.Common.{Erases, IsBesideMap, IsErased, IsFull, IsPut, IsPutAgain, Puts, Releases, is_key, is_rising, node_len}
+use own.Common.{pair_at, put_pair, remove_pair, IsNumberPairAt, NumberPair, is_number_pair, FindsItem, FindsItemBefore}
+use own.Common.{FindsLastItem, FindsValue, HoldsMap, IsPairIn, IsSomeMap, first_pair, item_of, nodes_of_pairs}
+use own.{Common.value_of_pair, Common.numbers_in, Common.numbers_of}
+use Rattle.raw_region.proofs.Facts.{first, second}
 use mathlib.Core.List.{reverse}
-use Rattle.seg_map.specs.{Changing.IsGivenUp, Map.IsPairAt, Map.Pair, Map.is_pair}
 use Rattle.seg_map.specs.Places.{final_pair, is_passed, last_pair}
+use Rattle.seg_map.specs.{Changing.IsGivenUp, Map.IsPairAt, Map.Pair, Map.is_pair}
 use Rattle.seg_map.proofs.Laws.{last_mapped, map_reversed}
-use Rattle.segment_manager.proofs.Words.{first, second}
 
 -- what a type's laws say of its values and their numbers
 pub record IsScalarOf {T : Type 0} (k : ScalarKind) (p : Plain T) (w : T → ℤ) : Type 0 where
@@ -27,9 +26,8 @@ pub record IsScalarOf {T : Type 0} (k : ScalarKind) (p : Plain T) (w : T → ℤ
 -- what a put does, by the pair of the key that there was or was not, and an erasing
 module _ {K V : Type 0} (kp : Plain K) (vp : Plain V) (old new : Cut) (h at : ℕ) (ps : List (Pair K V)) where
   abbrev pub PutsBy : {E : Type 0} → K → V → Result Bool E → Option (Pair K V) → Type 0
-  PutsBy x y result o =
-      MatchOption o (MatchResult result (λ b. (b ≡ true) × IsPut kp vp old new h at ps x y) (λ e. IsFull kp vp old new))
-      (λ p. (result ≡ Ok false) × IsPutAgain kp vp old new h at ps p x y)
+  PutsBy x y result o = MatchOption o (MatchResult result (λ b. (b ≡ true) × IsPut kp vp old new h at ps x y)
+      (λ e. IsFull kp vp old new)) (λ p. (result ≡ Ok false) × IsPutAgain kp vp old new h at ps p x y)
 
   abbrev pub ErasesBy : K → Bool → Option (Pair K V) → Type 0
   ErasesBy x result o =
@@ -70,20 +68,17 @@ module _ {K V : Type 0} {k v : ScalarKind} {kp : Plain K} {vp : Plain V} {kw : K
 
   numbers-at : (ps : List (Pair K V)) (x : K)
       → pair_at int_lt (number_pairs ps) (kw x) ≡ option_map number_pair (pair_at kp.order ps x)
-  numbers-at ps x =
-      find-made number_pair (is_key kp.order x) (is_key int_lt (kw x))
+  numbers-at ps x = find-made number_pair (is_key kp.order x) (is_key int_lt (kw x))
       (λ p i. not (sym (kl.ordered x p.key) i || sym (kl.ordered p.key x) i)) ps
 
   numbers-first : (past : Bool) (x : K) (ps : List (Pair K V))
       → first_pair int_lt past (kw x) (number_pairs ps) ≡ option_map number_pair (first_pair kp.order past x ps)
-  numbers-first past x ps =
-      find-made number_pair (λ p. not (is_passed kp.order past x p)) (λ p. not (is_passed int_lt past (kw x) p))
-      (λ p i. not (if past then not (sym (kl.ordered x p.key) i) else sym (kl.ordered p.key x) i)) ps
+  numbers-first past x ps = find-made number_pair (λ p. not (is_passed kp.order past x p)) (λ p. not (is_passed int_lt
+      past (kw x) p)) (λ p i. not (if past then not (sym (kl.ordered x p.key) i) else sym (kl.ordered p.key x) i)) ps
 
   numbers-last : (past : Bool) (x : K) (ps : List (Pair K V))
       → last_pair int_lt past (kw x) (number_pairs ps) ≡ option_map number_pair (last_pair kp.order past x ps)
-  numbers-last past x ps =
-      ap (find (is_passed int_lt past (kw x))) (map_reversed number_pair ps)
+  numbers-last past x ps = ap (find (is_passed int_lt past (kw x))) (map_reversed number_pair ps)
       ∙ find-made number_pair (is_passed kp.order past x) (is_passed int_lt past (kw x))
       (λ p i. if past then not (sym (kl.ordered x p.key) i) else sym (kl.ordered p.key x) i) (reverse ps)
 
@@ -95,16 +90,13 @@ module _ {K V : Type 0} {k v : ScalarKind} {kp : Plain K} {vp : Plain V} {kw : K
   numbers-put : (p : Pair K V) (ps : List (Pair K V))
       → put_pair int_lt (number_pair p) (number_pairs ps) ≡ number_pairs (put_pair kp.order p ps)
   numbers-put p [] = refl
-  numbers-put p (q ∷ qs) =
-      (λ i. if sym (kl.ordered p.key q.key) i then number_pair p ∷ number_pair q ∷ number_pairs qs
-      else if sym
-      (kl.ordered q.key p.key) i then number_pair q ∷ numbers-put p qs i else number_pair p ∷ number_pairs qs)
-      ∙ chosen (kp.order p.key q.key) (kp.order q.key p.key)
+  numbers-put p (q ∷ qs) = (λ i. if sym (kl.ordered p.key q.key) i then number_pair p ∷ number_pair q ∷ number_pairs qs
+      else if sym (kl.ordered q.key p.key) i then number_pair q ∷ numbers-put p qs i else number_pair p ∷ number_pairs
+      qs) ∙ chosen (kp.order p.key q.key) (kp.order q.key p.key)
     where
-      chosen : (a b : Bool)
-          → (if a then number_pair p ∷ number_pair q ∷ number_pairs qs else if b then number_pair q ∷ number_pairs
-          (put_pair kp.order p qs) else number_pair p ∷ number_pairs qs)
-          ≡ number_pairs (if a then p ∷ q ∷ qs else if b then q ∷ put_pair kp.order p qs else p ∷ qs)
+      chosen : (a b : Bool) → (if a then number_pair p ∷ number_pair q ∷ number_pairs qs else if b then number_pair q ∷
+          number_pairs (put_pair kp.order p qs) else number_pair p ∷ number_pairs qs) ≡ number_pairs (if a then p ∷ q ∷
+          qs else if b then q ∷ put_pair kp.order p qs else p ∷ qs)
       chosen true b = refl
       chosen false true = refl
       chosen false false = refl
@@ -112,14 +104,10 @@ module _ {K V : Type 0} {k v : ScalarKind} {kp : Plain K} {vp : Plain V} {kw : K
   numbers-removed : (ps : List (Pair K V)) (x : K)
       → remove_pair int_lt (number_pairs ps) (kw x) ≡ number_pairs (remove_pair kp.order ps x)
   numbers-removed [] x = refl
-  numbers-removed (q ∷ qs) x =
-      (λ i. if not
-      (sym (kl.ordered x q.key) i || sym
-      (kl.ordered q.key x) i) then number_pairs qs else number_pair q ∷ numbers-removed qs x i) ∙ chosen
-      (is_key kp.order x q)
+  numbers-removed (q ∷ qs) x = (λ i. if not (sym (kl.ordered x q.key) i || sym (kl.ordered q.key x) i) then number_pairs
+      qs else number_pair q ∷ numbers-removed qs x i) ∙ chosen (is_key kp.order x q)
     where
-      chosen : (b : Bool)
-          → (if b then number_pairs qs else number_pair q ∷ number_pairs (remove_pair kp.order qs x))
+      chosen : (b : Bool) → (if b then number_pairs qs else number_pair q ∷ number_pairs (remove_pair kp.order qs x))
           ≡ number_pairs (if b then qs else q ∷ remove_pair kp.order qs x)
       chosen true = refl
       chosen false = refl
@@ -127,18 +115,15 @@ module _ {K V : Type 0} {k v : ScalarKind} {kp : Plain K} {vp : Plain V} {kw : K
   -- ---- in their blocks
 
   pair-good : (p : Pair K V) → is_number_pair k v (number_pair p) ≡ is_pair kp.SIZE vp.SIZE kp.is_value vp.is_value p
-  pair-good p =
-      λ i. sym (kl.values p.key) i && sym (vl.values p.value) i && serves p.node Node
+  pair-good p = λ i. sym (kl.values p.key) i && sym (vl.values p.value) i && serves p.node Node
       (node_len (sym kl.long i) (sym vl.long i))
 
   pair-same : (m : Memory) (p : Pair K V)
       → IsPairAt kp.SIZE kp.spelling vp.spelling m p ≡ IsNumberPairAt k v m (number_pair p)
-  pair-same m p =
-      λ i. Has m (handle p.node + 16) (kl.spelled p.key i) × Has m (handle p.node + 16 + kl.long i)
+  pair-same m p = λ i. Has m (handle p.node + 16) (kl.spelled p.key i) × Has m (handle p.node + 16 + kl.long i)
       (vl.spelled p.value i)
 
-  pairs-same : (m : Memory) (ps : List (Pair K V))
-      → AllByRecursion (IsPairAt kp.SIZE kp.spelling vp.spelling m) ps
+  pairs-same : (m : Memory) (ps : List (Pair K V)) → AllByRecursion (IsPairAt kp.SIZE kp.spelling vp.spelling m) ps
       ≡ AllByRecursion (IsNumberPairAt k v m) (number_pairs ps)
   pairs-same m [] = refl
   pairs-same m (p ∷ ps) = λ i. pair-same m p i × pairs-same m ps i
@@ -149,9 +134,8 @@ module _ {K V : Type 0} {k v : ScalarKind} {kp : Plain K} {vp : Plain V} {kw : K
   pairs-in l h (p ∷ ps) a =
       (record { good = pair-good p ∙ a.0.good; listed = a.0.listed; apart = a.0.apart }, pairs-in l h ps a.1)
 
-  in-pairs : (l : LiveSet) (h : ℕ) (ps : List (Pair K V))
-      → AllByRecursion (IsPairIn (numbers_of k) (numbers_of v) l h) (number_pairs ps)
-      → AllByRecursion (IsPairIn kp vp l h) ps
+  in-pairs : (l : LiveSet) (h : ℕ) (ps : List (Pair K V)) → AllByRecursion (IsPairIn (numbers_of k) (numbers_of v) l h)
+      (number_pairs ps) → AllByRecursion (IsPairIn kp vp l h) ps
   in-pairs l h [] a = tt
   in-pairs l h (p ∷ ps) a =
       (record { good = sym (pair-good p) ∙ a.0.good; listed = a.0.listed; apart = a.0.apart }, in-pairs l h ps a.1)
@@ -172,8 +156,7 @@ module _ {K V : Type 0} {k v : ScalarKind} {kp : Plain K} {vp : Plain V} {kw : K
       (record { key = x.0; value = y.0; node = q.node }, λ i. record { key = x.1 i; value = y.1 i; node = q.node })
 
   reached-pairs : (l : LiveSet) (h : ℕ) (qs : List NumberPair)
-      → AllByRecursion (IsPairIn (numbers_of k) (numbers_of v) l h) qs
-      → (ps : List (Pair K V)) × (number_pairs ps ≡ qs)
+      → AllByRecursion (IsPairIn (numbers_of k) (numbers_of v) l h) qs → (ps : List (Pair K V)) × (number_pairs ps ≡ qs)
   reached-pairs l h [] a = ([], refl)
   reached-pairs l h (q ∷ qs) a =
       let one : (p : Pair K V) × (number_pair p ≡ q) = reached-pair q a.0.good in
@@ -233,9 +216,8 @@ module _ {K V : Type 0} {k v : ScalarKind} {kp : Plain K} {vp : Plain V} {kw : K
         (r.0, (r.1, numbers-map r.0 (subst (HoldsNumbers b h at) (sym r.1) s)))
 
     -- What is said of each map of values is said of each of numbers.
-    of-values : (P : List NumberPair → Type 0)
-        → ((ps : List (Pair K V)) → HoldsMap kp vp b h at ps → P (number_pairs ps))
-        → (qs : List NumberPair) → HoldsNumbers b h at qs → P qs
+    of-values : (P : List NumberPair → Type 0) → ((ps : List (Pair K V)) → HoldsMap kp vp b h at ps
+        → P (number_pairs ps)) → (qs : List NumberPair) → HoldsNumbers b h at qs → P qs
     of-values P each qs s = let r = reached-map qs s in subst P r.1.0 (each r.0 r.1.1)
 
     -- where one of numbers stands, one of values does
@@ -244,19 +226,16 @@ module _ {K V : Type 0} {k v : ScalarKind} {kp : Plain K} {vp : Plain V} {kw : K
 
     pub finds-value : (x : K) (r : Option V) → FindsValue kp vp b h at x r
         → FindsValue (numbers_of k) (numbers_of v) b h at (kw x) (option_map vw r)
-    finds-value x r each =
-        of-values (λ qs. option_map vw r ≡ option_map value_of_pair (pair_at int_lt qs (kw x)))
+    finds-value x r each = of-values (λ qs. option_map vw r ≡ option_map value_of_pair (pair_at int_lt qs (kw x)))
         (λ ps s. ap (option_map vw) (each ps s) ∙ found-value (pair_at kp.order ps x)
         ∙ ap (option_map value_of_pair) (sym (numbers-at ps x)))
 
     -- a pair that is found, as it is found among the numbers
     finds : (found : List (Pair K V) → Option (Pair K V)) (numbers-found : List NumberPair → Option NumberPair)
         → ((ps : List (Pair K V)) → numbers-found (number_pairs ps) ≡ option_map number_pair (found ps))
-        → (r : Option (K × V))
-        → ((ps : List (Pair K V)) → HoldsMap kp vp b h at ps → r ≡ option_map item_of (found ps))
+        → (r : Option (K × V)) → ((ps : List (Pair K V)) → HoldsMap kp vp b h at ps → r ≡ option_map item_of (found ps))
         → (qs : List NumberPair) → HoldsNumbers b h at qs → numbers_in kw vw r ≡ option_map item_of (numbers-found qs)
-    finds found numbers-found same r each =
-        of-values (λ qs. numbers_in kw vw r ≡ option_map item_of (numbers-found qs))
+    finds found numbers-found same r each = of-values (λ qs. numbers_in kw vw r ≡ option_map item_of (numbers-found qs))
         (λ ps s. ap (numbers_in kw vw) (each ps s) ∙ found-item (found ps) ∙ ap (option_map item_of) (sym (same ps)))
 
     pub finds-item : (past : Bool) (x : K) (r : Option (K × V)) → FindsItem kp vp b h at past x r
@@ -280,8 +259,7 @@ module _ {K V : Type 0} {k v : ScalarKind} {kp : Plain K} {vp : Plain V} {kw : K
 
     put-numbers : (ps : List (Pair K V)) (p : Pair K V) → HoldsMap kp vp new.bytes h at (put_pair kp.order p ps)
         → HoldsNumbers new.bytes h at (put_pair int_lt (number_pair p) (number_pairs ps))
-    put-numbers ps p s =
-        subst (HoldsNumbers new.bytes h at) (sym (numbers-put p ps))
+    put-numbers ps p s = subst (HoldsNumbers new.bytes h at) (sym (numbers-put p ps))
         (map-numbers new.bytes h at (put_pair kp.order p ps) s)
 
     -- the place of a new node
@@ -290,9 +268,8 @@ module _ {K V : Type 0} {k v : ScalarKind} {kp : Plain K} {vp : Plain V} {kw : K
     placed-so = λ i. place (live_of old.bytes) (node_len (sym kl.long i) (sym vl.long i)) Node
 
     puts-if : {E : Type 0} (ps : List (Pair K V)) (x : K) (y : V) (result : Result Bool E) (o : Option (Pair K V))
-        → PutsBy kp vp old new h at ps x y result o
-        → PutsBy (numbers_of k) (numbers_of v) old new h at (number_pairs ps) (kw x) (vw y) result
-        (option_map number_pair o)
+        → PutsBy kp vp old new h at ps x y result o → PutsBy (numbers_of k) (numbers_of v) old new h at
+        (number_pairs ps) (kw x) (vw y) result (option_map number_pair o)
     puts-if ps x y (Ok b) None r = (
       r.0,
       record {
@@ -317,13 +294,10 @@ module _ {K V : Type 0} {k v : ScalarKind} {kp : Plain K} {vp : Plain V} {kw : K
 
     pub puts-numbers : {E : Type 0} (x : K) (y : V) (result : Result Bool E) → Puts kp vp old new h at x y result
         → Puts (numbers_of k) (numbers_of v) old new h at (kw x) (vw y) result
-    puts-numbers x y result each =
-        of-values old.bytes h at
+    puts-numbers x y result each = of-values old.bytes h at
         (λ qs. PutsBy (numbers_of k) (numbers_of v) old new h at qs (kw x) (vw y) result (pair_at int_lt qs (kw x)))
-        (λ ps s.
-        subst (PutsBy (numbers_of k) (numbers_of v) old new h at (number_pairs ps) (kw x) (vw y) result)
-        (sym (numbers-at ps x))
-        (puts-if ps x y result (pair_at kp.order ps x) (each ps s)))
+        (λ ps s. subst (PutsBy (numbers_of k) (numbers_of v) old new h at (number_pairs ps) (kw x) (vw y) result)
+        (sym (numbers-at ps x)) (puts-if ps x y result (pair_at kp.order ps x) (each ps s)))
 
     erases-if : (ps : List (Pair K V)) (x : K) (result : Bool) (o : Option (Pair K V))
         → ErasesBy kp vp old new h at ps x result o
@@ -341,18 +315,13 @@ module _ {K V : Type 0} {k v : ScalarKind} {kp : Plain K} {vp : Plain V} {kw : K
 
     pub erases-numbers : (x : K) (result : Bool) → Erases kp vp old new h at x result
         → Erases (numbers_of k) (numbers_of v) old new h at (kw x) result
-    erases-numbers x result each =
-        of-values old.bytes h at
-        (λ qs. ErasesBy (numbers_of k) (numbers_of v) old new h at qs (kw x) result (pair_at int_lt qs (kw x)))
-        (λ ps s.
+    erases-numbers x result each = of-values old.bytes h at
+        (λ qs. ErasesBy (numbers_of k) (numbers_of v) old new h at qs (kw x) result (pair_at int_lt qs (kw x))) (λ ps s.
         subst (ErasesBy (numbers_of k) (numbers_of v) old new h at (number_pairs ps) (kw x) result)
-        (sym (numbers-at ps x))
-        (erases-if ps x result (pair_at kp.order ps x) (each ps s)))
+        (sym (numbers-at ps x)) (erases-if ps x result (pair_at kp.order ps x) (each ps s)))
 
     pub releases-numbers : Releases kp vp old new h at → Releases (numbers_of k) (numbers_of v) old new h at
-    releases-numbers each =
-        of-values old.bytes h at (IsGivenUp (numbers_of k) (numbers_of v) old new h at)
-        (λ ps s.
+    releases-numbers each = of-values old.bytes h at (IsGivenUp (numbers_of k) (numbers_of v) old new h at) (λ ps s.
         let r : IsGivenUp kp vp old new h at ps = each ps s in
         let none : List (Pair K V) = [] in record {
           change = subst (λ xs. IsExchanged current old new (h + at) 24 xs []) (sym (numbers-extents ps)) r.change;

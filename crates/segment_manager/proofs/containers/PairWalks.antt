@@ -1,25 +1,23 @@
 -- A walk over the pairs of the object of a key, of whatever kinds they are: what each call of it answers, and that none
 -- is left out.
-use Rattle.segment_manager.proofs.Common.{◌≡◌, refl, sym, ap, subst, ◌∙◌, ℕ, zero, suc, ◌+◌, ℤ, Bool, true, ◌&&◌}
-use Rattle.segment_manager.proofs.Common.{Option, Some, None, Result, Ok, List, [], ◌∷◌, ◌++◌, slice_get, arith, IsTrue}
-use Rattle.segment_manager.proofs.Common.{int_lt, option_map, list_all, eq-eqb, current, Node, ObjectRole, serves, Map}
-use Rattle.segment_manager.proofs.Common.{ScalarKind, Refusal, ScalarValue, code_of, is_kind_of, is_value, lowest}
-use Rattle.segment_manager.proofs.Common.{same_kind, size_of, Key, kind_of_scalar, value_of_scalar, is_rising, node_len}
-use Rattle.segment_manager.proofs.Common.{NumberPair, is_number_pair, item_of, Denotes, Value, Pairs, Object, Directory}
-use Rattle.segment_manager.proofs.Common.{has_good_name, is_good_value, is_object, kind_of, object_at, object_len}
-use Rattle.segment_manager.proofs.Common.{pair_above, pair_from, told_of, told_of_map, Answers, State, StandsFor, IsMap}
-use Rattle.segment_manager.proofs.Common.{first_of, item_of_kinds, item_seen, pairs_at, pairs_of}
+use Rattle.segment_manager.proofs as own
+use own.Common.{◌≡◌, refl, sym, ap, subst, ◌∙◌, ℕ, zero, suc, ◌+◌, ℤ, Bool, true, ◌&&◌, Option, Some, None, Result, Ok}
+use own.Common.{List, [], ◌∷◌, ◌++◌, slice_get, arith, IsTrue, int_lt, option_map, list_all, eq-eqb, current, Node}
+use own.Common.{ObjectRole, serves, Map, ScalarKind, Refusal, ScalarValue, code_of, is_kind_of, is_value, lowest}
+use own.Common.{same_kind, size_of, Key, kind_of_scalar, value_of_scalar, is_rising, node_len, NumberPair}
+use own.Common.{is_number_pair, item_of, Denotes, Value, Pairs, Object, Directory, has_good_name, is_good_value}
+use own.Common.{is_object, kind_of, object_at, object_len, pair_above, pair_from, told_of, told_of_map, Answers, State}
+use own.Common.{StandsFor, IsMap, first_of, item_of_kinds, item_seen, pairs_at, pairs_of}
+use own.containers.AnyStorage.{IsOfKindAt, kind-told}
+use own.containers.MapWalks.{walk-goes_on, walk-starts}
+use own.{objects.Here.standing, containers.MapSteps.map-only, containers.Refilled.told-some}
+use Rattle.raw_region.proofs.Facts.{first, second}
 use Rattle.segment_manager.specs.containers.Walks.{AreOfKinds, numbers_read}
-use Rattle.segment_manager.proofs.{containers.AnyStorage.IsOfKindAt, containers.AnyStorage.kind-told}
-use Rattle.segment_manager.proofs.{objects.Here.standing, containers.MapSteps.map-only, containers.Refilled.told-some}
-use Rattle.segment_manager.proofs.{containers.MapWalks.walk-goes_on, containers.MapWalks.walk-starts, Words.first}
-use Rattle.segment_manager.proofs.{Words.second}
 
 -- ---- the pairs of a good value
 
 pub good-value : (o : Object) → IsTrue (is_object current o) → IsTrue (is_good_value o.value)
-good-value o h =
-    second (has_good_name current o && is_kind_of current (kind_of o.value)) (is_good_value o.value)
+good-value o h = second (has_good_name current o && is_kind_of current (kind_of o.value)) (is_good_value o.value)
     (first (has_good_name current o && is_kind_of current (kind_of o.value) && is_good_value o.value)
     (serves o.extent ObjectRole (object_len o.name o.value)) h)
 
@@ -33,8 +31,7 @@ keys-are : (k v : ScalarKind) (ps : List NumberPair) → IsTrue (list_all (is_nu
 keys-are k v [] h = refl
 keys-are k v (p ∷ ps) h =
     let one : IsTrue (is_number_pair k v p) = first (is_number_pair k v p) (list_all (is_number_pair k v) ps) h in
-    let key : IsTrue (is_value k p.key) =
-    first (is_value k p.key) (is_value v p.value)
+    let key : IsTrue (is_value k p.key) = first (is_value k p.key) (is_value v p.value)
     (first (is_value k p.key && is_value v p.value) (serves p.node Node (node_len (size_of k) (size_of v))) one) in
     both (is_value k p.key) (list_all (λ (q : NumberPair). is_value k q.key) ps) key
     (keys-are k v ps (second (is_number_pair k v p) (list_all (is_number_pair k v) ps) h))
@@ -57,9 +54,8 @@ module _ (d : Directory) (key : Key) (k v : ScalarKind) (e : IsOfKindAt d key (M
   the-pairs = map-only k v e.object.value same
 
   pairs-found : pairs_at d key ≡ the-pairs.0
-  pairs-found =
-      ap (λ (r : Option Object). elim r as (λ _. List NumberPair) [ None ↦ [] | Some o ↦ pairs_of o.value ]) e.is
-      ∙ ap pairs_of the-pairs.1
+  pairs-found = ap (λ (r : Option Object). elim r as (λ _. List NumberPair) [ None ↦ [] | Some o ↦ pairs_of o.value ])
+      e.is ∙ ap pairs_of the-pairs.1
 
   -- what is said of the map of the kinds is said of them
   pub told-of-them : {A : Type 0} (say : List NumberPair → A) → told_of_map d key k v say ≡ Ok (say (pairs_at d key))
@@ -71,12 +67,10 @@ module _ (d : Directory) (key : Key) (k v : ScalarKind) (e : IsOfKindAt d key (M
   pub starts : (b : List ℕ) → Denotes current b d
       → pair_from (lowest k) (pairs_at d key) ≡ option_map item_of (first_of (pairs_at d key))
   starts b den =
-      let good : IsTrue (is_good_value (Pairs k v the-pairs.0)) =
-      subst (λ (w : Value). IsTrue (is_good_value w)) the-pairs.1
-      (good-value e.object (standing b d key e.object den e.is).good) in
+      let good : IsTrue (is_good_value (Pairs k v the-pairs.0)) = subst (λ (w : Value). IsTrue (is_good_value w))
+      the-pairs.1 (good-value e.object (standing b d key e.object den e.is).good) in
       subst (λ (ps : List NumberPair). pair_from (lowest k) ps ≡ option_map item_of (first_of ps)) (sym pairs-found)
-      (walk-starts k the-pairs.0
-      (keys-are k v the-pairs.0
+      (walk-starts k the-pairs.0 (keys-are k v the-pairs.0
       (second (is_rising int_lt the-pairs.0) (list_all (is_number_pair k v) the-pairs.0) good)))
 
 -- ---- what the calls answer
@@ -93,14 +87,12 @@ module _ (s : State) (key : Key) (k v : ScalarKind) (is : IsMap s key k v) where
   map-known : (d : Directory) → StandsFor s.cut.bytes d → IsOfKindAt d key (Map k v)
   map-known d l = kind-told d key (Map k v) (is.answers d l)
 
-  pub first-seen : (o : Option (ScalarValue × ScalarValue)) → AreOfKinds k v (Ok o)
-      → Answers s (λ d. told_of_map d key k v (pair_from (lowest k)))
-      (numbers_read value_of_scalar value_of_scalar (Ok o))
+  pub first-seen : (o : Option (ScalarValue × ScalarValue)) → AreOfKinds k v (Ok o) → Answers s (λ d. told_of_map d key
+      k v (pair_from (lowest k))) (numbers_read value_of_scalar value_of_scalar (Ok o))
       → Answers s (λ d. option_map (item_of_kinds k v) (option_map item_of (first_of (pairs_at d key))))
       (option_map item_seen o)
   first-seen o h a = record {
-    answers = λ d l.
-        seen-if k v o (pair_from (lowest k) (pairs_at d key)) h
+    answers = λ d l. seen-if k v o (pair_from (lowest k) (pairs_at d key)) h
         (a.answers d l ∙ told-of-them d key k v (map-known d l) (pair_from (lowest k)))
         ∙ ap (option_map (item_of_kinds k v)) (starts d key k v (map-known d l) s.cut.bytes l.denotes);
   }
@@ -111,12 +103,10 @@ module _ (x : ScalarValue) (k : ScalarKind) (e : kind_of_scalar x ≡ k) where
       → AreOfKinds k v (Ok o)
   least-kinds v o h = subst (λ j. AreOfKinds j v (Ok o)) e h
 
-  pub least-told : value_of_scalar x ≡ lowest k → (s : State) (key : Key) (v : ScalarKind)
-      (r : Result (Option (ℤ × ℤ)) Refusal)
-      → Answers s (λ d. told_of_map d key (kind_of_scalar x) v (pair_from (value_of_scalar x))) r
+  pub least-told : value_of_scalar x ≡ lowest k → (s : State) (key : Key) (v : ScalarKind) (r : Result (Option (ℤ × ℤ))
+      Refusal) → Answers s (λ d. told_of_map d key (kind_of_scalar x) v (pair_from (value_of_scalar x))) r
       → Answers s (λ d. told_of_map d key k v (pair_from (lowest k))) r
-  least-told f s key v r a =
-      subst (λ z. Answers s (λ d. told_of_map d key k v (pair_from z)) r) f
+  least-told f s key v r a = subst (λ z. Answers s (λ d. told_of_map d key k v (pair_from z)) r) f
       (subst (λ j. Answers s (λ d. told_of_map d key j v (pair_from (value_of_scalar x))) r) e a)
 
 -- ---- the places of the pairs

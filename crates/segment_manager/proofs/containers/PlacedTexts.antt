@@ -1,12 +1,12 @@
 -- Texts that ask for their blocks one after another get what `place_all` gives, and keep their bytes.
-use Rattle.segment_manager.proofs.Common.{◌≡◌, refl, sym, ap, ◌∙◌, ℕ, Bool, true, false, List, [], ◌∷◌, Option, Some}
-use Rattle.segment_manager.proofs.Common.{None, length, ◌==◌, IsTrue, option_map, cond-true, cond-false, Role, Storage}
-use Rattle.segment_manager.proofs.Common.{Extent, LiveSet, is_proper, added, place, resized, placed_is_proper}
-use Rattle.segment_manager.proofs.Common.{OwnedText, Directory, Answer, Refused, NoSpace, Plan, New, Request, perform}
-use Rattle.segment_manager.proofs.Common.{AllByRecursion, are_bytes, if◌then◌else◌, list_all, placed_text, placed_texts}
-use Rattle.segment_manager.proofs.Common.{same_Some, subst, with_text}
-use Rattle.segment_manager.proofs.{Common.with_owned_texts, Order.live-rises, Order.rising-insert, Order.resized-fresh}
-use Rattle.segment_manager.proofs.{containers.TextsHeld.HasBytes, Words.first, Words.second}
+use Rattle.segment_manager.proofs as own
+use own.Common.{◌≡◌, refl, sym, ap, ◌∙◌, ℕ, Bool, true, false, List, [], ◌∷◌, Option, Some, None, length, ◌==◌, IsTrue}
+use own.Common.{option_map, cond-true, cond-false, Role, Storage, Extent, LiveSet, is_proper, added, place, resized}
+use own.Common.{placed_is_proper, OwnedText, Directory, Answer, Refused, NoSpace, Plan, New, Request, perform}
+use own.Common.{AllByRecursion, are_bytes, if◌then◌else◌, list_all, placed_text, placed_texts, same_Some, subst}
+use own.Order.{live-rises, rising-insert, resized-fresh}
+use own.{Common.with_text, Common.with_owned_texts, containers.TextsHeld.HasBytes}
+use Rattle.raw_region.proofs.Facts.{first, second}
 use Rattle.best_fit.specs.Requests.{place_all, all_added}
 use Rattle.segment_manager.specs.containers.OwnedTexts.{text_needs, owned_texts, with_blocks, TextsArePlaced}
 
@@ -32,13 +32,11 @@ empty-blocks d l bs bss next (Some xs) e =
     ap (λ ps. perform d (all_added l xs) (next ps)) (sym (owned-empty bs bss xs e))
 
 -- any other takes the first
-first-block : (d : Directory) (l : LiveSet) (x : Extent) (bs : List ℕ) (bss : List (List ℕ))
-    (next : List OwnedText → Plan) (o : Option (List Extent)) → (length bs == 0) ≡ false
-    → with_blocks d (added l x) bss (λ ps. next (in_block bs x ∷ ps)) o
-    ≡ with_blocks d l (bs ∷ bss) next (option_map (λ xs. x ∷ xs) o)
+first-block : (d : Directory) (l : LiveSet) (x : Extent) (bs : List ℕ) (bss : List (List ℕ)) (next : List OwnedText
+    → Plan) (o : Option (List Extent)) → (length bs == 0) ≡ false → with_blocks d (added l x) bss
+    (λ ps. next (in_block bs x ∷ ps)) o ≡ with_blocks d l (bs ∷ bss) next (option_map (λ xs. x ∷ xs) o)
 first-block d l x bs bss next None e = refl
-first-block d l x bs bss next (Some xs) e =
-    ap (λ ps. perform d (all_added (added l x) xs) (next ps))
+first-block d l x bs bss next (Some xs) e = ap (λ ps. perform d (all_added (added l x) xs) (next ps))
     (sym (cond-false (length bs == 0) (unplaced bs ∷ owned_texts bss (x ∷ xs)) (in_block bs x ∷ owned_texts bss xs) e))
 
 -- what one request comes to
@@ -49,45 +47,36 @@ abbrev placed_then : LiveSet → List (ℕ × Role) → Option Extent → Option
 placed_then l needs o = elim o [ None ↦ None | Some x ↦ option_map (λ xs. x ∷ xs) (place_all (added l x) needs) ]
 
 abbrev Placed : Directory → List (List ℕ) → Type 0
-Placed d bss =
-    (l : LiveSet) (next : List OwnedText → Plan) → IsTrue (is_proper l) → perform d l (with_owned_texts bss next)
-    ≡ with_blocks d l bss next (place_all l (text_needs bss))
+Placed d bss = (l : LiveSet) (next : List OwnedText → Plan) → IsTrue (is_proper l)
+    → perform d l (with_owned_texts bss next) ≡ with_blocks d l bss next (place_all l (text_needs bss))
 
 request-placed : (d : Directory) (l : LiveSet) (bs : List ℕ) (bss : List (List ℕ)) (next : List OwnedText → Plan)
-    (o : Option Extent) → Placed d bss → IsTrue (is_proper l)
-    → (length bs == 0) ≡ false → place l (length bs) Storage ≡ o
-    → requested d l (λ x. with_owned_texts bss (λ ps. next (in_block bs x ∷ ps))) o
-    ≡ with_blocks d l (bs ∷ bss) next (placed_then l (text_needs bss) o)
+    (o : Option Extent) → Placed d bss → IsTrue (is_proper l) → (length bs == 0) ≡ false
+    → place l (length bs) Storage ≡ o → requested d l (λ x. with_owned_texts bss (λ ps. next (in_block bs x ∷ ps)))
+    o ≡ with_blocks d l (bs ∷ bss) next (placed_then l (text_needs bss) o)
 request-placed d l bs bss next None more p e f = refl
 request-placed d l bs bss next (Some x) more p e f =
     let q = placed_is_proper l (length bs) Storage x p f in
-    ap (λ k. perform d k (with_owned_texts bss (λ ps. next (in_block bs x ∷ ps))))
-    (resized-fresh l x (rising-insert 128 x l.extents (live-rises (added l x) q)).differs)
-    ∙ more (added l x) (λ ps. next (in_block bs x ∷ ps)) q
+    ap (λ k. perform d k (with_owned_texts bss (λ ps. next (in_block bs x ∷ ps)))) (resized-fresh l x (rising-insert 128
+    x l.extents (live-rises (added l x) q)).differs) ∙ more (added l x) (λ ps. next (in_block bs x ∷ ps)) q
     ∙ first-block d l x bs bss next (place_all (added l x) (text_needs bss)) e
 
 -- one text more
 one-more : (d : Directory) (l : LiveSet) (bs : List ℕ) (bss : List (List ℕ)) (next : List OwnedText → Plan) (b : Bool)
-    → Placed d bss → IsTrue (is_proper l) → (length bs == 0) ≡ b
-    → perform d l (with_owned_texts (bs ∷ bss) next)
+    → Placed d bss → IsTrue (is_proper l) → (length bs == 0) ≡ b → perform d l (with_owned_texts (bs ∷ bss) next)
     ≡ with_blocks d l (bs ∷ bss) next (place_all l (text_needs (bs ∷ bss)))
 one-more d l bs bss next true more p e =
     let after : OwnedText → Plan = λ p. with_owned_texts bss (λ ps. next (p ∷ ps)) in
-    ap (perform d l)
-    (cond-true (length bs == 0) (after (unplaced bs))
-    (Request (New Storage (length bs)) (λ x. after (in_block bs x))) e)
-    ∙ more l (λ ps. next (unplaced bs ∷ ps)) p
-    ∙ empty-blocks d l bs bss next (place_all l (text_needs bss)) e
-    ∙ ap (λ needs. with_blocks d l (bs ∷ bss) next (place_all l needs))
+    ap (perform d l) (cond-true (length bs == 0) (after (unplaced bs)) (Request (New Storage (length bs))
+    (λ x. after (in_block bs x))) e) ∙ more l (λ ps. next (unplaced bs ∷ ps)) p ∙ empty-blocks d l bs bss next
+    (place_all l (text_needs bss)) e ∙ ap (λ needs. with_blocks d l (bs ∷ bss) next (place_all l needs))
     (sym (cond-true (length bs == 0) (text_needs bss) ((length bs, Storage) ∷ text_needs bss) e))
 one-more d l bs bss next false more p e =
     let after : OwnedText → Plan = λ p. with_owned_texts bss (λ ps. next (p ∷ ps)) in
-    ap (perform d l)
-    (cond-false (length bs == 0) (after (unplaced bs))
-    (Request (New Storage (length bs)) (λ x. after (in_block bs x))) e)
-    ∙ request-placed d l bs bss next (place l (length bs) Storage) more p e refl
-    ∙ ap (λ needs. with_blocks d l (bs ∷ bss) next (place_all l needs))
-    (sym (cond-false (length bs == 0) (text_needs bss) ((length bs, Storage) ∷ text_needs bss) e))
+    ap (perform d l) (cond-false (length bs == 0) (after (unplaced bs)) (Request (New Storage (length bs))
+    (λ x. after (in_block bs x))) e) ∙ request-placed d l bs bss next (place l (length bs) Storage) more p e refl
+    ∙ ap (λ needs. with_blocks d l (bs ∷ bss) next (place_all l needs)) (sym (cond-false (length bs == 0)
+    (text_needs bss) ((length bs, Storage) ∷ text_needs bss) e))
 
 all-placed : (d : Directory) (bss : List (List ℕ)) → Placed d bss
 all-placed d [] l next p = refl
@@ -108,22 +97,19 @@ text_bytes-if bs q false (Some x) e = ap (λ (p : OwnedText). p.bytes) (same_Som
 -- a text that takes a block has its bytes
 pub text-bytes : (l : LiveSet) (bs : List ℕ) (q : OwnedText) → IsTrue (are_bytes bs) → placed_text l bs ≡ Some q
     → HasBytes q
-text-bytes l bs q h e =
-    subst (λ (cs : List ℕ). IsTrue (are_bytes cs))
+text-bytes l bs q h e = subst (λ (cs : List ℕ). IsTrue (are_bytes cs))
     (text_bytes-if bs q (length bs == 0) (place l (length bs) Storage) e) h
 
 texts_bytes-if : (l : LiveSet) (bs : List ℕ) (bss : List (List ℕ)) (qs : List OwnedText) (r : Option OwnedText)
-    → placed_text l bs ≡ r → IsTrue (are_bytes bs)
-    → ((m : LiveSet) (ps : List OwnedText) → placed_texts m bss ≡ Some ps → AllByRecursion HasBytes ps)
-    → elim r as (λ _. Option (List OwnedText))
+    → placed_text l bs ≡ r → IsTrue (are_bytes bs) → ((m : LiveSet) (ps : List OwnedText) → placed_texts m bss ≡ Some ps
+    → AllByRecursion HasBytes ps) → elim r as (λ _. Option (List OwnedText))
     [ None ↦ None | Some q ↦ option_map (λ ps. q ∷ ps) (placed_texts (with_text l q) bss) ] ≡ Some qs
     → AllByRecursion HasBytes qs
 texts_bytes-if l bs bss qs None f h more e = absurd (cc)
 texts_bytes-if l bs bss qs (Some q) f h more e = behind (placed_texts (with_text l q) bss) refl e
   where
     behind : (r : Option (List OwnedText)) → placed_texts (with_text l q) bss ≡ r
-        → option_map (λ ps. q ∷ ps) r ≡ Some qs
-        → AllByRecursion HasBytes qs
+        → option_map (λ ps. q ∷ ps) r ≡ Some qs → AllByRecursion HasBytes qs
     behind None g e = absurd (cc)
     behind (Some ps) g e =
         subst (AllByRecursion HasBytes) (same_Some (q ∷ ps) qs e) (text-bytes l bs q h f, more (with_text l q) ps g)
@@ -132,6 +118,5 @@ texts_bytes-if l bs bss qs (Some q) f h more e = behind (placed_texts (with_text
 pub texts-bytes : (l : LiveSet) (bss : List (List ℕ)) (qs : List OwnedText) → IsTrue (list_all are_bytes bss)
     → placed_texts l bss ≡ Some qs → AllByRecursion HasBytes qs
 texts-bytes l [] qs h e = subst (AllByRecursion HasBytes) (same_Some [] qs e) tt
-texts-bytes l (bs ∷ bss) qs h e =
-    texts_bytes-if l bs bss qs (placed_text l bs) refl (first (are_bytes bs) (list_all are_bytes bss) h)
-    (λ m ps g. texts-bytes m bss ps (second (are_bytes bs) (list_all are_bytes bss) h) g) e
+texts-bytes l (bs ∷ bss) qs h e = texts_bytes-if l bs bss qs (placed_text l bs) refl (first (are_bytes bs)
+    (list_all are_bytes bss) h) (λ m ps g. texts-bytes m bss ps (second (are_bytes bs) (list_all are_bytes bss) h) g) e

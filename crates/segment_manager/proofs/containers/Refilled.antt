@@ -1,18 +1,15 @@
 -- A call that changes a vector or text of an object is one step of the directory machine.
-use Rattle.segment_manager.proofs.Common.{◌≡◌, refl, sym, ap, ◌∙◌, ℕ, true, false, Bool, Option, Some, None, Result, Ok}
-use Rattle.segment_manager.proofs.Common.{Err, List, if◌then◌else◌, ◌*◌, ◌&&◌, IsTrue, nat_le, option_map, Cut, live_of}
-use Rattle.segment_manager.proofs.Common.{Table, Extent, LiveSet, regrow, Kind, Refusal, NoSpace, NotFound, WrongKind}
-use Rattle.segment_manager.proofs.Common.{ReadOnly, same_kind, Key, Command, is_changing, Place, grown_table, Mode}
-use Rattle.segment_manager.proofs.Common.{same_Some, Answer, Refused, Contents, IsRefilled, container_at}
-use Rattle.segment_manager.proofs.Common.{container_place, contents_of, has_values, Value, Object, Directory, kind_of}
-use Rattle.segment_manager.proofs.Common.{live, object_at, Denotes, perform, with_capacity, Request, RegrownNeed}
-use Rattle.segment_manager.proofs.Common.{Refuse, Answers, IsSegment, IsStep, IsStepOfKind, State, StandsFor, changed}
-use Rattle.segment_manager.proofs.Common.{effect, Plan, is_read_only, step_of_kind, step, arith, le-ltb, lt-ltb}
-use Rattle.segment_manager.proofs.Common.{resized, with_array}
-use Rattle.segment_manager.proofs.{Calling.denotes-live, containers.Contained.contents-changed}
-use Rattle.segment_manager.proofs.Steps.{IsMove, IsOpenFor, by_no_change, by_no_change_of_kind, by_step_of_kind}
-use Rattle.segment_manager.proofs.Steps.{open-writing, step-effect, step_of_kind-found, step_of_kind-not_found}
-use Rattle.segment_manager.proofs.Steps.{step_of_kind-other, moves-same}
+use Rattle.segment_manager.proofs as own
+use own.Common.{◌≡◌, refl, sym, ap, ◌∙◌, ℕ, true, false, Bool, Option, Some, None, Result, Ok, Err, List, if◌then◌else◌}
+use own.Common.{◌*◌, ◌&&◌, IsTrue, nat_le, option_map, Cut, live_of, Table, Extent, LiveSet, regrow, Kind, Refusal}
+use own.Common.{NoSpace, NotFound, WrongKind, ReadOnly, same_kind, Key, Command, is_changing, Place, grown_table, Mode}
+use own.Common.{same_Some, Answer, Refused, Contents, IsRefilled, container_at, container_place, contents_of}
+use own.Common.{has_values, Value, Object, Directory, kind_of, live, object_at, Denotes, perform, with_capacity}
+use own.Common.{Request, RegrownNeed, Refuse, Answers, IsSegment, IsStep, IsStepOfKind, State, StandsFor, changed}
+use own.Common.{effect, Plan, is_read_only, step_of_kind, step, arith, le-ltb, lt-ltb, resized, with_array}
+use own.Steps.{IsMove, IsOpenFor, by_no_change, by_no_change_of_kind, by_step_of_kind, open-writing, step-effect}
+use own.Steps.{step_of_kind-found, step_of_kind-not_found, step_of_kind-other, moves-same}
+use own.{Calling.denotes-live, containers.Contained.contents-changed}
 use Rattle.std.proofs.lemmas.Bool.{leb-false}
 
 -- ---- a plan that asks for a block
@@ -23,8 +20,7 @@ then_by beside d next None = (Refused NoSpace, d)
 then_by beside d next (Some a) = perform d (beside a) (next a)
 
 pub asked-met : {A : Type 0} (beside : A → LiveSet) (made : Extent → A) (d : Directory) (l : LiveSet) (next : A → Plan)
-    → ((x : Extent) → resized l x ≡ beside (made x)) → (r : Option Extent)
-    → elim r as (λ _. Answer × Directory)
+    → ((x : Extent) → resized l x ≡ beside (made x)) → (r : Option Extent) → elim r as (λ _. Answer × Directory)
     [ None ↦ (Refused NoSpace, d) | Some x ↦ perform d (resized l x) (next (made x)) ]
     ≡ then_by beside d next (option_map made r)
 asked-met beside made d l next e None = refl
@@ -46,10 +42,8 @@ room-if : (d : Directory) (l : LiveSet) (each : ℕ) (t : Table) (n : ℕ) (next
     ≡ then_room d l t next (if b then Some t else option_map (of_places n) (regrow l t.extent (each * n)))
 room-if d l each t n next true h =
     ap (λ (b : Bool). perform d (grown_set l t b) (next t)) (sym (le-ltb t.capacity t.capacity (omega arith)))
-room-if d l each t n next false h =
-    asked-met (with_array l t) (of_places n) d l next
-    (λ x i. grown_set l (of_places n x) (sym (lt-ltb t.capacity n (leb-false n t.capacity h)) i))
-    (regrow l t.extent (each * n))
+room-if d l each t n next false h = asked-met (with_array l t) (of_places n) d l next (λ x i. grown_set l
+    (of_places n x) (sym (lt-ltb t.capacity n (leb-false n t.capacity h)) i)) (regrow l t.extent (each * n))
 
 pub room-grown : (d : Directory) (l : LiveSet) (each : ℕ) (t : Table) (n : ℕ) (next : Table → Plan)
     → perform d l (with_capacity each n t next) ≡ then_room d l t next (grown_table l each n t)
@@ -75,11 +69,9 @@ pub record Refill (old new : Cut) (d : Directory) (key : Key) (c : Command) (ans
 
 -- the plan asks for room, where there is some or none
 pub room-asked : (format : ℕ) (b : List ℕ) (d : Directory) (c : Command) (each n : ℕ) (t : Table) (r : Option Table)
-    (next : Table → Plan) → Denotes format b d
-    → effect d c ≡ with_capacity each n t next → grown_table (live_of b) each n t ≡ r
-    → perform d (live d) (effect d c) ≡ then_room d (live d) t next r
-room-asked format b d c each n t r next k e g =
-    ap (perform d (live d)) e ∙ room-grown d (live d) each t n next
+    (next : Table → Plan) → Denotes format b d → effect d c ≡ with_capacity each n t next
+    → grown_table (live_of b) each n t ≡ r → perform d (live d) (effect d c) ≡ then_room d (live d) t next r
+room-asked format b d c each n t r next k e g = ap (perform d (live d)) e ∙ room-grown d (live d) each t n next
     ∙ ap (then_room d (live d) t next) (ap (λ l. grown_table l each n t) (sym (denotes-live format b d k)) ∙ g)
 
 -- the new bytes stand for the directory with the next value
@@ -96,9 +88,8 @@ refill-moves s new d key c answer next k r e = record {
 }
 
 -- a plan that comes to a refusal
-pub refused-steps : (s : State) (c : Command) (r : Refusal) → is_read_only s.mode ≡ false
-    → ((d : Directory) → StandsFor s.cut.bytes d → perform d (live d) (effect d c) ≡ (Refused r, d))
-    → IsStep s s c (Refused r)
+pub refused-steps : (s : State) (c : Command) (r : Refusal) → is_read_only s.mode ≡ false → ((d : Directory)
+    → StandsFor s.cut.bytes d → perform d (live d) (effect d c) ≡ (Refused r, d)) → IsStep s s c (Refused r)
 refused-steps s c r writing each =
     by_no_change s c (Refused r) (λ d k. step-effect s.mode d c (open-writing s.mode c writing) ∙ each d k)
 
@@ -127,22 +118,18 @@ told_if {A} d key kind say = elim (object_at d key) as (λ _. Result A Refusal) 
 
 pub told-none : {A : Type 0} (d : Directory) (key : Key) (kind : Kind) (say : Object → Result A Refusal)
     → object_at d key ≡ None → told_if d key kind say ≡ Err NotFound
-told-none {A} d key kind say e =
-    ap (λ (r : Option Object). elim r as (λ _. Result A Refusal) [
-      | None ↦ Err NotFound
-      | Some o ↦ if same_kind kind (kind_of o.value) then say o else Err WrongKind
-    ]) e
+told-none {A} d key kind say e = ap (λ (r : Option Object). elim r as (λ _. Result A Refusal) [
+  | None ↦ Err NotFound
+  | Some o ↦ if same_kind kind (kind_of o.value) then say o else Err WrongKind
+]) e
 
 pub told-some : {A : Type 0} (d : Directory) (key : Key) (kind : Kind) (say : Object → Result A Refusal) (o : Object)
-    (b : Bool)
-    → object_at d key ≡ Some o → same_kind kind (kind_of o.value) ≡ b
+    (b : Bool) → object_at d key ≡ Some o → same_kind kind (kind_of o.value) ≡ b
     → told_if d key kind say ≡ (if b then say o else Err WrongKind)
-told-some {A} d key kind say o b e f =
-    ap (λ (r : Option Object). elim r as (λ _. Result A Refusal) [
-      | None ↦ Err NotFound
-      | Some o ↦ if same_kind kind (kind_of o.value) then say o else Err WrongKind
-    ]) e
-    ∙ ap (λ (t : Bool). let r : Result A Refusal = if t then say o else Err WrongKind in r) f
+told-some {A} d key kind say o b e f = ap (λ (r : Option Object). elim r as (λ _. Result A Refusal) [
+  | None ↦ Err NotFound
+  | Some o ↦ if same_kind kind (kind_of o.value) then say o else Err WrongKind
+]) e ∙ ap (λ (t : Bool). let r : Result A Refusal = if t then say o else Err WrongKind in r) f
 
 pub same_Err : {A : Type 0} (x y : Refusal) → (let r : Result A Refusal = Err x in r) ≡ Err y → x ≡ y
 same_Err x y e = cc
@@ -162,18 +149,14 @@ placed o = Ok (container_place o)
 
 pub holds-at : (d : Directory) (key : Key) (kind : Kind) (p : Place) → Ok p ≡ container_at d key kind
     → HoldsAt d key kind p
-holds-at d key kind p e =
-    by-kind d key kind (λ f. not-Err p NotFound (e ∙ told-none d key kind placed f))
-    (λ o f g. not-Err p WrongKind (e ∙ told-some d key kind placed o false f g))
-    (λ o f g. let h : Ok p ≡ placed o = e
+holds-at d key kind p e = by-kind d key kind (λ f. not-Err p NotFound (e ∙ told-none d key kind placed f))
+    (λ o f g. not-Err p WrongKind (e ∙ told-some d key kind placed o false f g)) (λ o f g. let h : Ok p ≡ placed o = e
     ∙ told-some d key kind placed o true f g in record { object = o; is = f; same = g; at = cc })
 
 -- and why every call for the kind is refused
 pub finds-no_container : (s : State) (key : Key) (kind : Kind) (c : Command) (r : Refusal) → IsOpenFor s.mode c
     → Answers s (λ d. container_at d key kind) (Err r) → IsStepOfKind s s key kind c (Refused r)
-finds-no_container s key kind c r w a =
-    by_no_change_of_kind s key kind c (Refused r) (λ d l.
-    by-kind d key kind
+finds-no_container s key kind c r w a = by_no_change_of_kind s key kind c (Refused r) (λ d l. by-kind d key kind
     (λ f. step_of_kind-not_found s.mode d key kind c w f
     ∙ (λ i. (Refused (sym (same_Err r NotFound (a.answers d l ∙ told-none d key kind placed f)) i), d)))
     (λ o f g. step_of_kind-other s.mode d key kind c o w f g
@@ -187,10 +170,8 @@ pub refill-steps_of_kind : (s : State) (new : Cut) (key : Key) (kind : Kind) (p 
     → Answers s (λ d. container_at d key kind) (Ok p) → (c : Command) (answer : Answer) → is_read_only s.mode ≡ false
     → IsSegment s.cut.bytes → ((d : Directory) → StandsFor s.cut.bytes d → Refill s.cut new d key c answer)
     → IsStepOfKind s (record s { cut = new }) key kind c answer
-refill-steps_of_kind s new key kind p found c answer writing b each =
-    by_step_of_kind s (record s { cut = new }) key kind c answer
-    (record { mode = refl; place = (each b.0 b.1).change.change.place })
-    (λ d l.
+refill-steps_of_kind s new key kind p found c answer writing b each = by_step_of_kind s (record s { cut = new }) key
+    kind c answer (record { mode = refl; place = (each b.0 b.1).change.change.place }) (λ d l.
     let r : Refill s.cut new d key c answer = each d l in
     let h : HoldsAt d key kind p = holds-at d key kind p (found.answers d l) in
     let same : h.object ≡ r.object = same_Some h.object r.object (sym h.is ∙ r.is) in
@@ -209,6 +190,5 @@ same-step mode d c c' e f = λ i. perform d (live d) (if is_read_only mode && e 
 pub same_plan-steps : (old new : State) (c c' : Command) (answer : Answer) → is_changing c ≡ is_changing c'
     → ((d : Directory) → StandsFor old.cut.bytes d → effect d c ≡ effect d c')
     → IsStep old new c' answer → IsStep old new c answer
-same_plan-steps old new c c' answer e each =
-    moves-same old new answer (λ d. step old.mode d c') (λ d. step old.mode d c)
-    (λ d l. sym (same-step old.mode d c c' e (each d l)))
+same_plan-steps old new c c' answer e each = moves-same old new answer (λ d. step old.mode d c')
+    (λ d. step old.mode d c) (λ d l. sym (same-step old.mode d c c' e (each d l)))

@@ -1,23 +1,20 @@
 -- What becomes of an object whose contents are released, for each kind of value.
-use Rattle.segment_manager.proofs.Common.{◌≡◌, refl, sym, ap, subst, ◌∙◌, append-nil, ℕ, ◌+◌, Some, Ok, List, []}
-use Rattle.segment_manager.proofs.Common.{length, IsTrue, eq-eqb, same_Some, current, Cut, bytes_of, IsExchanged}
-use Rattle.segment_manager.proofs.Common.{Extent, handle, no_table, Kind, Scalar, Map, StringsKind, ScalarKind, code_of}
-use Rattle.segment_manager.proofs.Common.{ByHandle, Key, MapPlace, Place, place_at, IsSomeTexts, IsTextsNow, Head}
-use Rattle.segment_manager.proofs.Common.{container_at, container_place, Denotes, IsValueAt, Becomes, Empties}
-use Rattle.segment_manager.proofs.Common.{HoldsObject, emptied, Value, Pairs, Texts, Object, Directory, has_key}
-use Rattle.segment_manager.proofs.Common.{is_object, kind_of, object_at, padded, value_extents, value_len, head_len}
-use Rattle.segment_manager.proofs.Common.{HasPairs, ReleasesPairs, numbers_of, HasObject, IsHeadOf, StandsAt, StandsFor}
-use Rattle.segment_manager.proofs.Common.{changed, true}
-use Rattle.segment_manager.proofs.containers.Contained.{good-with, start-place, Shape, contents-shape, value-said}
-use Rattle.segment_manager.proofs.containers.Emptied.{IsEmptied, changed-itself, emptied-is, emptied-numbers}
-use Rattle.segment_manager.proofs.objects.Exchanged.{Exchange, between, denotes-container}
-use Rattle.segment_manager.proofs.containers.MapCalls.{HoldsPairs, as_map, holds-pairs}
-use Rattle.segment_manager.proofs.objects.ObjectLists.{all-found, each-true, found-handle, key-found}
-use Rattle.segment_manager.proofs.containers.OneLength.{HoldsElements, holds-elements, nothing-left}
-use Rattle.segment_manager.proofs.{Frame.object-roomy, objects.Here.IsReadAt, objects.Here.standing, Live.IsIn}
-use Rattle.segment_manager.proofs.{objects.Rewritten.value_start, objects.Rewritten.with_value}
-use Rattle.segment_manager.proofs.{containers.TextsHeld.HoldsTexts, containers.TextsHeld.holds-texts}
-use Rattle.segment_manager.proofs.containers.Refilled.{placed, told-some}
+use Rattle.segment_manager.proofs as own
+use own.Common.{◌≡◌, IsExchanged, StringsKind, IsSomeTexts, container_at, container_place, value_extents, ReleasesPairs}
+use own.Common.{refl, sym, ◌∙◌, ◌+◌, Some, Ok, List, [], Cut, Kind, Map, Key, Head, Texts, true}
+use own.Common.{ap, subst, length, IsTrue, eq-eqb, Extent, handle, Scalar, Place, Value, Pairs, Object, padded, changed}
+use own.Common.{append-nil, same_Some, ScalarKind, IsTextsNow, IsValueAt, HoldsObject, Directory, is_object, numbers_of}
+use own.Common.{ℕ, current, code_of, Denotes, Becomes, Empties, emptied, has_key, kind_of, HasPairs, IsHeadOf, StandsAt}
+use own.Common.{bytes_of, no_table, ByHandle, MapPlace, place_at, object_at, value_len, head_len, HasObject, StandsFor}
+use own.containers.Contained.{good-with, start-place, Shape, contents-shape, value-said}
+use own.containers.Emptied.{IsEmptied, changed-itself, emptied-is, emptied-numbers}
+use own.objects.Exchanged.{Exchange, between, denotes-container}
+use own.containers.MapCalls.{HoldsPairs, as_map, holds-pairs}
+use own.objects.ObjectLists.{all-found, each-true, found-handle, key-found}
+use own.containers.OneLength.{HoldsElements, holds-elements, nothing-left}
+use own.containers.TextsHeld.{HoldsTexts, holds-texts}
+use own.{Frame.object-roomy, objects.Here.IsReadAt, objects.Here.standing, Live.IsIn, objects.Rewritten.value_start}
+use own.{objects.Rewritten.with_value, containers.Refilled.placed, containers.Refilled.told-some}
 use Rattle.seg_map.specs.Changing.{IsGivenUp}
 use Rattle.seg_vector.specs.{Elements.GivesBack, Elements.IsGivenBack, Standing.IsStanding, TextsCalls.ReleasesTexts}
 use Rattle.segment_manager.specs.{containers.Contents.has_storage, containers.Stored.each_of}
@@ -26,8 +23,7 @@ use Rattle.segment_manager.specs.{containers.Contents.has_storage, containers.St
 
 pub held-stands : (b : List ℕ) (h : ℕ) (d : Directory) (o : Object) → StandsFor b d → object_at d (ByHandle h) ≡ Some o
     → StandsAt b h o
-held-stands b h d o k e =
-    subst (λ g. StandsAt b g o) (sym (found-handle h d.objects o (record { is = e })))
+held-stands b h d o k e = subst (λ g. StandsAt b g o) (sym (found-handle h d.objects o (record { is = e })))
     (standing b d (ByHandle h) o k.denotes e)
 
 pub held-object : (b : List ℕ) (h : ℕ) → HoldsObject b h → HasObject b h
@@ -55,9 +51,7 @@ behind-head b h at o head s said e =
 
 found-container : (d : Directory) (key : Key) (kind : Kind) (o : Object) (p : Place) → object_at d key ≡ Some o
     → kind_of o.value ≡ kind → container_place o ≡ p → Ok p ≡ container_at d key kind
-found-container d key kind o p e f g =
-    ap Ok (sym g)
-    ∙ sym
+found-container d key kind o p e f g = ap Ok (sym g) ∙ sym
     (told-some d key kind placed o true e (eq-eqb (code_of kind) (code_of (kind_of o.value)) (ap code_of (sym f))))
 
 -- ---- what the head says
@@ -74,8 +68,7 @@ module _ {b : List ℕ} {h at : ℕ} {head : Head} (said : IsReadAt b h head)
 
   read-elements : has_storage head.kind ≡ true → (head.kind ≡ StringsKind → ⊥)
       → HoldsElements b d (ByHandle h) head.kind (place_behind h at)
-  read-elements stored no_texts =
-      holds-elements b d (ByHandle h) head.kind (place_behind h at) s.denotes
+  read-elements stored no_texts = holds-elements b d (ByHandle h) head.kind (place_behind h at) s.denotes
       (read-place head.kind refl) stored no_texts
 
   read-texts : head.kind ≡ StringsKind → HoldsTexts b d (ByHandle h) (place_behind h at)
@@ -133,8 +126,7 @@ container-released old new d key o p v k e is at len change said =
     record {
       place = change.place;
       denotes = denotes-container current old new d o (emptied o.value) gone [] k f x empty.kind empty.count
-          (ap value_len is ∙ len) was good
-          (subst (λ from. IsExchanged current old new from 24 gone []) start
+          (ap value_len is ∙ len) was good (subst (λ from. IsExchanged current old new from 24 gone []) start
           (subst (λ w. IsExchanged current old new (place_at p) 24 (value_extents w) []) (sym is) change))
           (subst (λ from. IsValueAt (bytes_of new.bytes) from (emptied o.value)) start
           (subst (λ w. IsValueAt (bytes_of new.bytes) (place_at p) (emptied w)) (sym is) said));
@@ -146,24 +138,20 @@ module _ (old new : Cut) (h at : ℕ) (head : Head) (said : IsReadAt old.bytes h
   pub elements-contents : has_storage head.kind ≡ true → (head.kind ≡ StringsKind → ⊥)
       → GivesBack old new (place_behind h at) (each_of head.kind) → Empties old new h
   elements-contents stored no_texts released d o s e =
-      let x = read-elements said behind s e stored no_texts in
-      let p : Object = x.found.object in
+      let x = read-elements said behind s e stored no_texts in let p : Object = x.found.object in
       let same : p ≡ o = same_Some p o (sym x.found.is ∙ e) in
       let now : IsGivenBack old new (place_behind h at) (each_of head.kind) x.table =
       released x.len x.table x.bytes x.stands in
       let shape : Shape p.value _ = contents-shape p.value _ x.held in
-      subst (λ p. Becomes old new (changed d p (emptied p.value))) same
-      (container-released old new d (ByHandle h) p
-      (place_behind h at) p.value s.denotes x.found.is refl x.found.at shape.len
-      (subst (λ (gone : List Extent). IsExchanged current old new (place_at (place_behind h at)) 24 gone [])
-      (sym shape.extents) now.change)
-      (value-said (bytes_of new.bytes) (place_at (place_behind h at)) (emptied p.value) _
-      (nothing-left p.value _ x.held) now.stands.words))
+      subst (λ p. Becomes old new (changed d p (emptied p.value))) same (container-released old new d (ByHandle h) p
+      (place_behind h at) p.value s.denotes x.found.is refl x.found.at shape.len (subst (λ (gone : List Extent).
+      IsExchanged current old new (place_at (place_behind h at)) 24 gone []) (sym shape.extents) now.change)
+      (value-said (bytes_of new.bytes) (place_at (place_behind h at)) (emptied p.value) _ (nothing-left p.value _
+      x.held) now.stands.words))
 
   pub texts-contents : head.kind ≡ StringsKind → ReleasesTexts old new (place_behind h at) → Empties old new h
   texts-contents is released d o s e =
-      let x = read-texts said behind s e is in
-      let same : x.object ≡ o = same_Some x.object o (sym x.is ∙ e) in
+      let x = read-texts said behind s e is in let same : x.object ≡ o = same_Some x.object o (sym x.is ∙ e) in
       let now : IsTextsNow old new (place_behind h at) (value_extents (Texts x.texts x.table)) [] [] no_table =
       released x.texts x.table x.stand in
       subst (λ p. Becomes old new (changed d p (emptied p.value))) same
@@ -173,8 +161,7 @@ module _ (old new : Cut) (h at : ℕ) (head : Head) (said : IsReadAt old.bytes h
   pub pairs-contents : (k l : ScalarKind) (p : MapPlace) → map_behind h at ≡ p → head.kind ≡ Map k l
       → ReleasesPairs k l old new p → Empties old new h
   pairs-contents k l p there is released d o s e =
-      let x = read-pairs said behind s e k l is in
-      let same : x.object ≡ o = same_Some x.object o (sym x.is ∙ e) in
+      let x = read-pairs said behind s e k l is in let same : x.object ≡ o = same_Some x.object o (sym x.is ∙ e) in
       let now : IsGivenUp (numbers_of k) (numbers_of l) old new h at x.pairs =
       (subst (ReleasesPairs k l old new) (sym there) released).each x.pairs x.map in
       let place : container_place x.object ≡ place_behind h at =

@@ -1,13 +1,12 @@
 -- A call on the container of an object that answers nothing: its step, and that it changes nothing where it is refused.
-use Rattle.segment_manager.proofs.Common.{NoSpace, OutOfRange, ◌⊎◌, inl, inr, IsStep, is_read_only, ◌≡◌, ℕ, ◌+◌, sym}
-use Rattle.segment_manager.proofs.Common.{ap, subst, ◌∙◌, Bool, true, false, Option, Some, None, Result, Ok, Err}
-use Rattle.segment_manager.proofs.Common.{length, if◌then◌else◌, OnErr, eq-eqb, ne_eqb, Cut, handle, Kind, Refusal}
-use Rattle.segment_manager.proofs.Common.{NotFound, WrongKind, code_of, same_kind, Key, Command, Place, Head, Answer}
-use Rattle.segment_manager.proofs.Common.{Done, Refused, container_at, container_place, place_of_kind, Object, kind_of}
-use Rattle.segment_manager.proofs.Common.{padded, handle_at, head_len, IsHeadOf, StandsAt, Answers, IsSegment}
-use Rattle.segment_manager.proofs.Common.{IsStepOfKind, State, AnswersSafely, StepsSafely}
-use Rattle.segment_manager.proofs.{Steps.step-segment, Steps.step_of_kind-segment, objects.Here.IsHere}
-use Rattle.segment_manager.proofs.{objects.Here.here, objects.Here.seen-handle}
+use Rattle.segment_manager.proofs as own
+use own.Common.{NoSpace, OutOfRange, ◌⊎◌, inl, inr, IsStep, is_read_only, ◌≡◌, ℕ, ◌+◌, sym, ap, subst, ◌∙◌, Bool, true}
+use own.Common.{false, Option, Some, None, Result, Ok, Err, length, if◌then◌else◌, OnErr, eq-eqb, ne_eqb, Cut, handle}
+use own.Common.{Kind, Refusal, NotFound, WrongKind, code_of, same_kind, Key, Command, Place, Head, Answer, Done}
+use own.Common.{Refused, container_at, container_place, place_of_kind, Object, kind_of, padded, handle_at, head_len}
+use own.Common.{IsHeadOf, StandsAt, Answers, IsSegment, IsStepOfKind, State, AnswersSafely, StepsSafely}
+use own.Steps.{step-segment, step_of_kind-segment}
+use own.objects.Here.{IsHere, here, seen-handle}
 
 -- it is refused, and nothing has changed
 pub stays : (s : State) (new : Cut) (key : Key) (kind : Kind) (c : Command) (e why : Refusal) → e ≡ why → new ≡ s.cut
@@ -61,8 +60,7 @@ answered {says = says} s t view b new key kind c r done = record {
 
 -- what the call ensures
 pub told : {R : Type 0} {says : Result R Refusal → Answer} {s t : State} {new : Cut} {key : Key} {kind : Kind}
-    {c : Command} {r : Result R Refusal} → Answered says s t new key kind c r
-    → record {
+    {c : Command} {r : Result R Refusal} → Answered says s t new key kind c r → record {
       step : IsStepOfKind t (record s { cut = new }) key kind c (says r);
       refused : OnErr r ((record s { cut = new }) ≡ t);
     }
@@ -95,10 +93,7 @@ contains {s} {t} view key kind {h} {r} a each =
       answers = λ d l.
           let o : IsHere s.cut.bytes d key h =
           here s.cut.bytes d key h l.denotes ((seen-handle s t view key (Some h) a).answers d l) in
-          each o.object o.stands
-          ∙ sym
-          (ap
-          (λ (q : Option Object). elim q as (λ _. Result Place Refusal)
+          each o.object o.stands ∙ sym (ap (λ (q : Option Object). elim q as (λ _. Result Place Refusal)
           [ None ↦ Err NotFound | Some o ↦ place_of_kind o kind ]) o.is);
     })
 

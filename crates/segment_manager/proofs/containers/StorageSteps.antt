@@ -15,8 +15,7 @@ no-storage (Pairs k v ps) h = refl
 no-storage v h = absurd (cc)
 
 pub change-refused : (change : Change) (d : Directory) (key : Key) (o : Object) → object_at d key ≡ Some o
-    → storage_of o.value ≡ Err WrongKind
-    → effect d (command_of change key) ≡ Refuse WrongKind
+    → storage_of o.value ≡ Err WrongKind → effect d (command_of change key) ≡ Refuse WrongKind
 change-refused (Reserve n) d key o e f = reserve-plan d key o e (Err WrongKind) f n
 change-refused Shrink d key o e f = shrink-plan d key o e (Err WrongKind) f
 change-refused Clear d key o e f = clear-plan d key o e (Err WrongKind) f

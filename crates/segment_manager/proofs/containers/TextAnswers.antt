@@ -1,21 +1,19 @@
 -- What the calls of seg_vector ensure of the text at the place that was found, as the steps of the calls on the
 -- object's string.
-use Rattle.segment_manager.proofs.Common.{◌++◌, ◌<◌, Err, IsTrue, List, None, Ok, Option, Result, Some, [], ap, arith}
-use Rattle.segment_manager.proofs.Common.{false, get_or, length, map, nat_abs, nat_le, nat_lt, pos, refl, slice_get}
-use Rattle.segment_manager.proofs.Common.{subst, suc, sym, true, zero, ℕ, ◌∙◌, ◌∷◌, ◌≡◌, and_from, le-leb, lt-ltb}
-use Rattle.segment_manager.proofs.Common.{slice_get-get_or, slice_get-map, slice_get_past, option_map, slice_set, Cut}
-use Rattle.segment_manager.proofs.Common.{Table, Append, Assign, Get, Quoted, Set, literal_of, is_value, Key, String}
-use Rattle.segment_manager.proofs.Common.{U8, Refusal, NotFound, OutOfRange, AssignsText, IsSomeText, IsTextGrown}
-use Rattle.segment_manager.proofs.Common.{IsTextNow, capacity_for_text, Place, Done, Element, Refused, are_bytes}
-use Rattle.segment_manager.proofs.Common.{bytes_at, container_at, Bytes, Object, Value, kind_of, live, Reply, perform}
-use Rattle.segment_manager.proofs.Common.{Answers, IsSegment, IsStepOfKind, State, changed, is_read_only, Command}
-use Rattle.segment_manager.proofs.containers.ContentPlans.{append-plan, byte-plan, set_byte-plan, text-plan}
-use Rattle.segment_manager.proofs.containers.ItemSteps.{HoldsItems, ListedGrown, ListedNow, Listing, changes-safely}
-use Rattle.segment_manager.proofs.containers.ItemSteps.{grows-safely, holds-items, items-stay, one-kind, so-too}
-use Rattle.segment_manager.proofs.containers.ItemSteps.{some-items}
-use Rattle.segment_manager.proofs.{Common.StepsSafely, Common.done_answer, Steps.open-reading}
-use Rattle.segment_manager.proofs.{containers.Safely.Answered, containers.Safely.answered, objects.Stored.literal-read}
-use Rattle.segment_manager.proofs.{containers.ToChange.seen-found, Words.first, Words.second}
+use Rattle.segment_manager.proofs as own
+use own.Common.{◌++◌, ◌<◌, Err, IsTrue, List, None, Ok, Option, Result, Some, [], ap, arith, false, get_or, length, map}
+use own.Common.{nat_abs, nat_le, nat_lt, pos, refl, slice_get, subst, suc, sym, true, zero, ℕ, ◌∙◌, ◌∷◌, ◌≡◌, and_from}
+use own.Common.{le-leb, lt-ltb, slice_get-get_or, slice_get-map, slice_get_past, option_map, slice_set, Cut, Table}
+use own.Common.{Append, Assign, Get, Quoted, Set, literal_of, is_value, Key, String, U8, Refusal, NotFound, OutOfRange}
+use own.Common.{AssignsText, IsSomeText, IsTextGrown, IsTextNow, capacity_for_text, Place, Done, Element, Refused}
+use own.Common.{are_bytes, bytes_at, container_at, Bytes, Object, Value, kind_of, live, Reply, perform, Answers}
+use own.Common.{IsSegment, IsStepOfKind, State, changed, is_read_only, Command, StepsSafely, done_answer}
+use own.containers.ContentPlans.{append-plan, byte-plan, set_byte-plan, text-plan}
+use own.containers.ItemSteps.{HoldsItems, ListedGrown, ListedNow, Listing, changes-safely, grows-safely, holds-items}
+use own.containers.ItemSteps.{items-stay, one-kind, so-too, some-items}
+use own.containers.Safely.{Answered, answered}
+use own.{Steps.open-reading, objects.Stored.literal-read, containers.ToChange.seen-found}
+use Rattle.raw_region.proofs.Facts.{first, second}
 use Rattle.std.proofs.Common.{Fits, w8}
 use Rattle.seg_vector.specs.TextCalls.{AppendsText, GetsByte, ReadsText, SetsByte}
 use Rattle.segment_manager.specs.{containers.Contents.text_bytes, containers.ToChange.IsToChange}
@@ -30,17 +28,15 @@ fits-bytes (b ∷ bs) h =
 
 are_bytes-append : (bs cs : List ℕ) → IsTrue (are_bytes bs) → IsTrue (are_bytes cs) → IsTrue (are_bytes (bs ++ cs))
 are_bytes-append [] cs h g = g
-are_bytes-append (b ∷ bs) cs h g =
-    and_from (nat_lt b 256) (are_bytes (bs ++ cs)) (first (nat_lt b 256) (are_bytes bs) h)
-    (are_bytes-append bs cs (second (nat_lt b 256) (are_bytes bs) h) g)
+are_bytes-append (b ∷ bs) cs h g = and_from (nat_lt b 256) (are_bytes (bs ++ cs))
+    (first (nat_lt b 256) (are_bytes bs) h) (are_bytes-append bs cs (second (nat_lt b 256) (are_bytes bs) h) g)
 
 are_bytes-set : (bs : List ℕ) (i x : ℕ) → IsTrue (are_bytes bs) → IsTrue (nat_lt x 256)
     → IsTrue (are_bytes (slice_set bs i x))
 are_bytes-set [] i x h g = refl
 are_bytes-set (b ∷ bs) zero x h g = and_from (nat_lt x 256) (are_bytes bs) g (second (nat_lt b 256) (are_bytes bs) h)
-are_bytes-set (b ∷ bs) (suc i) x h g =
-    and_from (nat_lt b 256) (are_bytes (slice_set bs i x)) (first (nat_lt b 256) (are_bytes bs) h)
-    (are_bytes-set bs i x (second (nat_lt b 256) (are_bytes bs) h) g)
+are_bytes-set (b ∷ bs) (suc i) x h g = and_from (nat_lt b 256) (are_bytes (slice_set bs i x))
+    (first (nat_lt b 256) (are_bytes bs) h) (are_bytes-set bs i x (second (nat_lt b 256) (are_bytes bs) h) g)
 
 -- one is a value of its kind
 pub byte-value : (x : ℕ) → x < 256 → is_value U8 (pos x) ≡ true
@@ -96,9 +92,7 @@ reads-bytes s key p out found reads = record {
   answers = λ d l.
       let h : HoldsItems texts s.cut.bytes d key p =
       holds-items texts s.cut.bytes d key p l.denotes (found.answers d l) in
-      ap Ok (reads h.items h.table h.stands) ∙ sym (ap text_bytes h.value)
-      ∙ sym
-      (ap
+      ap Ok (reads h.items h.table h.stands) ∙ sym (ap text_bytes h.value) ∙ sym (ap
       (λ (r : Option Object). elim r as (λ _. Result (List ℕ) Refusal)
       [ None ↦ Err NotFound | Some o ↦ text_bytes o.value ]) h.is);
 }
@@ -118,26 +112,21 @@ module _ {s t : State} (view : s ≡ t) (key : Key) (p : Place) (b : IsSegment s
 
   -- one of them
   pub text-got : (i x : ℕ) → GetsByte s.cut p i (Ok x) → IsStepOfKind s s key String (Get key i) (Element U8 (pos x))
-  text-got i x a =
-      items-stay texts s key p b there-too (Get key i) (Element U8 (pos x)) (open-reading s.mode (Get key i) refl)
-      (λ d den h. ap (perform d (live d))
-      (byte-plan d key h.object h.items h.table h.is h.value i (Some (pos x))
-      (byte-got h.items i (Some x) (a h.items h.table h.stands))))
+  text-got i x a = items-stay texts s key p b there-too (Get key i) (Element U8 (pos x)) (open-reading s.mode
+      (Get key i) refl) (λ d den h. ap (perform d (live d)) (byte-plan d key h.object h.items h.table h.is h.value i
+      (Some (pos x)) (byte-got h.items i (Some x) (a h.items h.table h.stands))))
 
   pub text_got-past : (i : ℕ) (e : Refusal) → GetsByte s.cut p i (Err e)
       → IsStepOfKind s s key String (Get key i) (Refused e)
-  text_got-past i e a =
-      subst (λ (r : Refusal). IsStepOfKind s s key String (Get key i) (Refused r))
+  text_got-past i e a = subst (λ (r : Refusal). IsStepOfKind s s key String (Get key i) (Refused r))
       (sym (a some.items some.table some.stands).refusal)
       (items-stay texts s key p b there-too (Get key i) (Refused OutOfRange) (open-reading s.mode (Get key i) refl)
-      (λ d den h.
-      ap (perform d (live d))
-      (byte-plan d key h.object h.items h.table h.is h.value i None
+      (λ d den h. ap (perform d (live d)) (byte-plan d key h.object h.items h.table h.is h.value i None
       (byte-got h.items i None (slice_get_past h.items i (a h.items h.table h.stands).outside)))))
 
 -- the same, where it may be changed
-module _ {s t : State} (view : s ≡ t) (b : IsSegment s.cut.bytes) {key : Key} {p : Place} (to : IsToChange t key String p)
-    (new : Cut) where
+module _ {s t : State} (view : s ≡ t) (b : IsSegment s.cut.bytes) {key : Key} {p : Place}
+    (to : IsToChange t key String p) (new : Cut) where
   found : Answers s (λ d. container_at d key String) (Ok p)
   found = seen-found s t view key String p to.at
 
@@ -150,33 +139,25 @@ module _ {s t : State} (view : s ≡ t) (b : IsSegment s.cut.bytes) {key : Key} 
 
   pub text-appended : (more : List ℕ) (r : Result (Unit {0}) Refusal) → ((k : ℕ) → Fits w8 (get_or more k 0))
       → AppendsText s.cut new p more r → Answered done_answer s t new key String (Append key more) r
-  text-appended more r small a =
-      seen (grows-safely texts s key p b found new writing (Append key more)
-      (λ bs t. capacity_for_text (length (bs ++ more)) t.capacity) (λ bs. bs ++ more) r
-      (λ d h. append-plan d key h.object h.items h.table h.is h.value more)
-      (λ d h. so-too _ _ _ r (a h.items h.table h.stands)
-      (λ g. bytes-grown (are_bytes-append h.items more h.values (fits-bytes more small)) g)))
+  text-appended more r small a = seen (grows-safely texts s key p b found new writing (Append key more)
+      (λ bs t. capacity_for_text (length (bs ++ more)) t.capacity) (λ bs. bs ++ more) r (λ d h. append-plan d key
+      h.object h.items h.table h.is h.value more) (λ d h. so-too _ _ _ r (a h.items h.table h.stands) (λ g. bytes-grown
+      (are_bytes-append h.items more h.values (fits-bytes more small)) g)))
 
   pub text-assigned : (bytes : List ℕ) (r : Result (Unit {0}) Refusal) → ((k : ℕ) → Fits w8 (get_or bytes k 0))
       → AssignsText s.cut new p bytes r → Answered done_answer s t new key String (Assign key (Quoted bytes ∷ [])) r
   text-assigned bytes r small a =
       seen (grows-safely texts s key p b found new writing (Assign key (Quoted bytes ∷ [])) (λ bs t. length bytes)
-      (λ bs. bytes) r
-      (λ d h. text-plan d key h.object h.items h.table h.is h.value (Quoted bytes ∷ []) bytes refl)
+      (λ bs. bytes) r (λ d h. text-plan d key h.object h.items h.table h.is h.value (Quoted bytes ∷ []) bytes refl)
       (λ d h. so-too _ _ _ r (a h.items h.table h.stands) (λ g. bytes-grown (fits-bytes bytes small) g)))
 
   pub text-set : (i x : ℕ) (r : Result (Unit {0}) Refusal) → IsTrue (nat_lt x 256) → is_value U8 (pos x) ≡ true
       → SetsByte s.cut new p i x r → Answered done_answer s t new key String (Set key i (literal_of U8 (pos x))) r
-  text-set i x r small v a =
-      seen (changes-safely texts s key p b found new writing (Set key i (literal_of U8 (pos x))) i
-      (λ bs. slice_set bs i x) r
-      (λ d h within.
-      set_byte-plan d key h.object h.items h.table h.is h.value i (literal_of U8 (pos x)) (pos x)
-      (Some (pos (get_or h.items i 0))) (literal-read U8 (pos x) v)
-      (byte-got h.items i (Some (get_or h.items i 0)) (slice_get-get_or h.items i 0 within))
+  text-set i x r small v a = seen (changes-safely texts s key p b found new writing (Set key i (literal_of U8 (pos x)))
+      i (λ bs. slice_set bs i x) r (λ d h within. set_byte-plan d key h.object h.items h.table h.is h.value i
+      (literal_of U8 (pos x)) (pos x) (Some (pos (get_or h.items i 0))) (literal-read U8 (pos x) v) (byte-got h.items i
+      (Some (get_or h.items i 0)) (slice_get-get_or h.items i 0 within))
       ∙ ap (λ bs. Reply Done (changed d h.object (Bytes bs h.table))) (bytes-set h.items i x))
-      (λ d h past.
-      set_byte-plan d key h.object h.items h.table h.is h.value i (literal_of U8 (pos x)) (pos x) None
-      (literal-read U8 (pos x) v) (byte-got h.items i None (slice_get_past h.items i past)))
-      (λ d h. so-too _ _ _ r (a h.items h.table h.stands)
-      (λ q. (q.0, bytes-now (are_bytes-set h.items i x h.values small) q.1))))
+      (λ d h past. set_byte-plan d key h.object h.items h.table h.is h.value i (literal_of U8 (pos x)) (pos x) None
+      (literal-read U8 (pos x) v) (byte-got h.items i None (slice_get_past h.items i past))) (λ d h. so-too _ _ _ r
+      (a h.items h.table h.stands) (λ q. (q.0, bytes-now (are_bytes-set h.items i x h.values small) q.1))))

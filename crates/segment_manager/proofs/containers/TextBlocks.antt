@@ -10,7 +10,8 @@ use Rattle.segment_manager.proofs.Order.{Differs, IsFresh, Rising, all_of-insert
 
 -- ---- extents that rise
 
-differ-handles : (x : Extent) (ys : List Extent) → Differs x ys → AllByRecursion (λ (y : Extent). handle x ≢ handle y) ys
+differ-handles : (x : Extent) (ys : List Extent) → Differs x ys → AllByRecursion (λ (y : Extent). handle x ≢ handle y)
+    ys
 differ-handles x [] h = tt
 differ-handles x (y ∷ ys) h = ((λ e. h.0 (omega (arith, e))), differ-handles x ys h.1)
 
@@ -18,19 +19,22 @@ differ-handles x (y ∷ ys) h = ((λ e. h.0 (omega (arith, e))), differ-handles 
 pub others-apart : (n : ℕ) (xs zs : List Extent) → Rising n (inserted xs zs) → AreOthers xs
 others-apart n [] zs r = tt
 others-apart n (x ∷ xs) zs r =
-    let f : IsFresh n x (inserted xs zs) = rising-insert n x (inserted xs zs) r in
-    (differ-handles x xs (all_of-inserted (λ (y : Extent). x.offset ≢ y.offset) xs zs f.differs).0, others-apart n xs zs f.rest)
+    let f : IsFresh n x (inserted xs zs) = rising-insert n x (inserted xs zs) r in (
+      differ-handles x xs (all_of-inserted (λ (y : Extent). x.offset ≢ y.offset) xs zs f.differs).0,
+      others-apart n xs zs f.rest,
+    )
 
 -- ---- the order of blocks
 
 -- a part in the middle comes first, and back
 part-first : (ws fs xs bs : List Extent) → SameSpread (ws ++ (fs ++ (xs ++ bs))) ((ws ++ xs) ++ (fs ++ bs))
-part-first ws fs xs bs =
-    subst (SameSpread (ws ++ (fs ++ (xs ++ bs)))) (sym (append_assoc ws xs (fs ++ bs))) (spread-behind ws (fs ++ (xs ++ bs)) (xs ++ (fs ++ bs)) (middle-first fs xs bs))
+part-first ws fs xs bs = subst (SameSpread (ws ++ (fs ++ (xs ++ bs)))) (sym (append_assoc ws xs (fs ++ bs)))
+    (spread-behind ws (fs ++ (xs ++ bs)) (xs ++ (fs ++ bs)) (middle-first fs xs bs))
 
 part-back : (ws fs xs bs : List Extent) → SameSpread ((ws ++ xs) ++ (fs ++ bs)) (ws ++ (fs ++ (xs ++ bs)))
 part-back ws fs xs bs =
-    subst (λ (ys : List Extent). SameSpread ys (ws ++ (fs ++ (xs ++ bs)))) (sym (append_assoc ws xs (fs ++ bs))) (spread-behind ws (xs ++ (fs ++ bs)) (fs ++ (xs ++ bs)) (middle-first xs fs bs))
+    subst (λ (ys : List Extent). SameSpread ys (ws ++ (fs ++ (xs ++ bs)))) (sym (append_assoc ws xs (fs ++ bs)))
+    (spread-behind ws (xs ++ (fs ++ bs)) (fs ++ (xs ++ bs)) (middle-first xs fs bs))
 
 -- ---- a part of the texts is replaced
 
@@ -42,21 +46,22 @@ pub record IsPartOther (ps qs out in_place : List OwnedText) : Type 0 where
   pub is : qs ≡ front ++ (in_place ++ back)
 
 -- Then the array and the blocks of the old ones are gone, and the array and the blocks of the new ones come.
-pub part-exchange : (o : Object) (ps qs out in_place : List OwnedText) (t u : Table) (gone come : List Extent) → o.value ≡ Texts ps t → IsPartOther ps qs out in_place
-    → gone ≡ option_to_list t.extent ++ text_blocks out → come ≡ option_to_list u.extent ++ text_blocks in_place → Exchange o (with_value o (Texts qs u)) gone come
+pub part-exchange : (o : Object) (ps qs out in_place : List OwnedText) (t u : Table) (gone come : List Extent)
+    → o.value ≡ Texts ps t → IsPartOther ps qs out in_place → gone ≡ option_to_list t.extent ++ text_blocks out
+    → come ≡ option_to_list u.extent ++ text_blocks in_place → Exchange o (with_value o (Texts qs u)) gone come
 part-exchange o ps qs out in_place t u gone come e p f g =
-    let a : List Extent = option_to_list t.extent in
-    let b : List Extent = option_to_list u.extent in
-    let fs : List Extent = text_blocks p.front in
-    let bs : List Extent = text_blocks p.back in
+    let a : List Extent = option_to_list t.extent in let b : List Extent = option_to_list u.extent in
+    let fs : List Extent = text_blocks p.front in let bs : List Extent = text_blocks p.back in
     let before : a ++ (fs ++ (text_blocks out ++ bs)) ≡ value_extents o.value =
-    sym (ap value_extents e ∙ ap (λ (xs : List OwnedText). a ++ text_blocks xs) p.was ∙ ap (λ (xs : List Extent). a ++ xs) (blocks-three p.front out p.back)) in
-    let after : b ++ (fs ++ (text_blocks in_place ++ bs)) ≡ b ++ text_blocks qs =
-    sym (ap (λ (xs : List OwnedText). b ++ text_blocks xs) p.is ∙ ap (λ (xs : List Extent). b ++ xs) (blocks-three p.front in_place p.back)) in
+    sym (ap value_extents e ∙ ap (λ (xs : List OwnedText). a ++ text_blocks xs) p.was
+    ∙ ap (λ (xs : List Extent). a ++ xs) (blocks-three p.front out p.back)) in
+    let after : b ++ (fs ++ (text_blocks in_place ++ bs)) ≡ b ++ text_blocks qs = sym (ap (λ (xs : List OwnedText). b
+    ++ text_blocks xs) p.is ∙ ap (λ (xs : List Extent). b ++ xs) (blocks-three p.front in_place p.back)) in
     record {
       same = fs ++ bs;
       was = subst (λ (xs : List Extent). SameSpread xs (gone ++ (fs ++ bs))) before
-          (subst (λ (xs : List Extent). SameSpread (a ++ (fs ++ (text_blocks out ++ bs))) (xs ++ (fs ++ bs))) (sym f) (part-first a fs (text_blocks out) bs));
-      is = subst (SameSpread (come ++ (fs ++ bs))) after
-          (subst (λ (xs : List Extent). SameSpread (xs ++ (fs ++ bs)) (b ++ (fs ++ (text_blocks in_place ++ bs)))) (sym g) (part-back b fs (text_blocks in_place) bs));
+          (subst (λ (xs : List Extent). SameSpread (a ++ (fs ++ (text_blocks out ++ bs))) (xs ++ (fs ++ bs))) (sym f)
+          (part-first a fs (text_blocks out) bs));
+      is = subst (SameSpread (come ++ (fs ++ bs))) after (subst (λ (xs : List Extent). SameSpread (xs ++ (fs ++ bs))
+          (b ++ (fs ++ (text_blocks in_place ++ bs)))) (sym g) (part-back b fs (text_blocks in_place) bs));
     }

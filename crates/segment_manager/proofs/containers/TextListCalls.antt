@@ -1,35 +1,27 @@
 -- What the calls of seg_vector ensure of the texts at the place that was found, as the steps of the calls on the
 -- object's vector of texts.
-use Rattle.segment_manager.proofs.containers.TextsHeld.{some-texts, HoldsTexts}
-use Rattle.segment_manager.proofs.Common.{IsSomeTexts, ◌≡◌, refl, sym, ap, subst, ◌∙◌, ℕ, ◌+◌, ◌-◌, ◌<◌, ◌≤◌, inl, inr}
-use Rattle.segment_manager.proofs.Common.{true, false, Option, Some, None, Result, Ok, Err, List, [], ◌∷◌, length, map}
-use Rattle.segment_manager.proofs.Common.{append-nil, get_or, arith, IsTrue, insert, option_map, option_to_list, remove}
-use Rattle.segment_manager.proofs.Common.{slice_get, slice_set, list_all, false≢true, le-ltb, lt-ltb, same_Some}
-use Rattle.segment_manager.proofs.Common.{slice_get-get_or, slice_get_past, Bor, current, Cut, LiveSet, live_of, Table}
-use Rattle.segment_manager.proofs.Common.{cut_table, StringsKind, Refusal, NoSpace, OutOfRange, Key, Command, Place}
-use Rattle.segment_manager.proofs.Common.{AreTextsAssigned, AssignsTexts, IsGivenUp, all_texts, one_more, placed_text}
-use Rattle.segment_manager.proofs.Common.{with_array, OwnedText, grown_table, IsOutside, Done, Refused, TextElement}
-use Rattle.segment_manager.proofs.Common.{is_untouched, are_bytes, container_at, Change, Clear, Reserve, Shrink}
-use Rattle.segment_manager.proofs.Common.{Directory, command_of, Plan, Reply, perform, Answers, IsSegment, IsStepOfKind}
-use Rattle.segment_manager.proofs.Common.{State, StandsFor, answer_of, refusal_in, effect, is_read_only, texts_of}
-use Rattle.segment_manager.proofs.Common.{StepsSafely, done_answer, with}
-use Rattle.segment_manager.proofs.containers.TextLists.{part-inserted, part-set}
-use Rattle.segment_manager.proofs.containers.TextMoves.{TextsMove, all-other, in-array, left-out, moved, one-block}
-use Rattle.segment_manager.proofs.containers.TextMoves.{Kept, Led, StepsKeeping, kept, led, step-leads-on}
-use Rattle.segment_manager.proofs.containers.TextMoves.{texts-lead-on, texts-restored, texts-stay, texts-steps}
-use Rattle.segment_manager.proofs.containers.TextMoves.{texts_in}
-use Rattle.segment_manager.proofs.containers.TextPlans.{all-met, all-unmet, all_plan, assign-none, assign-some}
-use Rattle.segment_manager.proofs.containers.TextPlans.{beside_array, clear-texts, erase-text, got-text, insert-text}
-use Rattle.segment_manager.proofs.containers.TextPlans.{insert_in, insert_plan, one-more-met, one-more-unmet, pop-text}
-use Rattle.segment_manager.proofs.containers.TextPlans.{push-text, reserve-texts, set-text, set_in, shrink-texts}
-use Rattle.segment_manager.proofs.containers.TextPlans.{text-placed, assign_in, text_in, texts_after}
-use Rattle.segment_manager.proofs.containers.Refilled.{room-grown, then_room}
-use Rattle.segment_manager.proofs.containers.Safely.{pick-outside, pick-space, Answered, answered, done-so, stays}
-use Rattle.segment_manager.proofs.containers.PlacedTexts.{text-bytes, texts-bytes}
+use Rattle.segment_manager.proofs as own
+use own.Common.{IsSomeTexts, ◌≡◌, refl, sym, ap, subst, ◌∙◌, ℕ, ◌+◌, ◌-◌, ◌<◌, ◌≤◌, inl, inr, true, false, Option, Some}
+use own.Common.{None, Result, Ok, Err, List, [], ◌∷◌, length, map, append-nil, get_or, arith, IsTrue, insert}
+use own.Common.{option_map, option_to_list, remove, slice_get, slice_set, list_all, false≢true, le-ltb, lt-ltb}
+use own.Common.{same_Some, slice_get-get_or, slice_get_past, Bor, current, Cut, LiveSet, live_of, Table, cut_table}
+use own.Common.{StringsKind, Refusal, NoSpace, OutOfRange, Key, Command, Place, AreTextsAssigned, AssignsTexts}
+use own.Common.{IsGivenUp, all_texts, one_more, placed_text, with_array, OwnedText, grown_table, IsOutside, Done}
+use own.Common.{Refused, TextElement, is_untouched, are_bytes, container_at, Change, Clear, Reserve, Shrink, Directory}
+use own.Common.{command_of, Plan, Reply, perform, Answers, IsSegment, IsStepOfKind, State, StandsFor, answer_of}
+use own.Common.{refusal_in, effect, is_read_only, texts_of, StepsSafely, done_answer, with}
+use own.containers.TextMoves.{TextsMove, all-other, in-array, left-out, moved, one-block, Kept, Led, StepsKeeping, kept}
+use own.containers.TextMoves.{led, step-leads-on, texts-lead-on, texts-restored, texts-stay, texts-steps, texts_in}
+use own.containers.TextPlans.{all-met, all-unmet, all_plan, assign-none, assign-some, beside_array, clear-texts}
+use own.containers.TextPlans.{erase-text, got-text, insert-text, insert_in, insert_plan, one-more-met, one-more-unmet}
+use own.containers.TextPlans.{pop-text, push-text, reserve-texts, set-text, set_in, shrink-texts, text-placed}
+use own.containers.TextPlans.{assign_in, text_in, texts_after, then_text}
+use own.containers.Safely.{pick-outside, pick-space, Answered, answered, done-so, stays}
+use own.{containers.TextsHeld.some-texts, containers.TextsHeld.HoldsTexts, containers.TextLists.part-inserted}
+use own.{containers.TextLists.part-set, containers.Refilled.room-grown, containers.Refilled.then_room}
+use own.{containers.PlacedTexts.text-bytes, containers.PlacedTexts.texts-bytes, containers.TextAnswers.fits-bytes}
+use own.{Calling.denotes-live, containers.ToChange.seen-found, Steps.open-reading, Steps.open-writing}
 use Rattle.std.proofs.Common.{Fits, w8}
-use Rattle.segment_manager.proofs.{containers.TextAnswers.fits-bytes, containers.TextPlans.then_text}
-use Rattle.segment_manager.proofs.{Calling.denotes-live, containers.ToChange.seen-found, Steps.open-reading}
-use Rattle.segment_manager.proofs.{Steps.open-writing}
 use Rattle.segment_manager.specs.{containers.Stored.ChangesTexts, containers.ToChange.IsToChange}
 use Rattle.best_fit.specs.Exchange.{IsRestored}
 use Rattle.seg_vector.specs.TextsCalls.{ClearsTexts, ErasesText, GetsText, InsertsText, IsTextLeftOut, IsTextPutIn}
@@ -39,10 +31,8 @@ use Rattle.seg_types.specs.Commands as asked
 -- texts as literals are read as them
 texts-read : (bss : List (List ℕ)) → texts_of (map asked.Quoted bss) ≡ Ok bss
 texts-read [] = refl
-texts-read (bs ∷ bss) =
-    ap (λ (q : Result (List (List ℕ)) Refusal). elim q as (λ _. Result (List (List ℕ)) Refusal)
-    [ Ok css ↦ Ok (bs ∷ css) | Err e ↦ Err e ])
-    (texts-read bss)
+texts-read (bs ∷ bss) = ap (λ (q : Result (List (List ℕ)) Refusal). elim q as (λ _. Result (List (List ℕ)) Refusal)
+    [ Ok css ↦ Ok (bs ∷ css) | Err e ↦ Err e ]) (texts-read bss)
 
 -- ---- the calls
 
@@ -58,9 +48,7 @@ module _ {s t : State} (view : s ≡ t) (key : Key) (p : Place) (b : IsSegment s
 
   pub text-got : (i : ℕ) (r : Result (Bor (List ℕ)) Refusal) → GetsText s.cut p i r
       → IsStepOfKind s s key StringsKind (asked.Get key i) (answer_of (λ (x : Bor (List ℕ)). TextElement x.now) r)
-  text-got i (Ok x) a =
-      texts-stay s key p b there-too _ _ (open-reading s.mode (asked.Get key i) refl)
-      (λ d h.
+  text-got i (Ok x) a = texts-stay s key p b there-too _ _ (open-reading s.mode (asked.Get key i) refl) (λ d h.
       ap (perform d (live_of s.cut.bytes)) (got-text h i _ refl)
       ∙ read d (slice_get h.texts i) (a h.texts h.table h.stand))
     where
@@ -72,11 +60,9 @@ module _ {s t : State} (view : s ≡ t) (key : Key) (p : Place) (b : IsSegment s
   text-got i (Err e) a =
       let h : HoldsTexts s.cut.bytes b.0 key p = texts_in s key p b there-too b.0 b.1 in
       subst (λ (q : Refusal). IsStepOfKind s s key StringsKind (asked.Get key i) (Refused q))
-      (sym (a h.texts h.table h.stand).refusal)
-      (texts-stay s key p b there-too _ (Refused OutOfRange) (open-reading s.mode (asked.Get key i) refl)
-      (λ d h.
-      ap (perform d (live_of s.cut.bytes))
-      (got-text h i None (slice_get_past h.texts i (a h.texts h.table h.stand).outside))))
+      (sym (a h.texts h.table h.stand).refusal) (texts-stay s key p b there-too _ (Refused OutOfRange) (open-reading
+      s.mode (asked.Get key i) refl) (λ d h. ap (perform d (live_of s.cut.bytes)) (got-text h i None (slice_get_past
+      h.texts i (a h.texts h.table h.stand).outside))))
 
 -- the same, where they may be changed
 module _ {s t : State} (view : s ≡ t) (b : IsSegment s.cut.bytes) {key : Key} {p : Place}
@@ -107,23 +93,19 @@ module _ {s t : State} (view : s ≡ t) (b : IsSegment s.cut.bytes) {key : Key} 
   seen-kept done = kept s t view b new key _ _ done
 
   -- a call that is done
-  does : {c : Command}
-      → ((d : Directory) (l : StandsFor s.cut.bytes d) (h : Holds d) → TextsMove s.cut new d key p h c Done)
-      → IsStepOfKind s (record s { cut = new }) key StringsKind c Done
+  does : {c : Command} → ((d : Directory) (l : StandsFor s.cut.bytes d) (h : Holds d) → TextsMove s.cut new d key p h c
+      Done) → IsStepOfKind s (record s { cut = new }) key StringsKind c Done
   does each = texts-steps s key p b found new _ Done writing each
 
   -- a refusal, and nothing has changed
-  turned-down : {c : Command} {e why : Refusal} → e ≡ why → new ≡ s.cut
-      → ((d : Directory) (h : Holds d) → perform d heap (effect d c) ≡ (Refused why, d))
-      → StepsSafely s new key StringsKind c (Err e)
-  turned-down {c} {e} {why} is same each =
-      stays s new key StringsKind c e why is same
+  turned-down : {c : Command} {e why : Refusal} → e ≡ why → new ≡ s.cut → ((d : Directory) (h : Holds d)
+      → perform d heap (effect d c) ≡ (Refused why, d)) → StepsSafely s new key StringsKind c (Err e)
+  turned-down {c} {e} {why} is same each = stays s new key StringsKind c e why is same
       (texts-stay s key p b found c _ (open-writing s.mode c writing) each)
 
   -- a refusal for want of space, after which the blocks are as they were
-  given-up : {c : Command} {e : Refusal} → e ≡ NoSpace → IsRestored current s.cut new
-      → ((d : Directory) (h : Holds d) → perform d heap (effect d c) ≡ (Refused NoSpace, d))
-      → StepsKeeping s new key c (Err e)
+  given-up : {c : Command} {e : Refusal} → e ≡ NoSpace → IsRestored current s.cut new → ((d : Directory) (h : Holds d)
+      → perform d heap (effect d c) ≡ (Refused NoSpace, d)) → StepsKeeping s new key c (Err e)
   given-up {c} is back each = record {
     step = subst (λ (r : Refusal). IsStepOfKind s (record s { cut = new }) key StringsKind c (Refused r)) (sym is)
         (texts-restored s key p b found new c _ (open-writing s.mode c writing) back each);
@@ -135,43 +117,37 @@ module _ {s t : State} (view : s ≡ t) (b : IsSegment s.cut.bytes) {key : Key} 
   set-comes : {d : Directory} (h : Holds d) (i : ℕ) (bs : List ℕ) {was : OwnedText} {r : Option OwnedText}
       → slice_get h.texts i ≡ Some was → placed_text heap bs ≡ r
       → perform d heap (effect d (asked.Set key i (asked.Quoted bs))) ≡ then_text d heap (set_in h i) r
-  set-comes {d} h i bs found e =
-      ap (perform d heap) (set-text h i bs _ found) ∙ text-placed d heap bs (set_in h i)
+  set-comes {d} h i bs found e = ap (perform d heap) (set-text h i bs _ found) ∙ text-placed d heap bs (set_in h i)
       ∙ ap (then_text d heap (set_in h i)) e
 
   pub text-set : (i : ℕ) (bs : List ℕ) (r : Result (Unit {0}) Refusal) → ((k : ℕ) → Fits w8 (get_or bs k 0))
       → SetsText s.cut new p i bs r → Answered done_answer s t new key StringsKind (asked.Set key i (asked.Quoted bs)) r
-  text-set i bs (Ok u) small a =
-      seen (done-so (does (λ d l h.
+  text-set i bs (Ok u) small a = seen (done-so (does (λ d l h.
       let r : IsTextSet s.cut new p h.texts h.table i bs = a h.texts h.table h.stand in record {
         texts = slice_set h.texts i r.text;
         table = h.table;
-        move =
-            moved (part-set h.texts i r.before r.text r.found)
-            (text-bytes heap bs r.text (fits-bytes bs small) r.placed, tt)
-            (one-block (option_to_list h.table.extent) r.before.extent)
-            (one-block (option_to_list h.table.extent) r.text.extent) r.now;
+        move = moved (part-set h.texts i r.before r.text r.found)
+            (text-bytes heap bs r.text (fits-bytes bs small) r.placed, tt) (one-block (option_to_list h.table.extent)
+            r.before.extent) (one-block (option_to_list h.table.extent) r.text.extent) r.now;
         outcome = set-comes h i bs r.found r.placed;
       })))
-  text-set i bs (Err e) small a =
-      seen (elim (a some.texts some.table some.stand) [
-        | inl o ↦ turned-down o.refusal o.same (λ d h.
-            let q : IsOutside s.cut new (length h.texts) i e =
-            pick-outside e (λ w. w.1.refusal) o.refusal (a h.texts h.table h.stand) in
-            ap (perform d heap) (set-text h i bs None (slice_get_past h.texts i q.outside)))
-        | inr o ↦ turned-down o.1.refusal o.1.same (λ d h.
-            let q : (i < length h.texts) × IsWithoutFit s.cut new (placed_text heap bs) e =
-            pick-space e (λ w. w.refusal) o.1.refusal (a h.texts h.table h.stand) in
-            let empty : OwnedText = record { bytes = []; extent = None } in
-            set-comes h i bs (slice_get-get_or h.texts i empty q.0) q.1.none)
-      ])
+  text-set i bs (Err e) small a = seen (elim (a some.texts some.table some.stand) [
+    | inl o ↦ turned-down o.refusal o.same (λ d h.
+        let q : IsOutside s.cut new (length h.texts) i e =
+        pick-outside e (λ w. w.1.refusal) o.refusal (a h.texts h.table h.stand) in
+        ap (perform d heap) (set-text h i bs None (slice_get_past h.texts i q.outside)))
+    | inr o ↦ turned-down o.1.refusal o.1.same (λ d h.
+        let q : (i < length h.texts) × IsWithoutFit s.cut new (placed_text heap bs) e =
+        pick-space e (λ w. w.refusal) o.1.refusal (a h.texts h.table h.stand) in
+        let empty : OwnedText = record { bytes = []; extent = None } in
+        set-comes h i bs (slice_get-get_or h.texts i empty q.0) q.1.none)
+  ])
 
   -- ---- one more
 
   put-steps : (c : Command) (at : List OwnedText → ℕ) (bs : List ℕ) → ((k : ℕ) → Fits w8 (get_or bs k 0))
-      → ((d : Directory) (h : Holds d)
-      → IsTextPutIn s.cut new p h.texts h.table (at h.texts) bs × (effect d c ≡ insert_plan h (at h.texts) bs))
-      → StepsKeeping s new key c (Ok tt)
+      → ((d : Directory) (h : Holds d) → IsTextPutIn s.cut new p h.texts h.table (at h.texts) bs
+      × (effect d c ≡ insert_plan h (at h.texts) bs)) → StepsKeeping s new key c (Ok tt)
   put-steps c at bs small each = record {
     step = does (λ d l h.
         let r : IsTextPutIn s.cut new p h.texts h.table (at h.texts) bs = (each d h).0 in record {
@@ -206,32 +182,29 @@ module _ {s t : State} (view : s ≡ t) (b : IsSegment s.cut.bytes) {key : Key} 
 
   pub text-inserted : (i : ℕ) (bs : List ℕ) (r : Result (Unit {0}) Refusal) → ((k : ℕ) → Fits w8 (get_or bs k 0))
       → InsertsText s.cut new p i bs r → Kept s t new key (asked.Insert key i (asked.Quoted bs)) r
-  text-inserted i bs (Ok u) small a =
-      seen-kept (put-steps _ (λ ps. i) bs small (λ d h.
+  text-inserted i bs (Ok u) small a = seen-kept (put-steps _ (λ ps. i) bs small (λ d h.
       let r : (i ≤ length h.texts) × IsTextPutIn s.cut new p h.texts h.table i bs = a h.texts h.table h.stand in
       (r.1, insert-put h i bs r.0)))
-  text-inserted i bs (Err e) small a =
-      seen-kept (elim (a some.texts some.table some.stand) [
-        | inl o ↦
-            let safe : StepsSafely s new key StringsKind (asked.Insert key i (asked.Quoted bs)) (Err e) =
-            turned-down o.refusal o.same (λ d h.
-            let q : IsOutside s.cut new (length h.texts + 1) i e =
-            pick-outside e (λ w. w.1.refusal) o.refusal (a h.texts h.table h.stand) in
-            let past : length h.texts < i = let f = q.outside in omega arith in
-            ap (perform d heap) (insert-text h i bs true (lt-ltb (length h.texts) i past))) in
-            record { step = safe.step; refused = λ h. o.same }
-        | inr o ↦ given-up o.1.refusal o.1.restored (λ d h.
-            let q : (i ≤ length h.texts) × IsGivenUp s.cut new (one_more heap h.texts h.table bs) e =
-            pick-space e (λ w. w.refusal) o.1.refusal (a h.texts h.table h.stand) in
-            ap (perform d heap) (insert-put h i bs q.0) ∙ put-unmet h i bs q.1.none)
-      ])
+  text-inserted i bs (Err e) small a = seen-kept (elim (a some.texts some.table some.stand) [
+    | inl o ↦
+        let safe : StepsSafely s new key StringsKind (asked.Insert key i (asked.Quoted bs)) (Err e) =
+        turned-down o.refusal o.same (λ d h.
+        let q : IsOutside s.cut new (length h.texts + 1) i e =
+        pick-outside e (λ w. w.1.refusal) o.refusal (a h.texts h.table h.stand) in
+        let past : length h.texts < i = let f = q.outside in omega arith in
+        ap (perform d heap) (insert-text h i bs true (lt-ltb (length h.texts) i past))) in
+        record { step = safe.step; refused = λ h. o.same }
+    | inr o ↦ given-up o.1.refusal o.1.restored (λ d h.
+        let q : (i ≤ length h.texts) × IsGivenUp s.cut new (one_more heap h.texts h.table bs) e =
+        pick-space e (λ w. w.refusal) o.1.refusal (a h.texts h.table h.stand) in
+        ap (perform d heap) (insert-put h i bs q.0) ∙ put-unmet h i bs q.1.none)
+  ])
 
   -- ---- one less
 
   pub text-erased : (i : ℕ) (r : Result (Unit {0}) Refusal) → ErasesText s.cut new p i r
       → Answered done_answer s t new key StringsKind (asked.Erase key i) r
-  text-erased i (Ok u) a =
-      seen (done-so (does (λ d l h.
+  text-erased i (Ok u) a = seen (done-so (does (λ d l h.
       let r : IsTextLeftOut s.cut new p h.texts h.table i = a h.texts h.table h.stand in record {
         texts = remove h.texts i;
         table = h.table;
@@ -249,10 +222,8 @@ module _ {s t : State} (view : s ≡ t) (b : IsSegment s.cut.bytes) {key : Key} 
       let out : (d : Directory) → (l : StandsFor s.cut.bytes d)
       → IsTextLeftOut s.cut new p (holds d l).texts (holds d l).table (length (holds d l).texts - 1) =
       λ d l. a (holds d l).texts (holds d l).table (holds d l).stand in
-      led s t view b new key (asked.Pop key) (Ok u) None
-      (texts-lead-on s key p b found new (asked.Pop key) (λ d l. TextElement (out d l).before.bytes) writing
-      (λ d l. refl)
-      (λ d l.
+      led s t view b new key (asked.Pop key) (Ok u) None (texts-lead-on s key p b found new (asked.Pop key)
+      (λ d l. TextElement (out d l).before.bytes) writing (λ d l. refl) (λ d l.
       let h : Holds d = holds d l in record {
         texts = remove h.texts (length h.texts - 1);
         table = h.table;
@@ -261,8 +232,7 @@ module _ {s t : State} (view : s ≡ t) (b : IsSegment s.cut.bytes) {key : Key} 
       })) tt
   text-popped (Err e) a =
       let o : IsOutside s.cut new (length some.texts) 0 e = a some.texts some.table some.stand in
-      let safe : StepsSafely s new key StringsKind (asked.Pop key) (Err e) =
-      turned-down o.refusal o.same (λ d h.
+      let safe : StepsSafely s new key StringsKind (asked.Pop key) (Err e) = turned-down o.refusal o.same (λ d h.
       let none : length h.texts ≤ length h.texts - 1 = let f = (a h.texts h.table h.stand).outside in omega arith in
       ap (perform d heap) (pop-text h None (slice_get_past h.texts (length h.texts - 1) none))) in
       led s t view b new key (asked.Pop key) (Err e) (Some e)
@@ -270,16 +240,14 @@ module _ {s t : State} (view : s ≡ t) (b : IsSegment s.cut.bytes) {key : Key} 
 
   -- ---- none, and others in the place of all
 
-  cleared : (c : Command) → ClearsTexts s.cut new p
-      → ((d : Directory) (h : Holds d) → effect d c ≡ assign_in h h.table [])
-      → IsStepOfKind s (record s { cut = new }) key StringsKind c Done
-  cleared c a each =
-      does (λ d l h. record {
-        texts = [];
-        table = h.table;
-        move = all-other tt (sym (append-nil (option_to_list h.table.extent))) (a h.texts h.table h.stand);
-        outcome = ap (perform d heap) (each d h);
-      })
+  cleared : (c : Command) → ClearsTexts s.cut new p → ((d : Directory) (h : Holds d) → effect d c ≡ assign_in h h.table
+      []) → IsStepOfKind s (record s { cut = new }) key StringsKind c Done
+  cleared c a each = does (λ d l h. record {
+    texts = [];
+    table = h.table;
+    move = all-other tt (sym (append-nil (option_to_list h.table.extent))) (a h.texts h.table h.stand);
+    outcome = ap (perform d heap) (each d h);
+  })
 
   assign-plan : {d : Directory} (h : Holds d) (bs : List ℕ) (bss : List (List ℕ))
       → effect d (asked.Assign key (map asked.Quoted (bs ∷ bss))) ≡ all_plan (bs ∷ bss) (assign_in h)
@@ -304,8 +272,7 @@ module _ {s t : State} (view : s ≡ t) (b : IsSegment s.cut.bytes) {key : Key} 
   })
   texts-assigned (bs ∷ bss) (Err e) small a =
       let o : IsGivenUp s.cut new (all_texts heap (bs ∷ bss)) e = a some.texts some.table some.stand in
-      seen-kept (given-up o.refusal o.restored (λ d h.
-      ap (perform d heap) (assign-plan h bs bss)
+      seen-kept (given-up o.refusal o.restored (λ d h. ap (perform d heap) (assign-plan h bs bss)
       ∙ all-unmet d heap (bs ∷ bss) (assign_in h) (a h.texts h.table h.stand).none))
 
   -- ---- places
@@ -320,8 +287,7 @@ module _ {s t : State} (view : s ≡ t) (b : IsSegment s.cut.bytes) {key : Key} 
   -- what is done with them
   pub texts-changed : (change : Change) (r : Result (Unit {0}) Refusal) → ChangesTexts change s.cut new p r
       → StepsSafely s new key StringsKind (command_of change key) r
-  texts-changed (Reserve n) (Ok u) a =
-      done-so (does (λ d l h.
+  texts-changed (Reserve n) (Ok u) a = done-so (does (λ d l h.
       let r = a.0 h.texts h.table h.stand in
       record { texts = h.texts; table = r.0; move = in-array r.2; outcome = reserve-comes h n r.1 }))
   texts-changed (Reserve n) (Err e) a =
@@ -336,6 +302,5 @@ module _ {s t : State} (view : s ≡ t) (b : IsSegment s.cut.bytes) {key : Key} 
             ∙ ap (λ (m : LiveSet). (Done, texts_after h h.texts (cut_table m 16 (length h.texts) h.table)))
             (sym (denotes-live current s.cut.bytes d l.denotes));
       })))
-  texts-changed Clear r a =
-      subst (StepsSafely s new key StringsKind (asked.Clear key)) (sym a.0)
+  texts-changed Clear r a = subst (StepsSafely s new key StringsKind (asked.Clear key)) (sym a.0)
       (done-so (cleared (asked.Clear key) a.1 (λ d h. clear-texts h)))

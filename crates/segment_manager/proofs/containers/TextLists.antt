@@ -1,17 +1,18 @@
 -- Lists of texts with one more, one less, or another among them.
 use Rattle.segment_manager.proofs.Common.{◌≡◌, refl, sym, ap, ◌∙◌, ℕ, zero, suc, ◌-◌, Some, List, [], ◌∷◌, ◌++◌, length}
 use Rattle.segment_manager.proofs.Common.{take, drop, append-nil, arith, insert, remove, slice_get, slice_set}
-use Rattle.segment_manager.proofs.Common.{OwnedText}
+use Rattle.segment_manager.proofs.{Common.OwnedText, containers.TextBlocks.IsPartOther}
 use Rattle.std.proofs.{Math.Seq.take-length, Math.Seq.drop-length, lemmas.List.drop_all, lemmas.List.take-append-drop}
-use Rattle.segment_manager.proofs.containers.TextBlocks.{IsPartOther}
 
 -- the text with i others before it, among them
-split-at : (ps : List OwnedText) (i : ℕ) (q : OwnedText) → slice_get ps i ≡ Some q → ps ≡ take i ps ++ q ∷ drop (suc i) ps
+split-at : (ps : List OwnedText) (i : ℕ) (q : OwnedText) → slice_get ps i ≡ Some q
+    → ps ≡ take i ps ++ q ∷ drop (suc i) ps
 split-at [] i q e = absurd (cc)
 split-at (p ∷ ps) zero q e = let same : p ≡ q = cc in ap (λ (r : OwnedText). r ∷ ps) same
 split-at (p ∷ ps) (suc i) q e = ap (λ (qs : List OwnedText). p ∷ qs) (split-at ps i q e)
 
-set-at : (ps : List OwnedText) (i : ℕ) (q r : OwnedText) → slice_get ps i ≡ Some q → slice_set ps i r ≡ take i ps ++ r ∷ drop (suc i) ps
+set-at : (ps : List OwnedText) (i : ℕ) (q r : OwnedText) → slice_get ps i ≡ Some q
+    → slice_set ps i r ≡ take i ps ++ r ∷ drop (suc i) ps
 set-at [] i q r e = absurd (cc)
 set-at (p ∷ ps) zero q r e = refl
 set-at (p ∷ ps) (suc i) q r e = ap (λ (qs : List OwnedText). p ∷ qs) (set-at ps i q r e)
@@ -21,11 +22,14 @@ pub part-inserted : (ps : List OwnedText) (i : ℕ) (q : OwnedText) → IsPartOt
 part-inserted ps i q = record { front = take i ps; back = drop i ps; was = sym (take-append-drop i ps); is = refl }
 
 -- another
-pub part-set : (ps : List OwnedText) (i : ℕ) (q r : OwnedText) → slice_get ps i ≡ Some q → IsPartOther ps (slice_set ps i r) (q ∷ []) (r ∷ [])
-part-set ps i q r e = record { front = take i ps; back = drop (suc i) ps; was = split-at ps i q e; is = set-at ps i q r e }
+pub part-set : (ps : List OwnedText) (i : ℕ) (q r : OwnedText) → slice_get ps i ≡ Some q
+    → IsPartOther ps (slice_set ps i r) (q ∷ []) (r ∷ [])
+part-set ps i q r e = record
+    { front = take i ps; back = drop (suc i) ps; was = split-at ps i q e; is = set-at ps i q r e }
 
 -- one less
-pub part-removed : (ps : List OwnedText) (i : ℕ) (q : OwnedText) → slice_get ps i ≡ Some q → IsPartOther ps (remove ps i) (q ∷ []) []
+pub part-removed : (ps : List OwnedText) (i : ℕ) (q : OwnedText) → slice_get ps i ≡ Some q
+    → IsPartOther ps (remove ps i) (q ∷ []) []
 part-removed ps i q e = record { front = take i ps; back = drop (suc i) ps; was = split-at ps i q e; is = refl }
 
 -- all of them, and none
@@ -42,5 +46,5 @@ pushed-last ps q = λ i. take-length ps i ++ q ∷ drop-length ps i
 
 -- the last is left out
 pub removed-last : (ps : List OwnedText) → remove ps (length ps - 1) ≡ take (length ps - 1) ps
-removed-last ps =
-    ap (λ (qs : List OwnedText). take (length ps - 1) ps ++ qs) (drop_all (suc (length ps - 1)) ps (omega arith)) ∙ append-nil (take (length ps - 1) ps)
+removed-last ps = ap (λ (qs : List OwnedText). take (length ps - 1) ps ++ qs)
+    (drop_all (suc (length ps - 1)) ps (omega arith)) ∙ append-nil (take (length ps - 1) ps)

@@ -1,21 +1,18 @@
 -- A call on a vector of texts is one step: what the calls of seg_vector ensure of the texts at its place comes to the
 -- directory.
-use Rattle.segment_manager.proofs.Common.{◌≡◌, refl, sym, ap, subst, ◌∙◌, true, false, Option, None, Result, Ok, List}
-use Rattle.segment_manager.proofs.Common.{◌++◌, IfErr, OnErr, option_to_list, AllByRecursion, current, Cut, Extent}
-use Rattle.segment_manager.proofs.Common.{Table, Kind, StringsKind, Refusal, same_kind, Key, Command, Place, IsTextsNow}
-use Rattle.segment_manager.proofs.Common.{text_blocks, OwnedText, Answer, Refused, is_untouched, refusal_of, kind_at}
-use Rattle.segment_manager.proofs.Common.{container_at, Value, Texts, Directory, kind_of, perform, Answers, IsSegment}
-use Rattle.segment_manager.proofs.Common.{IsStepOfKind, LeadsOn, State, StandsFor, done_answer, changed, effect}
-use Rattle.segment_manager.proofs.Common.{is_read_only, step_of_kind, LeadsOnOfKind, LiveSet, live_of, [], append-nil}
-use Rattle.segment_manager.proofs.Common.{remove, ℕ}
-use Rattle.segment_manager.proofs.containers.TextsHeld.{HasBytes, HoldsTexts, IsTextsMove, holds-texts, texts-changed}
-use Rattle.segment_manager.proofs.Steps.{IsMove, IsOpenFor, by_no_change_of_kind, by_step_of_kind, open-writing}
-use Rattle.segment_manager.proofs.Steps.{step_of_kind-found, step_of_kind-segment}
-use Rattle.segment_manager.proofs.{Calling.denotes-live, containers.AnyStorage.kind-told}
-use Rattle.segment_manager.proofs.{containers.AnyStorage.of_kind-same, objects.Constructed.restored-denotes}
-use Rattle.segment_manager.proofs.{containers.Safely.seen-refused, containers.TextBlocks.IsPartOther}
+use Rattle.segment_manager.proofs as own
+use own.Common.{◌≡◌, refl, sym, ap, subst, ◌∙◌, true, false, Option, None, Result, Ok, List, ◌++◌, IfErr, OnErr}
+use own.Common.{option_to_list, AllByRecursion, current, Cut, Extent, Table, Kind, StringsKind, Refusal, same_kind, Key}
+use own.Common.{Command, Place, IsTextsNow, text_blocks, OwnedText, Answer, Refused, is_untouched, refusal_of, kind_at}
+use own.Common.{container_at, Value, Texts, Directory, kind_of, perform, Answers, IsSegment, IsStepOfKind, LeadsOn}
+use own.Common.{State, StandsFor, done_answer, changed, effect, is_read_only, step_of_kind, LeadsOnOfKind, LiveSet}
+use own.containers.TextsHeld.{HasBytes, HoldsTexts, IsTextsMove, holds-texts, texts-changed}
+use own.Steps.{IsMove, IsOpenFor, by_no_change_of_kind, by_step_of_kind, open-writing, step_of_kind-found}
+use own.containers.TextLists.{part-all, part-none, part-removed}
+use own.{Common.live_of, Common.[], Common.append-nil, Common.remove, Common.ℕ, Steps.step_of_kind-segment}
+use own.{Calling.denotes-live, containers.AnyStorage.kind-told, containers.AnyStorage.of_kind-same}
+use own.{objects.Constructed.restored-denotes, containers.Safely.seen-refused, containers.TextBlocks.IsPartOther}
 use Rattle.std.proofs.lemmas.Result.{IfErr-weaker}
-use Rattle.segment_manager.proofs.containers.TextLists.{part-all, part-none, part-removed}
 use Rattle.seg_vector.specs.TextsCalls.{IsTextLeftOut}
 use Rattle.best_fit.specs.Exchange.{IsRestored}
 
@@ -26,10 +23,9 @@ one-block xs r = ap (λ (ys : List Extent). xs ++ ys) (sym (append-nil (option_t
 
 -- it is so where a part of them is another
 pub moved : {old new : Cut} {p : Place} {ps qs out in_place : List OwnedText} {t u : Table} {gone come : List Extent}
-    → IsPartOther ps qs out in_place
-    → AllByRecursion HasBytes in_place → gone ≡ option_to_list t.extent ++ text_blocks out
-    → come ≡ option_to_list u.extent ++ text_blocks in_place → IsTextsNow old new p gone come qs u
-    → IsTextsMove old new p ps t qs u
+    → IsPartOther ps qs out in_place → AllByRecursion HasBytes in_place
+    → gone ≡ option_to_list t.extent ++ text_blocks out → come ≡ option_to_list u.extent ++ text_blocks in_place
+    → IsTextsNow old new p gone come qs u → IsTextsMove old new p ps t qs u
 moved part bytes e f now = record {
   out = _;
   in_place = _;
@@ -44,25 +40,21 @@ moved part bytes e f now = record {
 
 -- the array is another
 pub in-array : {old new : Cut} {p : Place} {ps : List OwnedText} {t u : Table}
-    → IsTextsNow old new p (option_to_list t.extent) (option_to_list u.extent) ps u
-    → IsTextsMove old new p ps t ps u
-in-array {ps = ps} {t = t} {u = u} now =
-    moved (part-none ps) tt (sym (append-nil (option_to_list t.extent)))
+    → IsTextsNow old new p (option_to_list t.extent) (option_to_list u.extent) ps u → IsTextsMove old new p ps t ps u
+in-array {ps = ps} {t = t} {u = u} now = moved (part-none ps) tt (sym (append-nil (option_to_list t.extent)))
     (sym (append-nil (option_to_list u.extent))) now
 
 -- they all are others
 pub all-other : {old new : Cut} {p : Place} {ps qs : List OwnedText} {t u : Table} {come : List Extent}
-    → AllByRecursion HasBytes qs
-    → come ≡ option_to_list u.extent ++ text_blocks qs
+    → AllByRecursion HasBytes qs → come ≡ option_to_list u.extent ++ text_blocks qs
     → IsTextsNow old new p (option_to_list t.extent ++ text_blocks ps) come qs u → IsTextsMove old new p ps t qs u
 all-other {ps = ps} {qs = qs} small e now = moved (part-all ps qs) small refl e now
 
 -- one of them is left out
 pub left-out : {old new : Cut} {p : Place} {i : ℕ} {ps : List OwnedText} {t : Table}
     → (r : IsTextLeftOut old new p ps t i) → IsTextsMove old new p ps t (remove ps i) t
-left-out {i = i} {ps = ps} {t = t} r =
-    moved (part-removed ps i r.before r.found) tt (one-block (option_to_list t.extent) r.before.extent)
-    (sym (append-nil (option_to_list t.extent))) r.now
+left-out {i = i} {ps = ps} {t = t} r = moved (part-removed ps i r.before r.found) tt
+    (one-block (option_to_list t.extent) r.before.extent) (sym (append-nil (option_to_list t.extent))) r.now
 
 -- and what the command's plan comes to
 pub record TextsMove (old new : Cut) (d : Directory) (key : Key) (p : Place) (h : HoldsTexts old.bytes d key p)
@@ -87,8 +79,7 @@ module _ (s : State) (key : Key) (p : Place) (b : IsSegment s.cut.bytes)
   -- the command's plan, performed
   texts-plan : (d : Directory) (l : StandsFor s.cut.bytes d) (c : Command) → IsOpenFor s.mode c
       → outcome-of c d ≡ perform d (live_of s.cut.bytes) (effect d c)
-  texts-plan d l c may =
-      step_of_kind-found s.mode d key StringsKind c (texts_in d l).object may (texts_in d l).is
+  texts-plan d l c may = step_of_kind-found s.mode d key StringsKind c (texts_in d l).object may (texts_in d l).is
       (ap (λ (v : Value). same_kind StringsKind (kind_of v)) (texts_in d l).value)
       ∙ ap (λ (m : LiveSet). perform d m (effect d c)) (sym (denotes-live current s.cut.bytes d l.denotes))
 
@@ -108,15 +99,13 @@ module _ (s : State) (key : Key) (p : Place) (b : IsSegment s.cut.bytes)
   pub texts-steps : (new : Cut) (c : Command) (answer : Answer) → is_read_only s.mode ≡ false
       → ((d : Directory) (l : StandsFor s.cut.bytes d) (h : Holds d) → TextsMove s.cut new d key p h c answer)
       → IsStepOfKind s (record s { cut = new }) key StringsKind c answer
-  texts-steps new c answer writing each =
-      by_step_of_kind s (record s { cut = new }) key StringsKind c answer
+  texts-steps new c answer writing each = by_step_of_kind s (record s { cut = new }) key StringsKind c answer
       (record { mode = refl; place = (each b.0 b.1 (texts_in b.0 b.1)).move.now.change.place })
       (λ d l. texts-move new d l c answer writing (each d l (texts_in d l)))
 
   -- the same of a call that does not say what it took away
   pub texts-lead-on : (new : Cut) (c : Command) (answer : (d : Directory) → StandsFor s.cut.bytes d → Answer)
-      → is_read_only s.mode ≡ false
-      → ((d : Directory) (l : StandsFor s.cut.bytes d) → refusal_of (answer d l) ≡ None)
+      → is_read_only s.mode ≡ false → ((d : Directory) (l : StandsFor s.cut.bytes d) → refusal_of (answer d l) ≡ None)
       → ((d : Directory) (l : StandsFor s.cut.bytes d) → TextsMove s.cut new d key p (texts_in d l) c (answer d l))
       → LeadsOnOfKind s (record s { cut = new }) key StringsKind c None
   texts-lead-on new c answer writing done each = record {
@@ -131,9 +120,8 @@ module _ (s : State) (key : Key) (p : Place) (b : IsSegment s.cut.bytes)
       moves d l = texts-move new d l c (answer d l) writing (each d l)
 
   -- it answers so, and nothing changes
-  pub texts-stay : (c : Command) (answer : Answer) → IsOpenFor s.mode c
-      → ((d : Directory) (h : Holds d) → perform d (live_of s.cut.bytes) (effect d c) ≡ (answer, d))
-      → IsStepOfKind s s key StringsKind c answer
+  pub texts-stay : (c : Command) (answer : Answer) → IsOpenFor s.mode c → ((d : Directory) (h : Holds d)
+      → perform d (live_of s.cut.bytes) (effect d c) ≡ (answer, d)) → IsStepOfKind s s key StringsKind c answer
   texts-stay c answer may each =
       by_no_change_of_kind s key StringsKind c answer (λ d l. texts-plan d l c may ∙ each d (texts_in d l))
 
@@ -141,10 +129,8 @@ module _ (s : State) (key : Key) (p : Place) (b : IsSegment s.cut.bytes)
   pub texts-restored : (new : Cut) (c : Command) (answer : Answer) → IsOpenFor s.mode c → IsRestored current s.cut new
       → ((d : Directory) (h : Holds d) → perform d (live_of s.cut.bytes) (effect d c) ≡ (answer, d))
       → IsStepOfKind s (record s { cut = new }) key StringsKind c answer
-  texts-restored new c answer may back each =
-      by_step_of_kind s (record s { cut = new }) key StringsKind c answer
-      (record { mode = refl; place = back.keeps.place })
-      (λ d l. record {
+  texts-restored new c answer may back each = by_step_of_kind s (record s { cut = new }) key StringsKind c answer
+      (record { mode = refl; place = back.keeps.place }) (λ d l. record {
         after = d;
         is = texts-plan d l c may ∙ each d (texts_in d l);
         stands = record {
@@ -167,8 +153,7 @@ pub record Kept (s t : State) (new : Cut) (key : Key) (c : Command) (r : Result 
 
 -- what the call ensures
 pub kept-told : {s t : State} {new : Cut} {key : Key} {c : Command} {r : Result (Unit {0}) Refusal}
-    → Kept s t new key c r
-    → record {
+    → Kept s t new key c r → record {
       step : IsStepOfKind t (record s { cut = new }) key StringsKind c (done_answer r);
       refused : IfErr r (λ why. is_untouched (Refused why) ≡ true → (record s { cut = new }) ≡ t);
     }
@@ -177,11 +162,10 @@ kept-told k = record { step = k.step; refused = k.refused }
 pub kept : (s t : State) (view : s ≡ t) (b : IsSegment s.cut.bytes) (new : Cut) (key : Key) (c : Command)
     (r : Result (Unit {0}) Refusal) → StepsKeeping s new key c r → Kept s t new key c r
 kept s t view b new key c r done = record {
-  step = subst (λ (u : State). IsStepOfKind u (record s { cut = new }) key StringsKind c (done_answer r)) view done.step;
-  refused =
-      IfErr-weaker r (λ why. is_untouched (Refused why) ≡ true → new ≡ s.cut)
-      (λ why. is_untouched (Refused why) ≡ true → (record s { cut = new }) ≡ t)
-      (λ why same h. (λ i. record s { cut = same h i }) ∙ view) done.refused;
+  step = subst (λ (u : State). IsStepOfKind u (record s { cut = new }) key StringsKind c (done_answer r)) view
+      done.step;
+  refused = IfErr-weaker r (λ why. is_untouched (Refused why) ≡ true → new ≡ s.cut) (λ why. is_untouched (Refused why)
+      ≡ true → (record s { cut = new }) ≡ t) (λ why same h. (λ i. record s { cut = same h i }) ∙ view) done.refused;
   segment = step_of_kind-segment s (record s { cut = new }) key StringsKind c (done_answer r) done.step b;
 }
 
@@ -214,11 +198,8 @@ pub of_kind-leads_on : (old new : State) (key : Key) (kind : Kind) (c : Command)
     → Answers old (λ d. kind_at d key) (Ok kind) → LeadsOnOfKind old new key kind c why → LeadsOn old new c why
 of_kind-leads_on old new key kind c why a r = record {
   stays = r.stays;
-  answers = λ d l. r.answers d l
-      ∙ ap (λ (n : Answer × Directory). refusal_of n.0)
+  answers = λ d l. r.answers d l ∙ ap (λ (n : Answer × Directory). refusal_of n.0)
       (of_kind-same old.mode d key kind c (kind-told d key kind (a.answers d l)));
-  denotes = λ d l.
-      subst (λ (n : Answer × Directory). StandsFor new.cut.bytes n.1)
-      (of_kind-same old.mode d key kind c (kind-told d key kind (a.answers d l)))
-      (r.denotes d l);
+  denotes = λ d l. subst (λ (n : Answer × Directory). StandsFor new.cut.bytes n.1)
+      (of_kind-same old.mode d key kind c (kind-told d key kind (a.answers d l))) (r.denotes d l);
 }

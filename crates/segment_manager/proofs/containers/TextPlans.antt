@@ -1,21 +1,18 @@
 -- The plans of the commands on a vector of texts, and what they come to.
-use Rattle.segment_manager.proofs.Common.{◌≡◌, refl, sym, ap, ◌∙◌, ℕ, ◌-◌, ◌*◌, Bool, true, false, Option, Some, None}
-use Rattle.segment_manager.proofs.Common.{Result, Ok, Err, List, [], ◌∷◌, length, ◌==◌, if◌then◌else◌, insert, remove}
-use Rattle.segment_manager.proofs.Common.{slice_get, slice_set, nat_lt, option_map, Storage, LiveSet, place, resized}
-use Rattle.segment_manager.proofs.Common.{Table, cut_table, no_table, Refusal, NoSpace, OutOfRange, Key, Literal, Place}
-use Rattle.segment_manager.proofs.Common.{all_texts, new_array, one_more, placed_text, placed_texts, with_array}
-use Rattle.segment_manager.proofs.Common.{with_text, OwnedText, capacity_for_one, grown_table, Answer, Done, Refused}
-use Rattle.segment_manager.proofs.Common.{TextElement, Texts, Object, Directory, Value, found_at, live, New, Plan}
-use Rattle.segment_manager.proofs.Common.{Refuse, Reply, Request, perform, with, with_capacity, with_owned_text}
-use Rattle.segment_manager.proofs.Common.{with_owned_texts, with_storage, changed, effect, storage_of, texts_of}
-use Rattle.segment_manager.proofs.Common.{with_items}
+use Rattle.segment_manager.proofs as own
+use own.Common.{◌≡◌, refl, sym, ap, ◌∙◌, ℕ, ◌-◌, ◌*◌, Bool, true, false, Option, Some, None, Result, Ok, Err, List, []}
+use own.Common.{◌∷◌, length, ◌==◌, if◌then◌else◌, insert, remove, slice_get, slice_set, nat_lt, option_map, Storage}
+use own.Common.{LiveSet, place, resized, Table, cut_table, no_table, Refusal, NoSpace, OutOfRange, Key, Literal, Place}
+use own.Common.{all_texts, new_array, one_more, placed_text, placed_texts, with_array, with_text, OwnedText}
+use own.Common.{capacity_for_one, grown_table, Answer, Done, Refused, TextElement, Texts, Object, Directory, Value}
+use own.Common.{found_at, live, New, Plan, Refuse, Reply, Request, perform, with, with_capacity, with_owned_text}
+use own.Common.{with_owned_texts, with_storage, changed, effect, storage_of, texts_of, with_items}
+use own.containers.ContentPlans.{reserve_with, shrink_with}
+use own.containers.Refilled.{asked-met, of_places, room-grown, then_by, then_room}
+use own.{containers.PlacedTexts.in_block, containers.PlacedTexts.unplaced, Steps.with-found}
+use own.{containers.TextLists.pushed-last, containers.TextLists.removed-last, containers.TextsHeld.HoldsTexts}
 use Rattle.seg_types.specs.Commands as asked
 use Rattle.segment_manager.specs.Step as step
-use Rattle.segment_manager.proofs.containers.ContentPlans.{reserve_with, shrink_with}
-use Rattle.segment_manager.proofs.containers.PlacedTexts.{in_block, unplaced}
-use Rattle.segment_manager.proofs.containers.Refilled.{asked-met, of_places, room-grown, then_by, then_room}
-use Rattle.segment_manager.proofs.{Steps.with-found, containers.TextLists.pushed-last}
-use Rattle.segment_manager.proofs.{containers.TextLists.removed-last, containers.TextsHeld.HoldsTexts}
 
 -- ---- what requests come to
 
@@ -48,12 +45,9 @@ texts-mapped d l next q None = refl
 texts-mapped d l next q (Some qs) = refl
 
 text-then : (d : Directory) (l : LiveSet) (bss : List (List ℕ)) (next : List OwnedText → Plan) (r : Option OwnedText)
-    → ((q : OwnedText)
-    → perform d (with_text l q) (with_owned_texts bss (λ qs. next (q ∷ qs)))
-    ≡ then_texts d (with_text l q) (λ qs. next (q ∷ qs)) (placed_texts (with_text l q) bss))
-    → then_text d l (λ q. with_owned_texts bss (λ qs. next (q ∷ qs))) r
-    ≡ then_texts d l next
-    (elim r as (λ _. Option (List OwnedText))
+    → ((q : OwnedText) → perform d (with_text l q) (with_owned_texts bss (λ qs. next (q ∷ qs))) ≡ then_texts d
+    (with_text l q) (λ qs. next (q ∷ qs)) (placed_texts (with_text l q) bss)) → then_text d l (λ q. with_owned_texts bss
+    (λ qs. next (q ∷ qs))) r ≡ then_texts d l next (elim r as (λ _. Option (List OwnedText))
     [ None ↦ None | Some q ↦ option_map (λ qs. q ∷ qs) (placed_texts (with_text l q) bss) ])
 text-then d l bss next None more = refl
 text-then d l bss next (Some q) more = more q ∙ texts-mapped d l next q (placed_texts (with_text l q) bss)
@@ -61,8 +55,7 @@ text-then d l bss next (Some q) more = more q ∙ texts-mapped d l next q (place
 pub texts-placed : (d : Directory) (l : LiveSet) (bss : List (List ℕ)) (next : List OwnedText → Plan)
     → perform d l (with_owned_texts bss next) ≡ then_texts d l next (placed_texts l bss)
 texts-placed d l [] next = refl
-texts-placed d l (bs ∷ bss) next =
-    text-placed d l bs (λ q. with_owned_texts bss (λ qs. next (q ∷ qs)))
+texts-placed d l (bs ∷ bss) next = text-placed d l bs (λ q. with_owned_texts bss (λ qs. next (q ∷ qs)))
     ∙ text-then d l bss next (placed_text l bs) (λ q. texts-placed d (with_text l q) bss (λ qs. next (q ∷ qs)))
 
 -- a new array
@@ -93,11 +86,9 @@ module _ (d : Directory) (l : LiveSet) (ps : List OwnedText) (t : Table) (bs : L
   pub one-more-met : (u : Table) (q : OwnedText) → grown_table l 16 (capacity_for_one (length ps) t.capacity) t ≡ Some u
       → placed_text (with_array l t u) bs ≡ Some q
       → perform d l (one_more_plan ps t bs next) ≡ perform d (with_text (with_array l t u) q) (next u q)
-  one-more-met u q g h =
-      room-grown d l 16 t (capacity_for_one (length ps) t.capacity) (λ u. with_owned_text bs (next u))
-      ∙ ap (then_room d l t (λ u. with_owned_text bs (next u))) g
-      ∙ text-placed d (with_array l t u) bs (next u)
-      ∙ ap (then_text d (with_array l t u) (next u)) h
+  one-more-met u q g h = room-grown d l 16 t (capacity_for_one (length ps) t.capacity)
+      (λ u. with_owned_text bs (next u)) ∙ ap (then_room d l t (λ u. with_owned_text bs (next u))) g
+      ∙ text-placed d (with_array l t u) bs (next u) ∙ ap (then_text d (with_array l t u) (next u)) h
 
   none-if : (r : Option Table)
       → elim r as (λ _. Option OwnedText) [ None ↦ None | Some u ↦ placed_text (with_array l t u) bs ] ≡ None
@@ -106,8 +97,7 @@ module _ (d : Directory) (l : LiveSet) (ps : List OwnedText) (t : Table) (bs : L
   none-if (Some u) h = text-placed d (with_array l t u) bs (next u) ∙ ap (then_text d (with_array l t u) (next u)) h
 
   pub one-more-unmet : one_more l ps t bs ≡ None → perform d l (one_more_plan ps t bs next) ≡ (Refused NoSpace, d)
-  one-more-unmet h =
-      room-grown d l 16 t (capacity_for_one (length ps) t.capacity) (λ u. with_owned_text bs (next u))
+  one-more-unmet h = room-grown d l 16 t (capacity_for_one (length ps) t.capacity) (λ u. with_owned_text bs (next u))
       ∙ none-if (grown_table l 16 (capacity_for_one (length ps) t.capacity) t) h
 
 -- ---- a new array, and then texts
@@ -116,13 +106,10 @@ abbrev pub all_plan : List (List ℕ) → (Table → List OwnedText → Plan) �
 all_plan bss next = with_storage 16 (length bss) (λ u. with_owned_texts bss (next u))
 
 module _ (d : Directory) (l : LiveSet) (bss : List (List ℕ)) (next : Table → List OwnedText → Plan) where
-  pub all-met : (u : Table) (qs : List OwnedText) → new_array l (length bss) ≡ Some u
-      → placed_texts (beside_array l u) bss ≡ Some qs
-      → perform d l (all_plan bss next) ≡ perform d (beside_texts (beside_array l u) qs) (next u qs)
-  all-met u qs g h =
-      array-placed d l (length bss) (λ u. with_owned_texts bss (next u))
-      ∙ ap (then_array d l (λ u. with_owned_texts bss (next u))) g
-      ∙ texts-placed d (beside_array l u) bss (next u)
+  pub all-met : (u : Table) (qs : List OwnedText) → new_array l (length bss) ≡ Some u → placed_texts (beside_array l u)
+      bss ≡ Some qs → perform d l (all_plan bss next) ≡ perform d (beside_texts (beside_array l u) qs) (next u qs)
+  all-met u qs g h = array-placed d l (length bss) (λ u. with_owned_texts bss (next u))
+      ∙ ap (then_array d l (λ u. with_owned_texts bss (next u))) g ∙ texts-placed d (beside_array l u) bss (next u)
       ∙ ap (then_texts d (beside_array l u) (next u)) h
 
   all-none-if : (r : Option Table)
@@ -163,8 +150,7 @@ module _ {b : List ℕ} {d : Directory} {key : Key} {p : Place} (h : HoldsTexts 
 
   pub set-text : (i : ℕ) (bs : List ℕ) (r : Option OwnedText) → slice_get h.texts i ≡ r
       → effect d (asked.Set key i (asked.Quoted bs)) ≡ with (text_in r) (λ old. with_owned_text bs (set_in i))
-  set-text i bs r g =
-      by-texts (λ o v. step.set d o v i (asked.Quoted bs))
+  set-text i bs r g = by-texts (λ o v. step.set d o v i (asked.Quoted bs))
       ∙ ap (λ r. with (text_in r) (λ old. with_owned_text bs (set_in i))) g
 
   -- one more, among the others or behind the last
@@ -175,29 +161,24 @@ module _ {b : List ℕ} {d : Directory} {key : Key} {p : Place} (h : HoldsTexts 
   insert_plan i bs = one_more_plan h.texts h.table bs (insert_in i)
 
   pub push-text : (bs : List ℕ) → effect d (asked.Push key (asked.Quoted bs)) ≡ insert_plan (length h.texts) bs
-  push-text bs =
-      by-texts (λ o v. step.push d o v (asked.Quoted bs))
+  push-text bs = by-texts (λ o v. step.push d o v (asked.Quoted bs))
       ∙ (λ i. one_more_plan h.texts h.table bs (λ u q. Reply Done (texts_after (sym (pushed-last h.texts q) i) u)))
 
   pub insert-text : (i : ℕ) (bs : List ℕ) (b : Bool) → nat_lt (length h.texts) i ≡ b
       → effect d (asked.Insert key i (asked.Quoted bs)) ≡ (if b then Refuse OutOfRange else insert_plan i bs)
-  insert-text i bs b g =
-      by-texts (λ o v. step.insert_at d o v i (asked.Quoted bs))
+  insert-text i bs b g = by-texts (λ o v. step.insert_at d o v i (asked.Quoted bs))
       ∙ ap (λ (b : Bool). if b then Refuse OutOfRange else insert_plan i bs) g
 
   -- one less
   pub erase-text : (i : ℕ) (r : Option OwnedText) → slice_get h.texts i ≡ r
       → effect d (asked.Erase key i) ≡ with (text_in r) (λ q. Reply Done (texts_after (remove h.texts i) h.table))
-  erase-text i r g =
-      by-texts (λ o v. step.erase d o v i)
+  erase-text i r g = by-texts (λ o v. step.erase d o v i)
       ∙ ap (λ r. with (text_in r) (λ q. Reply Done (texts_after (remove h.texts i) h.table))) g
 
   -- the last
   pub pop-text : (r : Option OwnedText) → slice_get h.texts (length h.texts - 1) ≡ r → effect d (asked.Pop key)
       ≡ with (text_in r) (λ q. Reply (TextElement q.bytes) (texts_after (remove h.texts (length h.texts - 1)) h.table))
-  pop-text r g =
-      by-texts (λ o v. step.pop d o v)
-      ∙ (λ i. with (text_in (g i)) (λ q.
+  pop-text r g = by-texts (λ o v. step.pop d o v) ∙ (λ i. with (text_in (g i)) (λ q.
       Reply (TextElement q.bytes) (texts_after (sym (removed-last h.texts) i) h.table)))
 
   -- others in the place of all: none, and one or more

@@ -1,27 +1,25 @@
 -- A vector of texts as the value of an object: it stands at its place as the calls of seg_vector see it, and what they
 -- do to it is what becomes of the object.
-use Rattle.segment_manager.proofs.Common.{◌≡◌, refl, sym, ap, subst, ◌∙◌, ℕ, ◌+◌, ◌≢◌, ◌≤◌, true, ◌&&◌, Option, Some}
-use Rattle.segment_manager.proofs.Common.{None, Ok, List, [], ◌∷◌, ◌++◌, length, arith, IsTrue, nat_le, nat_lt}
-use Rattle.segment_manager.proofs.Common.{option_to_list, AllByRecursion, list_all, and_from, eq-eqb, eqb-true, le-leb}
-use Rattle.segment_manager.proofs.Common.{lt-ltb, ltb-true, current, Cut, bytes_of, Storage, IsExchanged, Extent}
-use Rattle.segment_manager.proofs.Common.{LiveSet, handle, is_proper, extent_at, live_of, Table, is_table, serves}
-use Rattle.segment_manager.proofs.Common.{StringsKind, same_kind, Key, Place, IsOwnBlock, place_at, AreOthers}
-use Rattle.segment_manager.proofs.Common.{IsSomeTexts, IsTextsNow, text_blocks, OwnedText, are_bytes, container_at}
-use Rattle.segment_manager.proofs.Common.{container_place, Denotes, IsValueAt, Value, Texts, Object, Directory}
-use Rattle.segment_manager.proofs.Common.{count_of, extents_of, has_own_block, is_good_value, is_object, is_owned_text}
-use Rattle.segment_manager.proofs.Common.{kind_of, live, object_at, padded, value_len, StandsAt, Answers, IsSegment}
-use Rattle.segment_manager.proofs.Words.{AllByRecursion-append, AllByRecursion-behind, AllByRecursion-front, first}
-use Rattle.segment_manager.proofs.Words.{no_more, second}
-use Rattle.segment_manager.proofs.{Common.State, Common.changed, Calling.denotes-heap, Calling.denotes-live}
-use Rattle.segment_manager.proofs.{containers.Contained.good-with, containers.Contained.start-place}
-use Rattle.segment_manager.proofs.{objects.Exchanged.denotes-container, Frame.object-roomy, objects.Here.standing}
-use Rattle.segment_manager.proofs.{Live.IsIn, Live.live-split, objects.ObjectLists.key-found}
-use Rattle.segment_manager.proofs.{containers.Refilled.HoldsAt, containers.Refilled.holds-at, objects.Regrown.rest}
-use Rattle.segment_manager.proofs.{objects.Regrown.with_extents, objects.Rewritten.value_start}
-use Rattle.segment_manager.proofs.{objects.Rewritten.with_value, objects.Standings.standing-room}
-use Rattle.segment_manager.proofs.{containers.ItemSteps.one-kind, Order.Rising, Order.inserted, Order.live-rises}
-use Rattle.segment_manager.proofs.{containers.TextBlocks.IsPartOther, containers.TextBlocks.others-apart}
-use Rattle.segment_manager.proofs.{containers.TextBlocks.part-exchange}
+use Rattle.segment_manager.proofs.Common.{◌≡◌, refl, sym, true, ◌&&◌, Some, None, List, ◌++◌, Value, Texts, live, State}
+use Rattle.segment_manager.proofs.Common.{ap, ◌∙◌, ◌+◌, ◌≢◌, ◌≤◌, Ok, [], ◌∷◌, Cut, Key, subst, list_all, and_from}
+use Rattle.segment_manager.proofs.Common.{eqb-true, ltb-true, bytes_of, value_len, IsSegment, ℕ, current, Storage}
+use Rattle.segment_manager.proofs.Common.{LiveSet, live_of, is_table, place_at, count_of, StandsAt, Option, extent_at}
+use Rattle.segment_manager.proofs.Common.{same_kind, IsOwnBlock, IsTextsNow, text_blocks, extents_of, length, IsTrue}
+use Rattle.segment_manager.proofs.Common.{nat_le, nat_lt, eq-eqb, Denotes, kind_of, Answers, changed, arith, le-leb}
+use Rattle.segment_manager.proofs.Common.{lt-ltb, Extent, handle, Table, serves, Place, Object, padded, option_to_list}
+use Rattle.segment_manager.proofs.Common.{AllByRecursion, container_place, has_own_block, is_good_value, IsExchanged}
+use Rattle.segment_manager.proofs.Common.{is_proper, StringsKind, IsSomeTexts, container_at, is_owned_text, AreOthers}
+use Rattle.segment_manager.proofs.Common.{OwnedText, are_bytes, IsValueAt, Directory, is_object, object_at}
+use Rattle.segment_manager.proofs.containers.Contained.{good-with, start-place}
+use Rattle.segment_manager.proofs.containers.TextBlocks.{IsPartOther, others-apart, part-exchange}
+use Rattle.segment_manager.proofs.objects.Rewritten.{with_value, value_start}
+use Rattle.segment_manager.proofs.{Frame.object-roomy, Live.live-split, Order.Rising, Order.live-rises}
+use Rattle.segment_manager.proofs.{containers.Refilled.HoldsAt, Live.IsIn, Calling.denotes-heap, Calling.denotes-live}
+use Rattle.segment_manager.proofs.{containers.Refilled.holds-at, objects.Regrown.rest, objects.Regrown.with_extents}
+use Rattle.segment_manager.proofs.{Order.inserted, objects.Exchanged.denotes-container, objects.Standings.standing-room}
+use Rattle.segment_manager.proofs.{containers.ItemSteps.one-kind, objects.Here.standing, objects.ObjectLists.key-found}
+use Rattle.raw_region.proofs.Facts.{AllByRecursion-append, AllByRecursion-behind, AllByRecursion-front, first, no_more}
+use Rattle.raw_region.proofs.Facts.{second}
 use Rattle.best_fit.proofs.Laws.{all-found-in}
 use Rattle.std.proofs.lemmas.List.{nil_from_length}
 use Rattle.seg_vector.specs.{TextsCalls.IsHeldText, TextsCalls.IsTexts, Vector.IsTextsAt}
@@ -78,8 +76,7 @@ block-one l bytes (Some x) h =
 owned-each : (l : LiveSet) (ps : List OwnedText) → AllByRecursion (IsHeldText l) ps → AllByRecursion HasBytes ps
     → IsTrue (list_all is_owned_text ps)
 owned-each l [] h s = refl
-owned-each l (p ∷ ps) h s =
-    and_from (is_owned_text p) (list_all is_owned_text ps)
+owned-each l (p ∷ ps) h s = and_from (is_owned_text p) (list_all is_owned_text ps)
     (and_from (has_own_block p) (are_bytes p.bytes) (block-one l p.bytes p.extent h.0) s.0) (owned-each l ps h.1 s.1)
 
 -- ---- the value
@@ -103,8 +100,7 @@ fits-texts ps t h =
 -- texts that stand at a place make one
 pub good-texts : (b : List ℕ) (p : Place) (ps : List OwnedText) (t : Table) → IsTexts b p ps t
     → AllByRecursion HasBytes ps → IsTrue (is_good_value (Texts ps t))
-good-texts b p ps t h s =
-    and_from (nat_le (length ps) t.capacity && is_table Storage 16 t) (list_all is_owned_text ps)
+good-texts b p ps t h s = and_from (nat_le (length ps) t.capacity && is_table Storage 16 t) (list_all is_owned_text ps)
     (and_from (nat_le (length ps) t.capacity) (is_table Storage 16 t) (le-leb (length ps) t.capacity h.fits) h.table)
     (owned-each (live_of b) ps h.held s)
 
@@ -120,8 +116,7 @@ texts-only v e = texts-if v (one-kind StringsKind (kind_of v) e)
 
 -- its blocks are in use, and no two of them and its own are one
 its-blocks : (d : Directory) (o : Object) (ps : List OwnedText) (t : Table) → IsIn d o → IsTrue (is_proper (live d))
-    → o.value ≡ Texts ps t
-    → AllByRecursion (InUse (live d)) (option_to_list t.extent ++ text_blocks ps) × AreOthers
+    → o.value ≡ Texts ps t → AllByRecursion (InUse (live d)) (option_to_list t.extent ++ text_blocks ps) × AreOthers
     (o.extent ∷ (option_to_list t.extent ++ text_blocks ps))
 its-blocks d o ps t f proper e =
     let all : List Extent = o.extent ∷ (option_to_list t.extent ++ text_blocks ps) in
@@ -159,19 +154,16 @@ pub record HoldsTexts (b : List ℕ) (d : Directory) (key : Key) (p : Place) : T
 pub holds-texts : (b : List ℕ) (d : Directory) (key : Key) (p : Place) → Denotes current b d
     → Ok p ≡ container_at d key StringsKind → HoldsTexts b d key p
 holds-texts b d key p k e =
-    let h : HoldsAt d key StringsKind p = holds-at d key StringsKind p e in
-    let o : Object = h.object in
+    let h : HoldsAt d key StringsKind p = holds-at d key StringsKind p e in let o : Object = h.object in
     let v : (ps : List OwnedText) × ((t : Table) × (o.value ≡ Texts ps t)) = texts-only o.value h.same in
-    let ps : List OwnedText = v.0 in
-    let t : Table = v.1.0 in
+    let ps : List OwnedText = v.0 in let t : Table = v.1.0 in
     let s : StandsAt b (handle o.extent) o = standing b d key o k h.is in
     let good : FitsTexts ps t =
     fits-texts ps t (subst (λ (w : Value). IsTrue (is_good_value w)) v.1.1 (object-roomy current o s.good).value) in
     let array : List Extent = option_to_list t.extent in
     let blocks = its-blocks d o ps t (key-found current d key o k.directory h.is) k.directory.proper v.1.1 in
-    let held : AllByRecursion (InUse (live_of b)) (array ++ text_blocks ps) =
-    subst (λ (l : LiveSet). AllByRecursion (InUse l) (array ++ text_blocks ps))
-    (sym (denotes-live current b d k)) blocks.0 in
+    let held : AllByRecursion (InUse (live_of b)) (array ++ text_blocks ps) = subst (λ (l : LiveSet). AllByRecursion
+    (InUse l) (array ++ text_blocks ps)) (sym (denotes-live current b d k)) blocks.0 in
     let len : value_len o.value ≡ 24 = ap value_len v.1.1 in
     record {
       object = o;
@@ -188,9 +180,8 @@ holds-texts b d key p k e =
         room = standing-room b (handle o.extent) (16 + padded (length o.name) + 24) o s (omega (arith, len));
         table = good.table;
         fits = good.fits;
-        own = own-array (live_of b) (handle o.extent) t.extent
-            (AllByRecursion-front (InUse (live_of b)) array (text_blocks ps) held)
-            (AllByRecursion-front (Beside (handle o.extent)) array (text_blocks ps) blocks.1.0);
+        own = own-array (live_of b) (handle o.extent) t.extent (AllByRecursion-front (InUse (live_of b)) array
+            (text_blocks ps) held) (AllByRecursion-front (Beside (handle o.extent)) array (text_blocks ps) blocks.1.0);
         held = held-each (live_of b) ps good.owned
             (AllByRecursion-behind (InUse (live_of b)) array (text_blocks ps) held);
         apart = other-way (handle o.extent) (text_blocks ps)
@@ -228,21 +219,18 @@ module _ {old new : Cut} {d : Directory} {key : Key} {p : Place} (k : Denotes cu
     (m : IsTextsMove old new p h.texts h.table qs u) where
   bytes-other : AllByRecursion HasBytes qs
   bytes-other =
-      let front : List OwnedText = m.part.front in
-      let back : List OwnedText = m.part.back in
+      let front : List OwnedText = m.part.front in let back : List OwnedText = m.part.back in
       let all : AllByRecursion HasBytes (front ++ (m.out ++ back)) =
       subst (AllByRecursion HasBytes) m.part.was h.bytes in
       let behind : AllByRecursion HasBytes back =
       AllByRecursion-behind HasBytes m.out back (AllByRecursion-behind HasBytes front (m.out ++ back) all) in
-      subst (AllByRecursion HasBytes) (sym m.part.is)
-      (AllByRecursion-append HasBytes front (m.in_place ++ back)
+      subst (AllByRecursion HasBytes) (sym m.part.is) (AllByRecursion-append HasBytes front (m.in_place ++ back)
       (AllByRecursion-front HasBytes front (m.out ++ back) all)
       (AllByRecursion-append HasBytes m.in_place back m.bytes behind))
 
   pub texts-changed : Denotes current new.bytes (changed d h.object (Texts qs u))
   texts-changed =
-      let o : Object = h.object in
-      let w : Value = Texts qs u in
+      let o : Object = h.object in let w : Value = Texts qs u in
       let stands : StandsAt old.bytes (handle o.extent) o = standing old.bytes d key o k h.is in
       let found : IsIn d o = key-found current d key o k.directory h.is in
       let kind : kind_of w ≡ kind_of o.value = sym (ap kind_of h.value) in
@@ -250,8 +238,7 @@ module _ {old new : Cut} {d : Directory} {key : Key} {p : Place} (k : Denotes cu
       let good : IsTrue (is_object current (with_value o w)) =
       good-with current o w stands.good kind (sym len) (good-texts new.bytes p qs u m.now.texts bytes-other) in
       let at : place_at p ≡ value_start o = sym (ap place_at h.at) ∙ sym (start-place o) in
-      denotes-container current old new d o w m.gone m.come k found
-      (part-exchange o h.texts qs m.out m.in_place h.table u m.gone m.come h.value m.part m.gone_is m.come_is) kind
-      (sym (ap count_of h.value)) len stands.good good
+      denotes-container current old new d o w m.gone m.come k found (part-exchange o h.texts qs m.out m.in_place h.table
+      u m.gone m.come h.value m.part m.gone_is m.come_is) kind (sym (ap count_of h.value)) len stands.good good
       (subst (λ n. IsExchanged current old new n 24 m.gone m.come) at m.now.change)
       (subst (λ n. IsTextsAt (bytes_of new.bytes) n qs u) at m.now.texts.words)

@@ -21,7 +21,7 @@ seen-found s t view key kind p = subst (λ (u : State). Answers u (λ d. contain
 
 -- where there is none, the call that would change it answers why
 pub not-changed : {R : Type 0} {s : State} {key : Key} {l k : Kind} {why : Refusal} (says : R → Answer) (c : Command)
-    (r : Result R Refusal)
-    → l ≡ k → IsErrAnd r (λ e. e ≡ why) → is_changing c ≡ true → IsNotToChange s key l why → IsStepOfKind s s key k c (answer_of says r)
-not-changed {s = s} {key = key} {why = why} says c r same is changing not =
-    rw (exit-is r why is) (subst (λ (kind : Kind). IsStepOfKind s s key kind c (Refused why)) same (not.refused c changing))
+    (r : Result R Refusal) → l ≡ k → IsErrAnd r (λ e. e ≡ why) → is_changing c ≡ true → IsNotToChange s key l why
+    → IsStepOfKind s s key k c (answer_of says r)
+not-changed {s = s} {key = key} {why = why} says c r same is changing not = rw (exit-is r why is)
+    (subst (λ (kind : Kind). IsStepOfKind s s key kind c (Refused why)) same (not.refused c changing))

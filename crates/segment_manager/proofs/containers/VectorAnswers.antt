@@ -1,27 +1,21 @@
 -- What the calls of seg_vector ensure of the vector at the place that was found, as the steps of the calls on the
 -- object's vector.
-use Rattle.segment_manager.proofs.containers.Safely.{pick-outside, pick-space, Answered, answered, done-so}
-use Rattle.segment_manager.proofs.Common.{◌++◌, ◌+◌, ◌-◌, ◌<◌, Bool, Err, IsTrue, List, None, Ok, Result, Some, [], ap}
-use Rattle.segment_manager.proofs.Common.{arith, false, get_or, inl, inr, length, map, pos, refl, slice_get, subst, sym}
-use Rattle.segment_manager.proofs.Common.{take, true, ℕ, ℤ, ◌∙◌, ◌∷◌, ◌≡◌, ◌≤◌, le-ltb, lt-ltb, length-map, map-append}
-use Rattle.segment_manager.proofs.Common.{take-map, slice_get-get_or, slice_get-map, slice_get_past, list_all, flat_map}
-use Rattle.segment_manager.proofs.Common.{insert, option_map, remove, slice_set, Cut, Table, literal_of}
-use Rattle.segment_manager.proofs.Common.{value_of_literal, same_kind, size_of, Key, Vector, ScalarKind, Refusal}
-use Rattle.segment_manager.proofs.Common.{NoSpace, OutOfRange, capacity_for_one, Assigns, IsOutside, IsSomeVector}
-use Rattle.segment_manager.proofs.Common.{IsVectorGrown, IsVectorNow, IsWithoutSpace, Place, Done, Element, Refused}
-use Rattle.segment_manager.proofs.Common.{container_at, Directory, Elements, Value, is_good_value, kind_of, live, Reply}
-use Rattle.segment_manager.proofs.Common.{perform, with_capacity, Answers, IsSegment, IsStepOfKind, State, answer_of}
-use Rattle.segment_manager.proofs.Common.{changed, effect, is_read_only, AnswersSafely, Answer, Command, done_answer}
-use Rattle.segment_manager.proofs.containers.ContentPlans.{assign-plan, erase-plan, get-plan, insert-plan, pop-plan}
-use Rattle.segment_manager.proofs.containers.ContentPlans.{push-plan}
-use Rattle.segment_manager.proofs.containers.ItemSteps.{HoldsItems, ListedGrown, ListedNow, Listing, changes-safely}
-use Rattle.segment_manager.proofs.containers.ItemSteps.{grows-safely, items-full, items-grown, items-now, items-refused}
-use Rattle.segment_manager.proofs.containers.ItemSteps.{items-stay, items-steps, so-too, some-items, vector-only}
-use Rattle.segment_manager.proofs.Whole.{IsOfKind, whole-insert, whole-reached, whole-remove, whole-set, whole-spelled}
-use Rattle.segment_manager.proofs.Whole.{whole-values}
-use Rattle.segment_manager.proofs.{containers.ContentPlans.set-plan, containers.Contained.contents-fit}
-use Rattle.segment_manager.proofs.{containers.ToChange.seen-found, Steps.open-reading, Steps.open-writing}
-use Rattle.segment_manager.proofs.{objects.Stored.literal-read, objects.Stored.literals-read}
+use Rattle.segment_manager.proofs as own
+use own.containers.Safely.{pick-outside, pick-space, Answered, answered, done-so}
+use own.Common.{◌++◌, slice_get, take-map, slice_set, same_kind, OutOfRange, IsOutside, Directory, IsSegment, answer_of}
+use own.Common.{◌+◌, length-map, map-append, option_map, literal_of, ScalarKind, IsVectorNow, is_read_only, done_answer}
+use own.Common.{◌-◌, ◌<◌, Err, [], ap, inl, inr, map, pos, sym, true, ◌∙◌, ◌∷◌, ◌≡◌, ◌≤◌, Cut, Key, Done, live}
+use own.Common.{Bool, IsTrue, Result, get_or, length, le-ltb, lt-ltb, insert, remove, Vector, Answers, changed, Command}
+use own.Common.{List, None, Some, arith, false, refl, subst, take, Table, Place, Value, Reply, State, effect, Answer}
+use own.Common.{Ok, slice_get-get_or, slice_get-map, slice_get_past, value_of_literal, capacity_for_one, IsWithoutSpace}
+use own.Common.{ℕ, IsSomeVector, IsVectorGrown, container_at, is_good_value, with_capacity, IsStepOfKind, AnswersSafely}
+use own.Common.{ℤ, list_all, flat_map, size_of, Refusal, NoSpace, Assigns, Element, Refused, Elements, kind_of, perform}
+use own.containers.ContentPlans.{assign-plan, erase-plan, get-plan, insert-plan, pop-plan, push-plan, set-plan}
+use own.containers.ItemSteps.{HoldsItems, ListedGrown, ListedNow, Listing, changes-safely, grows-safely, items-full}
+use own.containers.ItemSteps.{items-grown, items-now, items-refused, items-stay, items-steps, so-too, some-items}
+use own.Whole.{IsOfKind, whole-insert, whole-reached, whole-remove, whole-set, whole-spelled, whole-values}
+use own.{containers.ItemSteps.vector-only, containers.Contained.contents-fit, containers.ToChange.seen-found}
+use own.{Steps.open-reading, Steps.open-writing, objects.Stored.literal-read, objects.Stored.literals-read}
 use Rattle.seg_vector.specs.VectorCalls.{ErasesFrom, Gets, InsertsInto, IsVector, Pops, Pushes, Sets}
 use Rattle.seg_types.specs.Commands as asked
 
@@ -47,14 +41,12 @@ module _ {T : Type 0} {k : ScalarKind} {w : T → ℤ} {size : ℕ} {test : T �
     value = λ xs t. Elements k (map w xs) t;
     only = typed-only;
     of_kind = λ xs t. refl;
-    held = λ xs t. λ i. Some
-        (record {
-          each = sym law.long i;
-          len = length-map xs w i;
-          table = t;
-          bytes = sym
-              (whole-spelled k w size test sp law xs) i;
-        });
+    held = λ xs t. λ i. Some (record {
+      each = sym law.long i;
+      len = length-map xs w i;
+      table = t;
+      bytes = sym (whole-spelled k w size test sp law xs) i;
+    });
     values = λ xs t. sym (whole-values k w size test sp law xs);
   }
 
@@ -68,11 +60,9 @@ module _ {T : Type 0} {k : ScalarKind} {w : T → ℤ} {size : ℕ} {test : T �
 
   -- the place that was found, as the view before the call, the type and the vector name it
   module _ {s t : State} (view : s ≡ t) (key : Key) {l : ScalarKind} {q p : Place} (kinds : l ≡ k) (places : p ≡ q)
-      (b : IsSegment s.cut.bytes)
-      (there : Answers t (λ d. container_at d key (Vector l)) (Ok q)) where
+      (b : IsSegment s.cut.bytes) (there : Answers t (λ d. container_at d key (Vector l)) (Ok q)) where
     found : Answers s (λ d. container_at d key (Vector k)) (Ok p)
-    found =
-        subst (λ (r : Place). Answers s (λ d. container_at d key (Vector k)) (Ok r)) (sym places)
+    found = subst (λ (r : Place). Answers s (λ d. container_at d key (Vector k)) (Ok r)) (sym places)
         (subst (λ (m : ScalarKind). Answers s (λ d. container_at d key (Vector m)) (Ok q)) kinds
         (seen-found s t view key (Vector l) q there))
 
@@ -100,20 +90,14 @@ module _ {T : Type 0} {k : ScalarKind} {w : T → ℤ} {size : ℕ} {test : T �
 
     pub vector-got : (i : ℕ) (r : Result T Refusal) → Gets size test sp s.cut p i r
         → IsStepOfKind s s key (Vector k) (asked.Get key i) (answer_of (λ x. Element k (w x)) r)
-    vector-got i (Ok x) a =
-        items-stay typed s key p b found (asked.Get key i) (Element k (w x))
-        (open-reading s.mode (asked.Get key i) refl)
-        (λ d den h. ap (perform d (live d))
-        (get-plan d key h.object k (map w h.items) h.table h.is h.value i (Some (w x))
-        (slice_get-map w h.items i ∙ ap (option_map w) (a h.items h.table (vector d h)))))
-    vector-got i (Err e) a =
-        subst (λ (q : Refusal). IsStepOfKind s s key (Vector k) (asked.Get key i) (Refused q))
-        (sym (a some.items some.table (vector b.0 some)).refusal)
-        (items-stay typed s key p b found (asked.Get key i) (Refused OutOfRange)
-        (open-reading s.mode (asked.Get key i) refl)
-        (λ d den h. ap (perform d (live d))
-        (get-plan d key h.object k (map w h.items) h.table h.is h.value i None
-        (behind h.items i (a h.items h.table (vector d h)).outside))))
+    vector-got i (Ok x) a = items-stay typed s key p b found (asked.Get key i) (Element k (w x)) (open-reading s.mode
+        (asked.Get key i) refl) (λ d den h. ap (perform d (live d)) (get-plan d key h.object k (map w h.items) h.table
+        h.is h.value i (Some (w x)) (slice_get-map w h.items i ∙ ap (option_map w) (a h.items h.table (vector d h)))))
+    vector-got i (Err e) a = subst (λ (q : Refusal). IsStepOfKind s s key (Vector k) (asked.Get key i) (Refused q))
+        (sym (a some.items some.table (vector b.0 some)).refusal) (items-stay typed s key p b found (asked.Get key i)
+        (Refused OutOfRange) (open-reading s.mode (asked.Get key i) refl) (λ d den h. ap (perform d (live d))
+        (get-plan d key h.object k (map w h.items) h.table h.is h.value i None (behind h.items i (a h.items h.table
+        (vector d h)).outside))))
 
     module _ (new : Cut) (may : is_read_only t.mode ≡ false) where
       writing : is_read_only s.mode ≡ false
@@ -121,34 +105,27 @@ module _ {T : Type 0} {k : ScalarKind} {w : T → ℤ} {size : ℕ} {test : T �
 
       -- a call, as that view has it
       seen : {R : Type 0} {says : Result R Refusal → Answer} {c : Command} {r : Result R Refusal}
-          → AnswersSafely says s new key (Vector k) c r
-          → Answered says s t new key (Vector k) c r
+          → AnswersSafely says s new key (Vector k) c r → Answered says s t new key (Vector k) c r
       seen done = answered s t view b new key (Vector k) _ _ done
 
       as-literal : (x : T) → test x ≡ true → value_of_literal k (literal_of k (w x)) ≡ Ok (w x)
       as-literal x v = literal-read k (w x) (sym (law.values x) ∙ v)
 
-      pub vector-set : (i : ℕ) (x : T) (r : Result (Unit {0}) Refusal) → test x ≡ true
-          → Sets size test sp s.cut new p i x r
-          → Answered done_answer s t new key (Vector k) (asked.Set key i (literal_of k (w x))) r
-      vector-set i x r v a =
-          seen (changes-safely typed s key p b found new writing (asked.Set key i (literal_of k (w x))) i
-          (λ xs. slice_set xs i x) r
-          (λ d h in_range.
-          set-plan d key h.object k (map w h.items) h.table h.is h.value i (literal_of k (w x)) (w x)
-          (Some (get_or (map w h.items) i (pos 0))) (as-literal x v) (within h.items i in_range)
-          ∙ ap (λ zs. Reply Done (changed d h.object (Elements k zs h.table))) (sym (whole-set w h.items i x)))
-          (λ d h past. set-plan d key h.object k (map w h.items) h.table h.is h.value i (literal_of k (w x)) (w x) None
-          (as-literal x v) (behind h.items i past))
-          (λ d h. so-too _ _ _ r (a h.items h.table (vector d h)) (λ q. (q.0, now-so q.1))))
+      pub vector-set : (i : ℕ) (x : T) (r : Result (Unit {0}) Refusal) → test x ≡ true → Sets size test sp s.cut new p i
+          x r → Answered done_answer s t new key (Vector k) (asked.Set key i (literal_of k (w x))) r
+      vector-set i x r v a = seen (changes-safely typed s key p b found new writing (asked.Set key i (literal_of k
+          (w x))) i (λ xs. slice_set xs i x) r (λ d h in_range. set-plan d key h.object k (map w h.items) h.table h.is
+          h.value i (literal_of k (w x)) (w x) (Some (get_or (map w h.items) i (pos 0))) (as-literal x v)
+          (within h.items i in_range) ∙ ap (λ zs. Reply Done (changed d h.object (Elements k zs h.table)))
+          (sym (whole-set w h.items i x))) (λ d h past. set-plan d key h.object k (map w h.items) h.table h.is h.value i
+          (literal_of k (w x)) (w x) None (as-literal x v) (behind h.items i past)) (λ d h. so-too _ _ _ r
+          (a h.items h.table (vector d h)) (λ q. (q.0, now-so q.1))))
 
       pub vector-erased : (i : ℕ) (r : Result (Unit {0}) Refusal) → ErasesFrom size test sp s.cut new p i r
           → Answered done_answer s t new key (Vector k) (asked.Erase key i) r
-      vector-erased i r a =
-          seen (changes-safely typed s key p b found new writing (asked.Erase key i) i (λ xs. remove xs i) r
-          (λ d h in_range.
-          erase-plan d key h.object k (map w h.items) h.table h.is h.value i (Some (get_or (map w h.items) i (pos 0)))
-          (within h.items i in_range)
+      vector-erased i r a = seen (changes-safely typed s key p b found new writing (asked.Erase key i) i (λ xs. remove
+          xs i) r (λ d h in_range. erase-plan d key h.object k (map w h.items) h.table h.is h.value i
+          (Some (get_or (map w h.items) i (pos 0))) (within h.items i in_range)
           ∙ ap (λ zs. Reply Done (changed d h.object (Elements k zs h.table))) (sym (whole-remove w h.items i)))
           (λ d h past. erase-plan d key h.object k (map w h.items) h.table h.is h.value i None (behind h.items i past))
           (λ d h. so-too _ _ _ r (a h.items h.table (vector d h)) (λ q. (q.0, now-so q.1))))
@@ -156,63 +133,51 @@ module _ {T : Type 0} {k : ScalarKind} {w : T → ℤ} {size : ℕ} {test : T �
       -- ---- one more
 
       -- a plan for one more, in words of the values
-      one-more : (d : Directory) (h : Holds d) (zs : List ℤ) (ys : List T) → map w ys ≡ zs
-          → with_capacity (size_of k) (capacity_for_one (length (map w h.items)) h.table.capacity) h.table
-          (λ u. Reply Done (changed d h.object (Elements k zs u)))
-          ≡ with_capacity size (capacity_for_one (length h.items) h.table.capacity) h.table
+      one-more : (d : Directory) (h : Holds d) (zs : List ℤ) (ys : List T) → map w ys ≡ zs → with_capacity (size_of k)
+          (capacity_for_one (length (map w h.items)) h.table.capacity) h.table (λ u. Reply Done (changed d h.object
+          (Elements k zs u))) ≡ with_capacity size (capacity_for_one (length h.items) h.table.capacity) h.table
           (λ u. Reply Done (changed d h.object (Elements k (map w ys) u)))
-      one-more d h zs ys e =
-          λ i. with_capacity (sym law.long i) (capacity_for_one (length-map h.items w i) h.table.capacity) h.table
-          (λ u. Reply Done (changed d h.object (Elements k (sym e i) u)))
+      one-more d h zs ys e = λ i. with_capacity (sym law.long i) (capacity_for_one (length-map h.items w i)
+          h.table.capacity) h.table (λ u. Reply Done (changed d h.object (Elements k (sym e i) u)))
 
       pub vector-pushed : (x : T) (r : Result (Unit {0}) Refusal) → test x ≡ true → Pushes size test sp s.cut new p x r
           → Answered done_answer s t new key (Vector k) (asked.Push key (literal_of k (w x))) r
-      vector-pushed x r v a =
-          seen (grows-safely typed s key p b found new writing (asked.Push key (literal_of k (w x)))
-          (λ xs t. capacity_for_one (length xs) t.capacity) (λ xs. xs ++ x ∷ []) r
-          (λ d h.
-          push-plan d key h.object k (map w h.items) h.table h.is h.value (literal_of k (w x)) (Ok (w x))
-          (as-literal x v)
-          ∙ one-more d h (map w h.items ++ w x ∷ []) (h.items ++ x ∷ []) (map-append w h.items (x ∷ [])))
-          (λ d h. so-too _ _ _ r (a h.items h.table (vector d h)) (λ q. grown-so q)))
+      vector-pushed x r v a = seen (grows-safely typed s key p b found new writing (asked.Push key (literal_of k (w x)))
+          (λ xs t. capacity_for_one (length xs) t.capacity) (λ xs. xs ++ x ∷ []) r (λ d h. push-plan d key h.object k
+          (map w h.items) h.table h.is h.value (literal_of k (w x)) (Ok (w x)) (as-literal x v)
+          ∙ one-more d h (map w h.items ++ w x ∷ []) (h.items ++ x ∷ []) (map-append w h.items (x ∷ []))) (λ d h. so-too
+          _ _ _ r (a h.items h.table (vector d h)) (λ q. grown-so q)))
 
       insert-so : (i : ℕ) (x : T) → test x ≡ true → (d : Directory) (h : Holds d) → i ≤ length h.items
-          → effect d (asked.Insert key i (literal_of k (w x)))
-          ≡ with_capacity size (capacity_for_one (length h.items) h.table.capacity) h.table
-          (λ u. Reply Done (changed d h.object (Elements k (map w (insert h.items i x)) u)))
-      insert-so i x v d h in_range =
-          insert-plan d key h.object k (map w h.items) h.table h.is h.value i (literal_of k (w x)) (Ok (w x)) false
-          (as-literal x v)
+          → effect d (asked.Insert key i (literal_of k (w x))) ≡ with_capacity size (capacity_for_one (length h.items)
+          h.table.capacity) h.table (λ u. Reply Done (changed d h.object (Elements k (map w (insert h.items i x)) u)))
+      insert-so i x v d h in_range = insert-plan d key h.object k (map w h.items) h.table h.is h.value i
+          (literal_of k (w x)) (Ok (w x)) false (as-literal x v)
           (le-ltb (length (map w h.items)) i (subst (λ (n : ℕ). i ≤ n) (sym (length-map h.items w)) in_range))
           ∙ one-more d h (insert (map w h.items) i (w x)) (insert h.items i x) (whole-insert w h.items i x)
 
-      pub vector-inserted : (i : ℕ) (x : T) (r : Result (Unit {0}) Refusal) → test x ≡ true
-          → InsertsInto size test sp s.cut new p i x r
-          → Answered done_answer s t new key (Vector k) (asked.Insert key i (literal_of k (w x))) r
-      vector-inserted i x (Ok u) v a =
-          seen (done-so (items-steps typed s key p b found new (asked.Insert key i (literal_of k (w x))) Done writing
-          (λ d den h.
+      pub vector-inserted : (i : ℕ) (x : T) (r : Result (Unit {0}) Refusal) → test x ≡ true → InsertsInto size test sp
+          s.cut new p i x r → Answered done_answer s t new key (Vector k) (asked.Insert key i (literal_of k (w x))) r
+      vector-inserted i x (Ok u) v a = seen (done-so (items-steps typed s key p b found new (asked.Insert key i
+          (literal_of k (w x))) Done writing (λ d den h.
           let r = a h.items h.table (vector d h) in
-          items-grown s.cut new den h (insert h.items i x)
-          (capacity_for_one (length h.items) h.table.capacity) (asked.Insert key i (literal_of k (w x))) Done
-          (insert-so i x v d h r.0) (grown-so r.1))))
-      vector-inserted i x (Err e) v a =
-          seen (elim (a some.items some.table (vector b.0 some)) [
-            | inl o ↦ items-refused typed s key p b found new writing _ e OutOfRange o.refusal o.same (λ d den h.
-                let out : IsOutside s.cut new (length h.items + 1) i e =
-                pick-outside e (λ w. w.1.refusal) o.refusal (a h.items h.table (vector d h)) in
-                let past : length h.items < i = let f = out.outside in omega arith in
-                ap (perform d (live d))
-                (insert-plan d key h.object k (map w h.items) h.table h.is h.value i (literal_of k (w x))
-                (Ok (w x)) true (as-literal x v)
-                (lt-ltb (length (map w h.items)) i (subst (λ (n : ℕ). n < i) (sym (length-map h.items w)) past))))
-            | inr o ↦ items-refused typed s key p b found new writing _ e NoSpace o.1.refusal o.1.same (λ d den h.
-                let n : ℕ = capacity_for_one (length h.items) h.table.capacity in
-                let q : (i ≤ length h.items) × IsWithoutSpace s.cut new size n h.table e =
-                pick-space e (λ w. w.refusal) o.1.refusal (a h.items h.table (vector d h)) in
-                items-full typed s key p b found new writing (asked.Insert key i (literal_of k (w x))) n
-                (insert h.items i x) d den h (insert-so i x v d h q.0) q.1.none)
-          ])
+          items-grown s.cut new den h (insert h.items i x) (capacity_for_one (length h.items) h.table.capacity)
+          (asked.Insert key i (literal_of k (w x))) Done (insert-so i x v d h r.0) (grown-so r.1))))
+      vector-inserted i x (Err e) v a = seen (elim (a some.items some.table (vector b.0 some)) [
+        | inl o ↦ items-refused typed s key p b found new writing _ e OutOfRange o.refusal o.same (λ d den h.
+            let out : IsOutside s.cut new (length h.items + 1) i e =
+            pick-outside e (λ w. w.1.refusal) o.refusal (a h.items h.table (vector d h)) in
+            let past : length h.items < i = let f = out.outside in omega arith in
+            ap (perform d (live d)) (insert-plan d key h.object k (map w h.items) h.table h.is h.value i
+            (literal_of k (w x)) (Ok (w x)) true (as-literal x v) (lt-ltb (length (map w h.items)) i
+            (subst (λ (n : ℕ). n < i) (sym (length-map h.items w)) past))))
+        | inr o ↦ items-refused typed s key p b found new writing _ e NoSpace o.1.refusal o.1.same (λ d den h.
+            let n : ℕ = capacity_for_one (length h.items) h.table.capacity in
+            let q : (i ≤ length h.items) × IsWithoutSpace s.cut new size n h.table e =
+            pick-space e (λ w. w.refusal) o.1.refusal (a h.items h.table (vector d h)) in
+            items-full typed s key p b found new writing (asked.Insert key i (literal_of k (w x))) n
+            (insert h.items i x) d den h (insert-so i x v d h q.0) q.1.none)
+      ])
 
       -- ---- one less
 
@@ -223,37 +188,28 @@ module _ {T : Type 0} {k : ScalarKind} {w : T → ℤ} {size : ℕ} {test : T �
       pub vector-popped : (r : Result T Refusal) → Pops size test sp s.cut new p r
           → Answered (answer_of (λ x. Element k (w x))) s t new key (Vector k) (asked.Pop key) r
       vector-popped (Ok x) a = seen (record {
-        step = items-steps typed s key p b found new (asked.Pop key) (Element k (w x)) writing
-            (λ d den h.
+        step = items-steps typed s key p b found new (asked.Pop key) (Element k (w x)) writing (λ d den h.
             let r = a h.items h.table (vector d h) in
-            items-now s.cut new den h (take (length h.items - 1) h.items) h.table (asked.Pop key)
-            (Element k (w x))
+            items-now s.cut new den h (take (length h.items - 1) h.items) h.table (asked.Pop key) (Element k (w x))
             (pop-plan d key h.object k (map w h.items) h.table h.is h.value (Some (w x))
             (ap (λ (m : ℕ). slice_get (map w h.items) m) (last-at d h) ∙ slice_get-map w h.items (length h.items - 1)
-            ∙ ap (option_map w) r.0)
-            ∙ ap (λ zs. Reply (Element k (w x)) (changed d h.object (Elements k zs h.table)))
+            ∙ ap (option_map w) r.0) ∙ ap (λ zs. Reply (Element k (w x)) (changed d h.object (Elements k zs h.table)))
             (ap (λ (m : ℕ). take m (map w h.items)) (last-at d h)
             ∙ take-map w (length h.items - 1) h.items)) (now-so r.1));
         refused = tt;
       })
       vector-popped (Err e) a =
           let r = a some.items some.table (vector b.0 some) in
-          let stay : IsStepOfKind s s key (Vector k) (asked.Pop key) (Refused OutOfRange) =
-          items-stay typed s key p b found (asked.Pop key) (Refused OutOfRange)
-          (open-writing s.mode (asked.Pop key) writing)
-          (λ d den h.
+          let stay : IsStepOfKind s s key (Vector k) (asked.Pop key) (Refused OutOfRange) = items-stay typed s key p b
+          found (asked.Pop key) (Refused OutOfRange) (open-writing s.mode (asked.Pop key) writing) (λ d den h.
           let none : length h.items ≤ 0 = (a h.items h.table (vector d h)).outside in
           ap (perform d (live d)) (pop-plan d key h.object k (map w h.items) h.table h.is h.value None
           (ap (λ (m : ℕ). slice_get (map w h.items) m) (last-at d h)
           ∙ behind h.items (length h.items - 1) (omega arith)))) in
           seen (record {
-            step =
-                subst (λ (q : Refusal). IsStepOfKind s (record s { cut = new }) key (Vector k) (asked.Pop key)
-                (Refused q))
-                (sym r.refusal)
-                (subst
-                (λ (c : Cut). IsStepOfKind s (record s { cut = c }) key (Vector k) (asked.Pop key) (Refused OutOfRange))
-                (sym r.same) stay);
+            step = subst (λ (q : Refusal). IsStepOfKind s (record s { cut = new }) key (Vector k) (asked.Pop key)
+                (Refused q)) (sym r.refusal) (subst (λ (c : Cut). IsStepOfKind s (record s { cut = c }) key (Vector k)
+                (asked.Pop key) (Refused OutOfRange)) (sym r.same) stay);
             refused = r.same;
           })
 
@@ -262,13 +218,9 @@ module _ {T : Type 0} {k : ScalarKind} {w : T → ℤ} {size : ℕ} {test : T �
       pub vector-assigned : (ys : List T) (r : Result (Unit {0}) Refusal) → IsTrue (list_all test ys)
           → Assigns size test sp s.cut new p ys r
           → Answered done_answer s t new key (Vector k) (asked.Assign key (map (literal_of k) (map w ys))) r
-      vector-assigned ys r v a =
-          seen (grows-safely typed s key p b found new writing (asked.Assign key (map (literal_of k) (map w ys)))
-          (λ xs t. length ys) (λ xs. ys) r
-          (λ d h.
-          assign-plan d key h.object k (map w h.items) h.table h.is h.value (map (literal_of k) (map w ys)) (map w ys)
-          (literals-read k (map w ys) (sym (whole-values k w size test sp law ys) ∙ v))
-          ∙
-          (λ i. with_capacity (sym law.long i) (length-map ys w i) h.table
-          (λ u. Reply Done (changed d h.object (Elements k (map w ys) u)))))
-          (λ d h. so-too _ _ _ r (a h.items h.table (vector d h)) (λ q. grown-so q)))
+      vector-assigned ys r v a = seen (grows-safely typed s key p b found new writing (asked.Assign key
+          (map (literal_of k) (map w ys))) (λ xs t. length ys) (λ xs. ys) r (λ d h. assign-plan d key h.object k
+          (map w h.items) h.table h.is h.value (map (literal_of k) (map w ys)) (map w ys) (literals-read k (map w ys)
+          (sym (whole-values k w size test sp law ys) ∙ v)) ∙ (λ i. with_capacity (sym law.long i) (length-map ys w i)
+          h.table (λ u. Reply Done (changed d h.object (Elements k (map w ys) u))))) (λ d h. so-too _ _ _ r
+          (a h.items h.table (vector d h)) (λ q. grown-so q)))

@@ -9,24 +9,20 @@ use Rattle.segment_manager.proofs.Common.{code_of, same_kind, Index, Named, Uniq
 use Rattle.segment_manager.proofs.Common.{Object, Directory, IsDirectory, has_key, insert_by, is_class, kind_of}
 use Rattle.segment_manager.proofs.Common.{object_at, remove_object, rises_from, same_bytes, with_object, without_object}
 use Rattle.segment_manager.proofs.Common.{Denotes, handles, IsEntry, Seeks, class_of_index, entries_of, objects_of}
-use Rattle.segment_manager.proofs.Common.{order_of, table_of, by_name, by_kind}
 use Rattle.segment_manager.proofs.indexes.HeldIndexes.{IsSort, all-in, denotes-rises, directory-index, entries-in}
 use Rattle.segment_manager.proofs.indexes.HeldIndexes.{objects-ascend, order-strict}
 use Rattle.segment_manager.proofs.indexes.KeyOrder.{Says, code-of, kinds-apart, kinds-class, kinds-say, name-of}
-use Rattle.segment_manager.proofs.indexes.KeyOrder.{same-itself}
+use Rattle.segment_manager.proofs.indexes.KeyOrder.{same-itself, names-apart, names-class, names-say}
 use Rattle.segment_manager.proofs.indexes.EntryPlaces.{IsPlaceOf, all-at, all_of-ordered, ascends-at, at-all, at-handle}
 use Rattle.segment_manager.proofs.indexes.EntryPlaces.{insert-at, none-found, of-class, own-found, remove-at, stands-at}
-use Rattle.segment_manager.proofs.{Denoted.handles-length, Words.first, blocks.InUse.all-both, Live.IsIn}
-use Rattle.segment_manager.proofs.{objects.ObjectLists.all-found, objects.ObjectLists.rises-rest}
-use Rattle.segment_manager.proofs.{objects.Ranks.IsRanked, objects.Ranks.all-ordered, objects.RankedPairs.found-filter}
-use Rattle.segment_manager.proofs.{objects.RankedPairs.ordered-pairwise, Faces.ordered-without}
-use Rattle.segment_manager.proofs.{indexes.Indexes.index-parts, indexes.Indexes.named-more, indexes.Indexes.rises-above}
-use Rattle.segment_manager.proofs.{indexes.Indexes.unique-more, indexes.Indexes.one-removed}
-use Rattle.segment_manager.proofs.{indexes.Indexes.by_name-strict, indexes.Indexes.by_kind-strict}
-use Rattle.segment_manager.proofs.{indexes.KeyOrder.names-apart, indexes.KeyOrder.names-class}
-use Rattle.segment_manager.proofs.{indexes.KeyOrder.names-say}
-use Rattle.seg_index.specs.declared.keys.Key.{Key}
-use Rattle.seg_index.specs.Lookups.{order}
+use Rattle.segment_manager.proofs.objects.RankedPairs.{found-filter, ordered-pairwise}
+use Rattle.segment_manager.proofs.indexes.Indexes.{index-parts, named-more, rises-above, unique-more, one-removed}
+use Rattle.segment_manager.proofs.{Common.order_of, objects.ObjectLists.rises-rest, indexes.Indexes.by_name-strict}
+use Rattle.segment_manager.proofs.{Common.table_of, Common.by_name, Common.by_kind, Faces.ordered-without}
+use Rattle.raw_region.proofs.Facts.{first}
+use Rattle.segment_manager.proofs.{Denoted.handles-length, Live.IsIn, objects.Ranks.IsRanked, objects.Ranks.all-ordered}
+use Rattle.segment_manager.proofs.{blocks.InUse.all-both, objects.ObjectLists.all-found, indexes.Indexes.by_kind-strict}
+use Rattle.seg_index.specs.{declared.keys.Key.Key, Lookups.order}
 use Rattle.seg_types.specs.Names as names
 
 -- what a place among the entries means: the object of the key, which that entry leads to
@@ -61,29 +57,25 @@ sought-key i e key q = absurd q
 
 says-of : (i : Index) {m : Memory} (e : Key) (key : names.Key) {o : Object} → Seeks i e key → IsEntry m o
     → is_class (class_of_index i) o ≡ true → Says (order_of i) (has_key key) o (order m e (handle o.extent))
-says-of Named (Name s) (names.ByName name) {o} q a c =
-    subst (Says (order_of Named) (has_key (names.ByName name)) o) (λ j. slice_cmp nat_cmp (sym a.name j) (sym q j))
-    (names-say name o c)
-says-of Unique (Code n) (names.ByKind k) {o} q a c =
-    subst (Says (order_of Unique) (has_key (names.ByKind k)) o) (λ j. nat_cmp (sym a.code j) (sym q j))
-    (kinds-say k o c)
+says-of Named (Name s) (names.ByName name) {o} q a c = subst (Says (order_of Named) (has_key (names.ByName name)) o)
+    (λ j. slice_cmp nat_cmp (sym a.name j) (sym q j)) (names-say name o c)
+says-of Unique (Code n) (names.ByKind k) {o} q a c = subst (Says (order_of Unique) (has_key (names.ByKind k)) o)
+    (λ j. nat_cmp (sym a.code j) (sym q j)) (kinds-say k o c)
 says-of i e key q a c = absurd q
 
 -- ---- what is known of each entry
 
 in-class : (i : Index) (d : Directory) → AllByRecursion (λ o. is_class (class_of_index i) o ≡ true) (objects_of i d)
-in-class i d =
-    all-ordered (λ o. is_class (class_of_index i) o ≡ true) (class_of_index i) (order_of i) d.objects
+in-class i d = all-ordered (λ o. is_class (class_of_index i) o ≡ true) (class_of_index i) (order_of i) d.objects
     (of-class (class_of_index i) d.objects)
 
 -- one that has the key is the object of the key
 in-found : {format : ℕ} {i : Index} {d : Directory} {key : names.Key} → IsDirectory format d → IsKeyIn i key
     → AllByRecursion (λ o. has_key key o ≡ true → object_at d key ≡ Some o) (objects_of i d)
-in-found {i} {d} {key} h k =
-    all-ordered (λ o. has_key key o ≡ true → object_at d key ≡ Some o) (class_of_index i) (order_of i) d.objects
-    (own-found (has_key key) (order_of i) (class_of_index i) k.other k.apart d.objects
-    (ordered-pairwise (class_of_index i) (order_of i) (order-strict i) d.objects
-    (index-parts (table_of i d) (objects_of i d) (order_of i) (directory-index i h)).2))
+in-found {i} {d} {key} h k = all-ordered (λ o. has_key key o ≡ true → object_at d key ≡ Some o) (class_of_index i)
+    (order_of i) d.objects (own-found (has_key key) (order_of i) (class_of_index i) k.other k.apart d.objects
+    (ordered-pairwise (class_of_index i) (order_of i) (order-strict i) d.objects (index-parts (table_of i d)
+    (objects_of i d) (order_of i) (directory-index i h)).2))
 
 -- each is found by its handle
 pub each-by_handle : (n : ℕ) (os : List Object) → IsTrue (rises_from n os)
@@ -103,16 +95,14 @@ each-by_handle n (p ∷ ps) h = (
 
 pub in-handles : {format : ℕ} (i : Index) {d : Directory} → IsDirectory format d
     → AllByRecursion (λ (o : Object). object_at d (names.ByHandle (handle o.extent)) ≡ Some o) (objects_of i d)
-in-handles i {d} h =
-    all-in (λ (o : Object). object_at d (names.ByHandle (handle o.extent)) ≡ Some o) i d
+in-handles i {d} h = all-in (λ (o : Object). object_at d (names.ByHandle (handle o.extent)) ≡ Some o) i d
     (each-by_handle 0 d.objects h.by_offset)
 
 -- the object of a key is found by its handle too
 pub by-handle : {format : ℕ} {d : Directory} (key : names.Key) {o : Object} → IsDirectory format d
     → object_at d key ≡ Some o → object_at d (names.ByHandle (handle o.extent)) ≡ Some o
-by-handle {d} key {o} h e =
-    all-found (λ (p : Object). object_at d (names.ByHandle (handle p.extent)) ≡ Some p) (has_key key) d.objects o
-    (each-by_handle 0 d.objects h.by_offset) e
+by-handle {d} key {o} h e = all-found (λ (p : Object). object_at d (names.ByHandle (handle p.extent)) ≡ Some p)
+    (has_key key) d.objects o (each-by_handle 0 d.objects h.by_offset) e
 
 -- ---- what a look-up means
 
@@ -126,8 +116,7 @@ module _ (i : Index) (c : Cut) {d : Directory} (e : Key) (key : names.Key) (k : 
     (q : Seeks i e key) where
   says-at : (j : ℕ) {o : Object} → slice_get (objects_of i d) j ≡ Some o
       → Says (order_of i) (has_key key) o (order (bytes_of c.bytes) e (handle o.extent))
-  says-at j f =
-      says-of i e key q (all-at (IsEntry (bytes_of c.bytes)) (objects_of i d) j (entries-in i c k) f)
+  says-at j f = says-of i e key q (all-at (IsEntry (bytes_of c.bytes)) (objects_of i d) j (entries-in i c k) f)
       (all-at (λ p. is_class (class_of_index i) p ≡ true) (objects_of i d) j (in-class i d) f)
 
   -- the entry of the key
@@ -145,12 +134,10 @@ module _ (i : Index) (c : Cut) {d : Directory} (e : Key) (key : names.Key) (k : 
 
   absent-one : (at j : ℕ) {o : Object} → IsPlace (bytes_of c.bytes) e (entries_of i d) (Absent at)
       → slice_get (objects_of i d) j ≡ Some o → (j < at) ⊎ (at ≤ j) → has_key key o ≡ false
-  absent-one at j {o} p f (inl l) =
-      (says-at j f).less ((p.1 (denotes-rises i c e k (sought-rises i e key q)) j (handle o.extent)
-      (at-handle (objects_of i d) j f)).0 l)
-  absent-one at j {o} p f (inr l) =
-      (says-at j f).greater ((p.1 (denotes-rises i c e k (sought-rises i e key q)) j (handle o.extent)
-      (at-handle (objects_of i d) j f)).1 l)
+  absent-one at j {o} p f (inl l) = (says-at j f).less ((p.1 (denotes-rises i c e k (sought-rises i e key q)) j
+      (handle o.extent) (at-handle (objects_of i d) j f)).0 l)
+  absent-one at j {o} p f (inr l) = (says-at j f).greater
+      ((p.1 (denotes-rises i c e k (sought-rises i e key q)) j (handle o.extent) (at-handle (objects_of i d) j f)).1 l)
 
   -- no entry has the key, and no object
   pub lookup-absent : {at : ℕ} → IsPlace (bytes_of c.bytes) e (entries_of i d) (Absent at) → IsNoEntryFor i d key at
@@ -177,13 +164,11 @@ place-of i c {d} e key at o k q p h j r f =
 objects-more : (i : Index) (d : Directory) (e : Key) (key : names.Key) (o : Object) → Seeks i e key
     → has_key key o ≡ true → object_at d key ≡ None
     → objects_of i (with_object d o) ≡ insert_by (order_of i) o (objects_of i d)
-objects-more Named d (Name s) (names.ByName name) o q h n =
-    named-more d o (first (is_class NamedClass o) (same_bytes name o.name) h)
-    (subst (λ bs. object_at d (names.ByName bs) ≡ None) (name-of o h) n)
-objects-more Unique d (Code x) (names.ByKind k) o q h n =
-    unique-more d o (first (is_class UniqueClass o) (same_kind k (kind_of o.value)) h)
-    (subst (λ code. find (λ (p : Object). is_class UniqueClass p && (code == code_of (kind_of p.value)))
-    d.objects ≡ None) (code-of k o h) n)
+objects-more Named d (Name s) (names.ByName name) o q h n = named-more d o (first (is_class NamedClass o)
+    (same_bytes name o.name) h) (subst (λ bs. object_at d (names.ByName bs) ≡ None) (name-of o h) n)
+objects-more Unique d (Code x) (names.ByKind k) o q h n = unique-more d o (first (is_class UniqueClass o)
+    (same_kind k (kind_of o.value)) h) (subst (λ code. find (λ (p : Object). is_class UniqueClass p && (code == code_of
+    (kind_of p.value))) d.objects ≡ None) (code-of k o h) n)
 objects-more i d e key o q h n = absurd q
 
 -- an object with the key comes in at the place that the look-up answers
@@ -231,9 +216,8 @@ entry-removed i {d} at {o} h e =
     (all-at (λ p. is_class (class_of_index i) p ≡ true) (objects_of i d) at (in-class i d) e)))
 
 -- an object of another class goes without an entry
-pub no-entry-removed : (i : Index) (d : Directory) {o : Object}
-    → object_at d (names.ByHandle (handle o.extent)) ≡ Some o → is_class (class_of_index i) o ≡ false
-    → entries_of i (without_object d o) ≡ entries_of i d
+pub no-entry-removed : (i : Index) (d : Directory) {o : Object} → object_at d (names.ByHandle (handle o.extent)) ≡ Some
+    o → is_class (class_of_index i) o ≡ false → entries_of i (without_object d o) ≡ entries_of i d
 no-entry-removed Named d {o} f e = ap handles (ordered-without NamedClass by_name d o (record { is = f }) e)
 no-entry-removed Unique d {o} f e = ap handles (ordered-without UniqueClass by_kind d o (record { is = f }) e)
 
@@ -242,23 +226,20 @@ no-entry-removed Unique d {o} f e = ap handles (ordered-without UniqueClass by_k
 own-key : {format : ℕ} {i : Index} {d : Directory} {key : names.Key} {o : Object} → IsDirectory format d → IsKeyIn i key
     → object_at d (names.ByHandle (handle o.extent)) ≡ Some o → is_class (class_of_index i) o ≡ true
     → has_key key o ≡ true → object_at d key ≡ Some o
-own-key {i} {d} {key} {o} h k f c t =
-    found-filter (λ r. has_key key r ≡ true → object_at d key ≡ Some r) (class_of_index i) (handle o.extent) d.objects o
-    (record { is = f }) c (own-found (has_key key) (order_of i) (class_of_index i) k.other k.apart d.objects
-    (ordered-pairwise (class_of_index i) (order_of i) (order-strict i) d.objects
-    (index-parts (table_of i d) (objects_of i d) (order_of i) (directory-index i h)).2)) t
+own-key {i} {d} {key} {o} h k f c t = found-filter (λ r. has_key key r ≡ true → object_at d key ≡ Some r)
+    (class_of_index i) (handle o.extent) d.objects o (record { is = f }) c (own-found (has_key key) (order_of i)
+    (class_of_index i) k.other k.apart d.objects (ordered-pairwise (class_of_index i) (order_of i) (order-strict i)
+    d.objects (index-parts (table_of i d) (objects_of i d) (order_of i) (directory-index i h)).2)) t
 
 module _ {format : ℕ} {d : Directory} {o : Object} (h : IsDirectory format d)
     (f : object_at d (names.ByHandle (handle o.extent)) ≡ Some o) where
   -- a named object is the one of its name
   pub own-name : is_class NamedClass o ≡ true → object_at d (names.ByName o.name) ≡ Some o
-  own-name c =
-      own-key h (name-key o.name) f c
+  own-name c = own-key h (name-key o.name) f c
       (and_from (is_class NamedClass o) (same_bytes o.name o.name) c (same-itself o.name))
 
   -- a unique object is the one of its kind
   pub own-kind : is_class UniqueClass o ≡ true → object_at d (names.ByKind (kind_of o.value)) ≡ Some o
-  own-kind c =
-      own-key h (kind-of-key (kind_of o.value)) f c
+  own-kind c = own-key h (kind-of-key (kind_of o.value)) f c
       (and_from (is_class UniqueClass o) (same_kind (kind_of o.value) (kind_of o.value)) c
       (eq-eqb (code_of (kind_of o.value)) (code_of (kind_of o.value)) refl))

@@ -7,10 +7,9 @@ use Rattle.segment_manager.proofs.Common.{is_class, is_index, kind_of, live, obj
 use Rattle.segment_manager.proofs.Common.{handles, class_of_index, entries_of, objects_of, order_of, table_of}
 use Rattle.segment_manager.proofs.Common.{with_table_of, by_name, by_kind, NamedClass, UniqueClass}
 use Rattle.segment_manager.proofs.indexes.Indexes.{named-more, unique-more, ordered-more, new-name, new-kind}
-use Rattle.segment_manager.proofs.indexes.Indexes.{by_name-strict}
-use Rattle.segment_manager.proofs.{Denoted.HasIndexes, Denoted.handles-length, Denoted.index-stays, Live.of_each}
-use Rattle.segment_manager.proofs.{objects.RankedPairs.insert_by-length, Faces.ordered-with}
-use Rattle.segment_manager.proofs.{indexes.Indexes.by_kind-strict}
+use Rattle.segment_manager.proofs.indexes.Indexes.{by_name-strict, by_kind-strict}
+use Rattle.segment_manager.proofs.Denoted.{HasIndexes, handles-length, index-stays}
+use Rattle.segment_manager.proofs.{Live.of_each, objects.RankedPairs.insert_by-length, Faces.ordered-with}
 use Rattle.seg_index.specs.declared.index.Index.TheVariants as index
 
 -- ---- one of the two, and the other

@@ -19,11 +19,10 @@ removes-entry {d} {o} is f = record {
 
 keeps-entries : {d : Directory} (o : Object) {p : Object} → IsFound (handle p.extent) d.objects o → IsLike o p
     → KeepsEntries d p
-keeps-entries {d} o {p} f like =
-    record {
-      named = (ordered-changed Named by_name by_name-face d o p f like).entries;
-      unique = (ordered-changed Unique by_kind by_kind-face d o p f like).entries;
-    }
+keeps-entries {d} o {p} f like = record {
+  named = (ordered-changed Named by_name by_name-face d o p f like).entries;
+  unique = (ordered-changed Unique by_kind by_kind-face d o p f like).entries;
+}
 
 pub follows : IndexesFollowObjects
 follows = record {

@@ -1,14 +1,12 @@
 -- Objects in order and their places: which stands where, which one has a key, and where one is put in or taken out.
-use Rattle.segment_manager.proofs.Common.{◌≡◌, refl, sym, ap, subst, ◌∙◌, ℕ, zero, suc, ◌+◌, ◌<◌, ◌≤◌, ◌≢◌, Bool, true}
-use Rattle.segment_manager.proofs.Common.{false, Some, None, List, [], ◌∷◌, length, arith, cond, IsTrue, filter, find}
-use Rattle.segment_manager.proofs.Common.{fold, insert, remove, slice_get, AllByRecursion, cond-true, cond-false}
-use Rattle.segment_manager.proofs.Common.{none-some, same_Some, handle, Class, Object, insert_by, is_class}
-use Rattle.segment_manager.proofs.Common.{remove_object, rises, handles}
-use Rattle.segment_manager.proofs.{Words.first, Words.second, Live.remove-here, Live.remove-behind}
-use Rattle.segment_manager.proofs.{objects.Ranks.IsRanked, objects.Ranks.IsStrict, objects.RankedPairs.Pairwise}
-use Rattle.segment_manager.proofs.{objects.Ranks.all_of-insert_by, objects.Ranks.insert_by-behind}
-use Rattle.segment_manager.proofs.{objects.Ranks.insert_by-front, objects.Ranks.ranked-sym, blocks.InUse.all-both}
-use Rattle.segment_manager.proofs.{blocks.InUse.all-each}
+use Rattle.segment_manager.proofs as own
+use own.Common.{◌≡◌, refl, sym, ap, subst, ◌∙◌, ℕ, zero, suc, ◌+◌, ◌<◌, ◌≤◌, ◌≢◌, Bool, true, false, Some, None, List}
+use own.Common.{[], ◌∷◌, length, arith, cond, IsTrue, filter, find, fold, insert, remove, slice_get, AllByRecursion}
+use own.Common.{cond-true, cond-false, none-some, same_Some, handle, Class, Object, insert_by, is_class, remove_object}
+use own.objects.Ranks.{IsRanked, IsStrict, all_of-insert_by, insert_by-behind, insert_by-front, ranked-sym}
+use own.{Common.rises, Common.handles, Live.remove-here, Live.remove-behind}
+use Rattle.raw_region.proofs.Facts.{first, second}
+use own.{objects.RankedPairs.Pairwise, blocks.InUse.all-both, blocks.InUse.all-each}
 
 -- ---- which stands at a place
 
@@ -91,8 +89,7 @@ module _ (t : Object → Bool) (lt : Object → Object → Bool) (c : Class)
     all-both (IsRanked lt p) (IsFoundIn ps) (IsFoundIn (p ∷ ps))
         (λ o r k h. cond-false (t p) (Some p) (find t ps) (apart o p (ranked-sym lt p o r) h) ∙ k h) fs w.0 ih,
   )
-  own-if apart p ps fs false e ih w =
-      all-each (IsFoundIn ps) (IsFoundIn (p ∷ ps))
+  own-if apart p ps fs false e ih w = all-each (IsFoundIn ps) (IsFoundIn (p ∷ ps))
       (λ o k h. cond-false (t p) (Some p) (find t ps) (other p e) ∙ k h) fs ih
 
   rest-if : (p : Object) (fs : List Object) (b : Bool) → Pairwise lt (cond b (p ∷ fs) fs) → Pairwise lt fs
@@ -102,13 +99,11 @@ module _ (t : Object → Bool) (lt : Object → Object → Bool) (c : Class)
   pub own-found : ((o p : Object) → IsRanked lt o p → t o ≡ true → t p ≡ false) → (os : List Object)
       → Pairwise lt (filter (is_class c) os) → AllByRecursion (IsFoundIn os) (filter (is_class c) os)
   own-found apart [] w = tt
-  own-found apart (p ∷ ps) w =
-      own-if apart p ps (filter (is_class c) ps) (is_class c p) refl
+  own-found apart (p ∷ ps) w = own-if apart p ps (filter (is_class c) ps) (is_class c p) refl
       (own-found apart ps (rest-if p (filter (is_class c) ps) (is_class c p) w)) w
 
-  none-if : (p : Object) (ps fs : List Object) (b : Bool) → is_class c p ≡ b
-      → (AllByRecursion (λ o. t o ≡ false) fs → find t ps ≡ None)
-      → AllByRecursion (λ o. t o ≡ false) (cond b (p ∷ fs) fs) → find t (p ∷ ps) ≡ None
+  none-if : (p : Object) (ps fs : List Object) (b : Bool) → is_class c p ≡ b → (AllByRecursion (λ o. t o ≡ false) fs
+      → find t ps ≡ None) → AllByRecursion (λ o. t o ≡ false) (cond b (p ∷ fs) fs) → find t (p ∷ ps) ≡ None
   none-if p ps fs true e k a = cond-false (t p) (Some p) (find t ps) a.0 ∙ k a.1
   none-if p ps fs false e k a = cond-false (t p) (Some p) (find t ps) (other p e) ∙ k a
 
@@ -147,8 +142,7 @@ pub insert-at : (lt : Object → Object → Bool) (o : Object) (os : List Object
 insert-at lt o [] zero l k = refl
 insert-at lt o [] (suc i) l k = absurd (omega (arith, l))
 insert-at lt o (p ∷ ps) zero l k = sym (ap handles (insert_by-front lt o p ps ((k 0 p refl).1 (omega arith))))
-insert-at lt o (p ∷ ps) (suc i) l k =
-    ap (λ hs. handle p.extent ∷ hs) (insert-at lt o ps i (omega (arith, l))
+insert-at lt o (p ∷ ps) (suc i) l k = ap (λ hs. handle p.extent ∷ hs) (insert-at lt o ps i (omega (arith, l))
     (λ j q e. ((λ f. (k (suc j) q e).0 (omega (arith, f))), (λ f. (k (suc j) q e).1 (omega (arith, f))))))
     ∙ sym (ap handles (insert_by-behind lt o p ps ((k 0 p refl).0 (omega arith))))
 
@@ -158,6 +152,5 @@ pub remove-at : {o : Object} (os : List Object) (i : ℕ) → slice_get os i ≡
 remove-at {o} [] i e k = absurd (none-some o e)
 remove-at {o} (p ∷ ps) zero e k =
     sym (ap handles (remove-here (handle o.extent) p ps (ap (λ (q : Object). handle q.extent) (sym (same_Some p o e)))))
-remove-at {o} (p ∷ ps) (suc i) e k =
-    ap (λ hs. handle p.extent ∷ hs) (remove-at ps i e (λ j q l f. k (suc j) q (omega (arith, l)) f))
-    ∙ sym (ap handles (remove-behind (handle o.extent) p ps (k 0 p (omega arith) refl)))
+remove-at {o} (p ∷ ps) (suc i) e k = ap (λ hs. handle p.extent ∷ hs) (remove-at ps i e (λ j q l f. k (suc j) q
+    (omega (arith, l)) f)) ∙ sym (ap handles (remove-behind (handle o.extent) p ps (k 0 p (omega arith) refl)))

@@ -1,23 +1,19 @@
 -- Bytes that denote a directory hold its two indexes: each stands in its heap with its block, and its entries lead to
 -- rising keys.
-use Rattle.segment_manager.proofs.Common.{◌≡◌, sym, subst, ◌∙◌, ℕ, ◌+◌, ◌≤◌, ◌%◌, true, Some, List, [], ◌∷◌, length}
-use Rattle.segment_manager.proofs.Common.{arith, Less, IsTrue, IfSome, AllByRecursion, nat_cmp, slice_cmp, le-leb}
-use Rattle.segment_manager.proofs.Common.{current, Cut, Memory, bytes_of, handle, extent_at, has_room, Index, Named}
-use Rattle.segment_manager.proofs.Common.{Unique, Name, Code, IsIndexOf, place_of, IsIndexAt, name_len_at, HasKeys}
-use Rattle.segment_manager.proofs.Common.{Object, Directory, IsDirectory, is_class, is_index, is_object, live, Denotes}
-use Rattle.segment_manager.proofs.Common.{IsObjectAt, handles, IsEntry, class_of_index, entries_of, objects_of}
-use Rattle.segment_manager.proofs.Common.{order_of, table_of}
-use Rattle.seg_index.specs.declared.keys.Key.{Key}
-use Rattle.seg_index.specs.Lookups.{HasKey, Rises, key_end, order_of_two}
-use Rattle.segment_manager.proofs.{Words.AllByRecursion-filter, Denoted.handles-length, Calling.denotes-heap}
-use Rattle.segment_manager.proofs.{Calling.denotes-live, Frame.object-roomy, indexes.KeyOrder.kind-less}
-use Rattle.segment_manager.proofs.{indexes.KeyOrder.name-less, objects.ObjectLists.each-true}
-use Rattle.segment_manager.proofs.{indexes.Indexes.by_kind-strict, indexes.Indexes.by_name-strict}
-use Rattle.segment_manager.proofs.{indexes.Indexes.index-parts, objects.Ranks.IsStrict, objects.Ranks.all-ordered}
-use Rattle.segment_manager.proofs.objects.Heads.{entries_say_objects, entry-name_len, good-name, good_name-short}
-use Rattle.segment_manager.proofs.blocks.InUse.{IsInUse, all-both, all-each, named-in_use, objects-in_use}
-use Rattle.segment_manager.proofs.blocks.InUse.{unique-in_use}
-use Rattle.segment_manager.proofs.indexes.EntryPlaces.{Ascends, all-at, ascends-at, rises-ascends, stands-at}
+use Rattle.segment_manager.proofs as own
+use own.Common.{◌≡◌, sym, subst, ◌∙◌, ℕ, ◌+◌, ◌≤◌, ◌%◌, true, Some, List, [], ◌∷◌, length, arith, Less, IsTrue, IfSome}
+use own.Common.{AllByRecursion, nat_cmp, slice_cmp, le-leb, current, Cut, Memory, bytes_of, handle, extent_at, has_room}
+use own.Common.{Index, Named, Unique, Name, Code, IsIndexOf, place_of, IsIndexAt, name_len_at, HasKeys, Object}
+use own.Common.{Directory, IsDirectory, is_class, is_index, is_object, live, Denotes, IsObjectAt, handles, IsEntry}
+use own.Common.{class_of_index, entries_of, objects_of, order_of, table_of}
+use own.objects.Heads.{entries_say_objects, entry-name_len, good-name, good_name-short}
+use own.blocks.InUse.{IsInUse, all-both, all-each, named-in_use, objects-in_use, unique-in_use}
+use own.indexes.EntryPlaces.{Ascends, all-at, ascends-at, rises-ascends, stands-at}
+use own.{indexes.KeyOrder.kind-less, indexes.KeyOrder.name-less, indexes.Indexes.index-parts, objects.Ranks.all-ordered}
+use own.{indexes.Indexes.by_kind-strict, indexes.Indexes.by_name-strict, objects.ObjectLists.each-true}
+use own.{Denoted.handles-length, Calling.denotes-heap, Calling.denotes-live, Frame.object-roomy, objects.Ranks.IsStrict}
+use Rattle.raw_region.proofs.Facts.{AllByRecursion-filter}
+use Rattle.seg_index.specs.{declared.keys.Key.Key, Lookups.HasKey, Lookups.Rises, Lookups.key_end, Lookups.order_of_two}
 
 -- ---- an index of a directory
 
@@ -33,8 +29,7 @@ directory-index Unique h = h.unique
 -- what holds of each object holds of each in an index
 pub all-in : (P : Object → Type 0) (i : Index) (d : Directory) → AllByRecursion P d.objects
     → AllByRecursion P (objects_of i d)
-all-in P i d a =
-    all-ordered P (class_of_index i) (order_of i) d.objects
+all-in P i d a = all-ordered P (class_of_index i) (order_of i) d.objects
     (AllByRecursion-filter P (is_class (class_of_index i)) d.objects a)
 
 -- ---- what the bytes hold
@@ -46,12 +41,11 @@ all-handles P (o ∷ os) a = (a.0, all-handles P os a.1)
 
 pub entries-few : {format : ℕ} (i : Index) {d : Directory} → IsDirectory format d
     → length (entries_of i d) ≤ (table_of i d).capacity
-entries-few i {d} h =
-    omega (
-      arith,
-      handles-length (objects_of i d),
-      (index-parts (table_of i d) (objects_of i d) (order_of i) (directory-index i h)).1,
-    )
+entries-few i {d} h = omega (
+  arith,
+  handles-length (objects_of i d),
+  (index-parts (table_of i d) (objects_of i d) (order_of i) (directory-index i h)).1,
+)
 
 in_use-some : (i : Index) {d : Directory} {format : ℕ} → IsDirectory format d
     → IfSome (table_of i d).extent (λ x. extent_at (live d) (handle x) ≡ Some x)
@@ -87,12 +81,10 @@ record IsKnown (c : Cut) (d : Directory) (o : Object) : Type 0 where
   at : IsObjectAt (bytes_of c.bytes) o
 
 all-known : (c : Cut) {d : Directory} → Denotes current c.bytes d → AllByRecursion (IsKnown c d) d.objects
-all-known c {d} k =
-    all-both (λ (o : Object). IsInUse (live d) o.extent)
-    (λ (o : Object). IsTrue (is_object current o) × IsObjectAt (bytes_of c.bytes) o) (IsKnown c d)
-    (λ o u g. record { live_block = u; good = g.0; at = g.1 }) d.objects (objects-in_use d k.directory.proper)
-    (all-both (λ o. IsTrue (is_object current o)) (IsObjectAt (bytes_of c.bytes))
-    (λ (o : Object). IsTrue (is_object current o) × IsObjectAt (bytes_of c.bytes) o)
+all-known c {d} k = all-both (λ (o : Object). IsInUse (live d) o.extent) (λ (o : Object). IsTrue (is_object current o)
+    × IsObjectAt (bytes_of c.bytes) o) (IsKnown c d) (λ o u g. record { live_block = u; good = g.0; at = g.1 })
+    d.objects (objects-in_use d k.directory.proper) (all-both (λ o. IsTrue (is_object current o))
+    (IsObjectAt (bytes_of c.bytes)) (λ (o : Object). IsTrue (is_object current o) × IsObjectAt (bytes_of c.bytes) o)
     (λ o g a. (g, a)) d.objects (each-true (is_object current) d.objects k.directory.objects) k.objects)
 
 key-room : {c : Cut} {d : Directory} (e : Key) {o : Object} → IsKnown c d o
@@ -130,8 +122,7 @@ entries-in i c {d} k = all-in (IsEntry (bytes_of c.bytes)) i d (entries_say_obje
 
 pub objects-ascend : {format : ℕ} (i : Index) {d : Directory} → IsDirectory format d
     → Ascends (λ o p. order_of i o p ≡ true) (objects_of i d)
-objects-ascend i {d} h =
-    rises-ascends (order_of i) (order-strict i) (objects_of i d)
+objects-ascend i {d} h = rises-ascends (order_of i) (order-strict i) (objects_of i d)
     (index-parts (table_of i d) (objects_of i d) (order_of i) (directory-index i h)).2
 
 -- what is looked up in an index: names in one, codes in the other
@@ -150,12 +141,9 @@ pub denotes-rises : (i : Index) (c : Cut) {d : Directory} (e : Key) → Denotes 
     → Rises (bytes_of c.bytes) e (entries_of i d)
 denotes-rises i c {d} e k q = record {
   each = λ x y g h l f f'.
-      let m = bytes_of c.bytes in
-      let os = objects_of i d in
-      let o = stands-at os x f in
-      let p = stands-at os y f' in
+      let m = bytes_of c.bytes in let os = objects_of i d in
+      let o = stands-at os x f in let p = stands-at os y f' in
       let before = ascends-at (λ o p. order_of i o p ≡ true) os x y (objects-ascend i k.directory) l o.is p.is in
-      (λ j. order_of_two m e (o.handle j) (p.handle j))
-      ∙ two-less i e q (all-at (IsEntry m) os x (entries-in i c k) o.is)
-      (all-at (IsEntry m) os y (entries-in i c k) p.is) before;
+      (λ j. order_of_two m e (o.handle j) (p.handle j)) ∙ two-less i e q (all-at (IsEntry m) os x (entries-in i c k)
+      o.is) (all-at (IsEntry m) os y (entries-in i c k) p.is) before;
 }

@@ -1,22 +1,18 @@
 -- The two indexes after an object comes or goes, whatever its class.
-use Rattle.segment_manager.proofs.Common.{◌≡◌, refl, sym, ap, subst, ◌∙◌, ℕ, ◌+◌, ◌<◌, ◌≤◌, ◌≢◌, Bool, true, false}
-use Rattle.segment_manager.proofs.Common.{◌&&◌, Option, Some, None, List, [], ◌∷◌, length, arith, if◌then◌else◌, cond}
-use Rattle.segment_manager.proofs.Common.{IsTrue, nat_le, find, filter, AllByRecursion, Ordering, Less, Equal, Greater}
-use Rattle.segment_manager.proofs.Common.{nat_cmp, is_lt, is_eq, ordering_reverse, slice_cmp, texts_ties}
-use Rattle.segment_manager.proofs.Common.{nat_list_cmp_total, and_from, ltb-true, ltb-false, lt-ltb, le-ltb, le-leb}
-use Rattle.segment_manager.proofs.Common.{eqb-false, handle, is_proper, Table, is_table, Class, code_of, same_kind}
-use Rattle.segment_manager.proofs.Common.{ByName, ByKind, Object, Directory, IsDirectory, live, kind_of, same_bytes}
-use Rattle.segment_manager.proofs.Common.{has_key, object_at, is_class, is_object, is_index, rises, rises_from}
-use Rattle.segment_manager.proofs.Common.{remove_object, with_object, without_object, by_name, by_kind, insert_by}
-use Rattle.segment_manager.proofs.Words.{AllByRecursion-filter, first, second, no_more}
-use Rattle.segment_manager.proofs.Live.{IsFound, IsIn, Place, here, behind, found-place, remove-here, remove-behind}
-use Rattle.segment_manager.proofs.objects.ObjectLists.{list_all-remove, remove-rises, rises-weak, rises-front}
-use Rattle.segment_manager.proofs.objects.ObjectLists.{rises-rest}
-use Rattle.segment_manager.proofs.objects.Ranks.{IsStrict, IsRanked, before, after, AllRanked, ordered-put, remove-more}
-use Rattle.segment_manager.proofs.objects.Ranks.{all-ordered}
-use Rattle.segment_manager.proofs.objects.RankedPairs.{ordered-pairwise, pairwise-remove, insert_by-rises}
-use Rattle.segment_manager.proofs.objects.RankedPairs.{without-rises, insert_by-length}
-use Rattle.segment_manager.proofs.{Common.named_objects, Common.unique_objects, Faces.ordered-without, Faces.ordered}
+use Rattle.segment_manager.proofs as own
+use own.Common.{◌≡◌, refl, sym, ap, subst, ◌∙◌, ℕ, ◌+◌, ◌<◌, ◌≤◌, ◌≢◌, Bool, true, false, ◌&&◌, Option, Some, None}
+use own.Common.{List, [], ◌∷◌, length, arith, if◌then◌else◌, cond, IsTrue, nat_le, find, filter, AllByRecursion}
+use own.Common.{Ordering, Less, Equal, Greater, nat_cmp, is_lt, is_eq, ordering_reverse, slice_cmp, texts_ties}
+use own.Common.{nat_list_cmp_total, and_from, ltb-true, ltb-false, lt-ltb, le-ltb, le-leb, eqb-false, handle, is_proper}
+use own.Common.{Table, is_table, Class, code_of, same_kind, ByName, ByKind, Object, Directory, IsDirectory, live}
+use own.Common.{kind_of, same_bytes, has_key, object_at, is_class, is_object, is_index, rises, rises_from}
+use own.Common.{remove_object, with_object, without_object, by_name, by_kind, insert_by, named_objects, unique_objects}
+use own.Live.{IsFound, IsIn, Place, here, behind, found-place, remove-here, remove-behind}
+use own.objects.ObjectLists.{list_all-remove, remove-rises, rises-weak, rises-front, rises-rest}
+use own.objects.Ranks.{IsStrict, IsRanked, before, after, AllRanked, ordered-put, remove-more, all-ordered}
+use own.objects.RankedPairs.{ordered-pairwise, pairwise-remove, insert_by-rises, without-rises, insert_by-length}
+use own.{Faces.ordered-without, Faces.ordered}
+use Rattle.raw_region.proofs.Facts.{AllByRecursion-filter, first, second, no_more}
 use Rattle.block_tags.specs.declared.tile.Role.TheVariants.{Index}
 use Rattle.seg_types.specs.declared.kinds.Class.TheVariants.{Named, Unique}
 
@@ -33,9 +29,8 @@ names-reverse o p = nat_list_cmp_total.antisymm p.name o.name
 -- the order of names is strict
 pub by_name-strict : IsStrict by_name
 by_name-strict = record {
-  trans =
-      λ o p q e f. ap is_lt (nat_list_cmp_total.trans o.name p.name q.name (lt-less (slice_cmp nat_cmp o.name p.name) e)
-      (lt-less (slice_cmp nat_cmp p.name q.name) f));
+  trans = λ o p q e f. ap is_lt (nat_list_cmp_total.trans o.name p.name q.name (lt-less (slice_cmp nat_cmp o.name
+      p.name) e) (lt-less (slice_cmp nat_cmp p.name q.name) f));
   asym = λ o p e. ap is_lt (names-reverse o p)
       ∙ ap (λ r. is_lt (ordering_reverse r)) (lt-less (slice_cmp nat_cmp o.name p.name) e);
 }
@@ -57,8 +52,7 @@ by_kind-strict = record {
   trans = λ o p q e f. lt-ltb (code_of (kind_of o.value)) (code_of (kind_of q.value)) (omega (
     arith,
     ltb-true (code_of (kind_of o.value)) (code_of (kind_of p.value)) e,
-    ltb-true
-        (code_of (kind_of p.value)) (code_of (kind_of q.value)) f,
+    ltb-true (code_of (kind_of p.value)) (code_of (kind_of q.value)) f,
   ));
   asym = λ o p e. le-ltb (code_of (kind_of p.value)) (code_of (kind_of o.value))
       (omega (arith, ltb-true (code_of (kind_of o.value)) (code_of (kind_of p.value)) e));
@@ -67,8 +61,7 @@ by_kind-strict = record {
 codes-ranked : {o p : Object} → (b : Bool) → by_kind o p ≡ b → code_of (kind_of o.value) ≢ code_of (kind_of p.value)
     → IsRanked by_kind o p
 codes-ranked {o} {p} true e n = before e (by_kind-strict.asym o p e)
-codes-ranked {o} {p} false e n =
-    after (lt-ltb (code_of (kind_of p.value)) (code_of (kind_of o.value))
+codes-ranked {o} {p} false e n = after (lt-ltb (code_of (kind_of p.value)) (code_of (kind_of o.value))
     (omega (arith, ltb-false (code_of (kind_of o.value)) (code_of (kind_of p.value)) e, n))) e
 
 -- two kinds that differ
@@ -78,10 +71,9 @@ kinds-ranked {o} {p} e =
 
 -- ---- a new key
 
-no-key-if : (t : Object → Bool) (P : Object → Type 0) (c : Class) (p : Object) (ps : List Object)
-    → ((q : Object) → is_class c q ≡ true → t q ≡ false → P q) → (AllByRecursion P (filter (is_class c) ps))
-    → t p ≡ false → (b : Bool) → is_class c p ≡ b
-    → AllByRecursion P (cond b (p ∷ filter (is_class c) ps) (filter (is_class c) ps))
+no-key-if : (t : Object → Bool) (P : Object → Type 0) (c : Class) (p : Object) (ps : List Object) → ((q : Object)
+    → is_class c q ≡ true → t q ≡ false → P q) → (AllByRecursion P (filter (is_class c) ps)) → t p ≡ false → (b : Bool)
+    → is_class c p ≡ b → AllByRecursion P (cond b (p ∷ filter (is_class c) ps) (filter (is_class c) ps))
 no-key-if t P c p ps each rest e true f = (each p f e, rest)
 no-key-if t P c p ps each rest e false f = rest
 
@@ -90,9 +82,8 @@ nothing-if true p e = absurd (cc)
 nothing-if false p e = (refl, e)
 
 -- where no object passes a test, each of the class fails it
-no-key : (t : Object → Bool) (P : Object → Type 0) (c : Class)
-    → ((q : Object) → is_class c q ≡ true → t q ≡ false → P q) → (os : List Object) → find t os ≡ None
-    → AllByRecursion P (filter (is_class c) os)
+no-key : (t : Object → Bool) (P : Object → Type 0) (c : Class) → ((q : Object) → is_class c q ≡ true → t q ≡ false
+    → P q) → (os : List Object) → find t os ≡ None → AllByRecursion P (filter (is_class c) os)
 no-key t P c each [] e = tt
 no-key t P c each (p ∷ ps) e =
     let parts = nothing-if (t p) p e in
@@ -101,15 +92,13 @@ no-key t P c each (p ∷ ps) e =
 -- a name that no object has
 pub new-name : (d : Directory) (o : Object) → object_at d (ByName o.name) ≡ None
     → AllRanked by_name o (filter (is_class Named) d.objects)
-new-name d o e =
-    no-key (has_key (ByName o.name)) (IsRanked by_name o) Named
+new-name d o e = no-key (has_key (ByName o.name)) (IsRanked by_name o) Named
     (λ q f g. names-ranked (ap (λ b. b && same_bytes o.name q.name) (sym f) ∙ g)) d.objects e
 
 -- a kind that no unique object has
 pub new-kind : (d : Directory) (o : Object) → object_at d (ByKind (kind_of o.value)) ≡ None
     → AllRanked by_kind o (filter (is_class Unique) d.objects)
-new-kind d o e =
-    no-key (has_key (ByKind (kind_of o.value))) (IsRanked by_kind o) Unique
+new-kind d o e = no-key (has_key (ByKind (kind_of o.value))) (IsRanked by_kind o) Unique
     (λ q f g. kinds-ranked (ap (λ b. b && same_kind (kind_of o.value) (kind_of q.value)) (sym f) ∙ g)) d.objects e
 
 -- ---- one entry more
@@ -120,9 +109,8 @@ pub named-more : (d : Directory) (o : Object) → is_class Named o ≡ true → 
 named-more d o e f = ordered-put Named by_name by_name-strict o d.objects e (new-name d o f)
 
 -- a unique object that is put in stands among the kinds
-pub unique-more : (d : Directory) (o : Object) → is_class Unique o ≡ true
-    → object_at d (ByKind (kind_of o.value)) ≡ None
-    → unique_objects (with_object d o) ≡ insert_by by_kind o (unique_objects d)
+pub unique-more : (d : Directory) (o : Object) → is_class Unique o ≡ true → object_at d (ByKind (kind_of o.value))
+    ≡ None → unique_objects (with_object d o) ≡ insert_by by_kind o (unique_objects d)
 unique-more d o e f = ordered-put Unique by_kind by_kind-strict o d.objects e (new-kind d o f)
 
 pub index-parts : (t : Table) (os : List Object) (lt : Object → Object → Bool) → IsTrue (is_index t os lt)
@@ -136,8 +124,7 @@ index-parts t os lt h =
 
 pub index-from : (t : Table) (os : List Object) (lt : Object → Object → Bool) → IsTrue (is_table Index 8 t)
     → length os ≤ t.capacity → IsTrue (rises lt os) → IsTrue (is_index t os lt)
-index-from t os lt a b c =
-    and_from (is_table Index 8 t && nat_le (length os) t.capacity) (rises lt os)
+index-from t os lt a b c = and_from (is_table Index 8 t && nat_le (length os) t.capacity) (rises lt os)
     (and_from (is_table Index 8 t) (nat_le (length os) t.capacity) a (le-leb (length os) t.capacity b)) c
 
 -- an index with a place left is one with the entry
@@ -151,10 +138,9 @@ pub ordered-more : (c : Class) (lt : Object → Object → Bool) → IsStrict lt
     → is_class c o ≡ true → AllRanked lt o (filter (is_class c) d.objects)
     → IsTrue (is_index u (ordered c lt d.objects) lt) → IsTrue (is_table Index 8 t)
     → length (ordered c lt d.objects) < t.capacity → IsTrue (is_index t (ordered c lt (with_object d o).objects) lt)
-ordered-more c lt s d t u o e r h a b =
-    subst (λ os. IsTrue (is_index t os lt)) (sym (ordered-put c lt s o d.objects e r))
-    (index-more lt t o (ordered c lt d.objects) a b (all-ordered (IsRanked lt o) c lt d.objects r)
-    (index-parts u (ordered c lt d.objects) lt h).2)
+ordered-more c lt s d t u o e r h a b = subst (λ os. IsTrue (is_index t os lt)) (sym (ordered-put c lt s o d.objects e
+    r)) (index-more lt t o (ordered c lt d.objects) a b (all-ordered (IsRanked lt o) c lt d.objects r) (index-parts u
+    (ordered c lt d.objects) lt h).2)
 
 -- ---- one entry less
 
@@ -175,8 +161,7 @@ one-less c lt s d o f e t h =
 ordered-less-if : (c : Class) (lt : Object → Object → Bool) → IsStrict lt → (d : Directory) (o : Object) → IsIn d o
     → (t : Table) → IsTrue (is_index t (ordered c lt d.objects) lt) → (b : Bool) → is_class c o ≡ b
     → IsTrue (is_index t (ordered c lt (without_object d o).objects) lt)
-ordered-less-if c lt s d o f t h true e =
-    index-less lt s t o (ordered c lt (without_object d o).objects)
+ordered-less-if c lt s d o f t h true e = index-less lt s t o (ordered c lt (without_object d o).objects)
     (subst (λ os. IsTrue (is_index t os lt)) (one-less c lt s d o f e t h) h)
 ordered-less-if c lt s d o f t h false e =
     subst (λ os. IsTrue (is_index t os lt)) (sym (ordered-without c lt d o f e)) h
@@ -207,19 +192,16 @@ rises-above n (o ∷ os) h =
     let f = rises-front n o os h in
     (f, rises-above n os (rises-weak n (o.extent.offset + 1) os (omega arith) (rises-rest n o os h)))
 
-above-differ : (o : Object) (os : List Object)
-    → AllByRecursion (λ (q : Object). o.extent.offset + 1 ≤ q.extent.offset) os
-    → AllByRecursion (λ (q : Object). handle o.extent ≢ handle q.extent) os
+above-differ : (o : Object) (os : List Object) → AllByRecursion (λ (q : Object). o.extent.offset + 1 ≤ q.extent.offset)
+    os → AllByRecursion (λ (q : Object). handle o.extent ≢ handle q.extent) os
 above-differ o [] h = tt
 above-differ o (q ∷ qs) h = ((λ e. omega (arith, h.0, e)), above-differ o qs h.1)
 
 others-place : (n : ℕ) {h : ℕ} {p : Object} {ps : List Object} {o : Object} → Place h p ps o
-    → IsTrue (rises_from n (p ∷ ps))
-    → (IsFound h ps o → AllByRecursion (λ (q : Object). h ≢ handle q.extent) (remove_object h ps))
-    → AllByRecursion (λ (q : Object). h ≢ handle q.extent) (remove_object h (p ∷ ps))
-others-place n {h} {p} {ps} (here e f) r k =
-    subst (λ qs. AllByRecursion (λ (q : Object). h ≢ handle q.extent) qs) (sym (remove-here h p ps e))
-    (subst (λ g. AllByRecursion (λ (q : Object). g ≢ handle q.extent) ps) (sym e)
+    → IsTrue (rises_from n (p ∷ ps)) → (IsFound h ps o → AllByRecursion (λ (q : Object). h ≢ handle q.extent)
+    (remove_object h ps)) → AllByRecursion (λ (q : Object). h ≢ handle q.extent) (remove_object h (p ∷ ps))
+others-place n {h} {p} {ps} (here e f) r k = subst (λ qs. AllByRecursion (λ (q : Object). h ≢ handle q.extent) qs)
+    (sym (remove-here h p ps e)) (subst (λ g. AllByRecursion (λ (q : Object). g ≢ handle q.extent) ps) (sym e)
     (above-differ p ps (rises-above (p.extent.offset + 1) ps (rises-rest n p ps r))))
 others-place n {h} {p} {ps} (behind e f) r k =
     subst (λ qs. AllByRecursion (λ (q : Object). h ≢ handle q.extent) qs) (sym (remove-behind h p ps e)) (e, k f)
@@ -228,8 +210,7 @@ others-place n {h} {p} {ps} (behind e f) r k =
 pub others-differ : (n h : ℕ) (os : List Object) (o : Object) → IsTrue (rises_from n os) → IsFound h os o
     → AllByRecursion (λ (q : Object). h ≢ handle q.extent) (remove_object h os)
 others-differ n h [] o r f = tt
-others-differ n h (p ∷ ps) o r f =
-    others-place n (found-place h p ps o f) r
+others-differ n h (p ∷ ps) o r f = others-place n (found-place h p ps o f) r
     (λ f'. others-differ (p.extent.offset + 1) h ps o (rises-rest n p ps r) f')
 
 remove-insert-if : (b : Bool) (o p : Object) {ps : List Object} (qs : List Object) → handle o.extent ≢ handle p.extent
@@ -239,19 +220,16 @@ remove-insert-if true o p {ps} qs n e = remove-here (handle o.extent) o (p ∷ p
 remove-insert-if false o p qs n e = remove-behind (handle o.extent) p qs n ∙ ap (λ rs. p ∷ rs) e
 
 -- what was put in is taken out again
-pub remove-insert_by : (lt : Object → Object → Bool) (o : Object) (os : List Object)
-    → AllByRecursion (λ (q : Object). handle o.extent ≢ handle q.extent) os
-    → remove_object (handle o.extent) (insert_by lt o os) ≡ os
+pub remove-insert_by : (lt : Object → Object → Bool) (o : Object) (os : List Object) → AllByRecursion (λ (q : Object).
+    handle o.extent ≢ handle q.extent) os → remove_object (handle o.extent) (insert_by lt o os) ≡ os
 remove-insert_by lt o [] h = remove-here (handle o.extent) o [] refl
 remove-insert_by lt o (p ∷ ps) h = remove-insert-if (lt o p) o p (insert_by lt o ps) h.0 (remove-insert_by lt o ps h.1)
 
 -- the order of a class without one
 pub one-removed : (c : Class) (lt : Object → Object → Bool) → IsStrict lt → (d : Directory) (o : Object) → IsIn d o
-    → is_class c o ≡ true → IsTrue (rises_from 0 d.objects) → (t : Table)
-    → IsTrue (is_index t (ordered c lt d.objects) lt)
-    → ordered c lt (without_object d o).objects ≡ remove_object (handle o.extent) (ordered c lt d.objects)
-one-removed c lt s d o f e r t h =
-    sym (remove-insert_by lt o (ordered c lt (without_object d o).objects)
+    → is_class c o ≡ true → IsTrue (rises_from 0 d.objects) → (t : Table) → IsTrue (is_index t (ordered c lt d.objects)
+    lt) → ordered c lt (without_object d o).objects ≡ remove_object (handle o.extent) (ordered c lt d.objects)
+one-removed c lt s d o f e r t h = sym (remove-insert_by lt o (ordered c lt (without_object d o).objects)
     (all-ordered (λ (q : Object). handle o.extent ≢ handle q.extent) c lt (remove_object (handle o.extent) d.objects)
     (AllByRecursion-filter (λ (q : Object). handle o.extent ≢ handle q.extent) (is_class c)
     (remove_object (handle o.extent) d.objects) (others-differ 0 (handle o.extent) d.objects o r f))))

@@ -1,16 +1,15 @@
 -- How the keys that an index compares stand to the objects of a directory: an order of keys says which object has the
 -- key and which comes first.
-use Rattle.segment_manager.proofs.Common.{◌≡◌, refl, sym, ap, ◌∙◌, ℕ, ◌<◌, ◌≢◌, Bool, true, false, ◌&&◌, ◌==◌, List}
-use Rattle.segment_manager.proofs.Common.{arith, cond, Ordering, Less, Equal, Greater, nat_lt, nat_cmp, is_lt, is_eq}
-use Rattle.segment_manager.proofs.Common.{ordering_reverse, slice_cmp, texts_ties, and_from, and_right, eq-eqb}
-use Rattle.segment_manager.proofs.Common.{eqb-true, ne_eqb, lt-ltb, ltb-true, le-ltb, nat_list_cmp_total, NamedClass}
-use Rattle.segment_manager.proofs.Common.{UniqueClass, Kind, code_of, same_kind, Object, by_kind, by_name, has_key}
-use Rattle.segment_manager.proofs.Common.{is_class, kind_of, same_bytes}
+use Rattle.segment_manager.proofs as own
+use own.Common.{◌≡◌, refl, sym, ap, ◌∙◌, ℕ, ◌<◌, ◌≢◌, Bool, true, false, ◌&&◌, ◌==◌, List, arith, cond, Ordering, Less}
+use own.Common.{Equal, Greater, nat_lt, nat_cmp, is_lt, is_eq, ordering_reverse, slice_cmp, texts_ties, and_from}
+use own.Common.{and_right, eq-eqb, eqb-true, ne_eqb, lt-ltb, ltb-true, le-ltb, nat_list_cmp_total, NamedClass}
+use own.Common.{UniqueClass, Kind, code_of, same_kind, Object, by_kind, by_name, has_key, is_class, kind_of, same_bytes}
+use own.{indexes.Indexes.lt-less, objects.Ranks.IsRanked, objects.Ranks.before, objects.Ranks.after}
+use Rattle.raw_region.proofs.Facts.{second}
 use Rattle.std.specs.{Cmp.Equal-is, Cmp.Lexicographic.nat_list_eq_equiv}
 use Rattle.std.proofs.{lemmas.Cmp.nat_cmp_total, lemmas.Map.Lookups.exact_bytes, lemmas.Map.Lookups.exact_unsigned}
 use Rattle.seg_types.specs.Names as names
-use Rattle.segment_manager.proofs.{Words.second, indexes.Indexes.lt-less, objects.Ranks.IsRanked, objects.Ranks.before}
-use Rattle.segment_manager.proofs.{objects.Ranks.after}
 
 -- what the order of an object's key to a key says of the object
 pub record Says (lt : Object → Object → Bool) (t : Object → Bool) (o : Object) (r : Ordering) : Type 0 where
@@ -36,8 +35,7 @@ same-itself a = nat_list_eq_equiv.refl a
 
 -- an object of the name
 pub name-of : {name : List ℕ} (q : Object) → has_key (names.ByName name) q ≡ true → name ≡ q.name
-name-of {name} q e =
-    exact_bytes name q.name ((Equal-is (slice_cmp nat_cmp name q.name)).0
+name-of {name} q e = exact_bytes name q.name ((Equal-is (slice_cmp nat_cmp name q.name)).0
     (sym (texts_ties name q.name) ∙ second (is_class NamedClass q) (same_bytes name q.name) e))
 
 names-other : (name : List ℕ) (o : Object) {r : Ordering} → slice_cmp nat_cmp o.name name ≡ r
@@ -46,9 +44,8 @@ names-other name o e f = and_right (is_class NamedClass o) (same_bytes name o.na
 
 comes : (name : List ℕ) (o q : Object) {r : Ordering} → has_key (names.ByName name) q ≡ true
     → slice_cmp nat_cmp o.name name ≡ r → by_name q o ≡ is_lt (ordering_reverse r)
-comes name o q h e =
-    ap is_lt (swapped q.name o.name ∙ ap (λ n. ordering_reverse (slice_cmp nat_cmp o.name n)) (sym (name-of q h))
-    ∙ ap ordering_reverse e)
+comes name o q h e = ap is_lt (swapped q.name o.name ∙ ap (λ n. ordering_reverse (slice_cmp nat_cmp o.name n))
+    (sym (name-of q h)) ∙ ap ordering_reverse e)
 
 pub names-say : (name : List ℕ) (o : Object) → is_class NamedClass o ≡ true
     → Says by_name (has_key (names.ByName name)) o (slice_cmp nat_cmp o.name name)
@@ -67,8 +64,7 @@ ordered-name {o} {p} (after e f) = test-of o.name p.name (lt-less (slice_cmp nat
 -- of two names in order at most one is the name
 pub names-apart : (name : List ℕ) (o p : Object) → IsRanked by_name o p → has_key (names.ByName name) o ≡ true
     → has_key (names.ByName name) p ≡ false
-names-apart name o p r h =
-    and_right (is_class NamedClass p) (same_bytes name p.name)
+names-apart name o p r h = and_right (is_class NamedClass p) (same_bytes name p.name)
     (ap (λ n. same_bytes n p.name) (name-of o h) ∙ ordered-name r)
 
 -- an object of another class has no name
@@ -103,8 +99,7 @@ compares a b = record {
 }
 
 kinds-other : (k : Kind) (o : Object) → code_of k ≢ code_of (kind_of o.value) → has_key (names.ByKind k) o ≡ false
-kinds-other k o n =
-    and_right (is_class UniqueClass o) (same_kind k (kind_of o.value))
+kinds-other k o n = and_right (is_class UniqueClass o) (same_kind k (kind_of o.value))
     (ne_eqb (code_of k) (code_of (kind_of o.value)) n)
 
 pub kinds-say : (k : Kind) (o : Object) → is_class UniqueClass o ≡ true

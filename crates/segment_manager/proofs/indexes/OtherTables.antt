@@ -1,33 +1,26 @@
 -- What the bytes denote where an index has another table, and where one object is gone.
-use Rattle.segment_manager.proofs.Common.{◌≡◌, refl, sym, ap, subst, ◌∙◌, ℕ, ◌+◌, ◌≤◌, Some, None, Option, List, arith}
-use Rattle.segment_manager.proofs.Common.{IsTrue, flat_map, AllByRecursion, Cut, Memory, bytes_of, current, Same-part}
-use Rattle.segment_manager.proofs.Common.{Same-trans, IndexRole, Extent, LiveSet, handle, is_proper, added, others}
-use Rattle.segment_manager.proofs.Common.{Keeps, LaysOut, SameBlock, live_of, Table, no_table, blocks-trans, Index}
-use Rattle.segment_manager.proofs.Common.{beside_table, unlinked, without_link, IsIndexOf, place_of, Object, Directory}
-use Rattle.segment_manager.proofs.Common.{extents_of, is_object, live, Denotes, IsObjectAt, class_of_index, entries_of}
-use Rattle.segment_manager.proofs.Common.{table_of, with_table_of, ◌*◌, Bool, true, false, ◌&&◌, ◌==◌, [], length}
-use Rattle.segment_manager.proofs.Common.{if◌then◌else◌, ◌||◌, option_map, nat_le, nat_lt, list_all, eq-eqb, eqb-true}
-use Rattle.segment_manager.proofs.Common.{place, released, resized, cut_table, is_table, serves, placed_is_proper}
-use Rattle.segment_manager.proofs.Common.{IsReserved, IsShrunk, KeepsRest, IsIndexAt, link_at, IsHeader, is_index}
-use Rattle.segment_manager.proofs.Common.{rises_from, objects_of, order_of, ◌∷◌, lay_out_one, handles, remove_object}
-use Rattle.segment_manager.proofs.Common.{table_extents}
-use Rattle.segment_manager.proofs.Denoted.{KeepsFront, denotes-taken}
-use Rattle.segment_manager.proofs.Order.{live-rises}
-use Rattle.segment_manager.proofs.indexes.Entered.{HasOne, has_both, of_rest, other, other-stays, other-words}
-use Rattle.segment_manager.proofs.indexes.Entered.{other_class}
-use Rattle.segment_manager.proofs.indexes.Tables.{index-left_out, left_out, live-moved_index, live-no_index}
-use Rattle.segment_manager.proofs.indexes.Tables.{live-resized_index, live-same_index}
-use Rattle.segment_manager.proofs.Frame.{header-same, any_objects-same, any_index-same}
-use Rattle.segment_manager.proofs.Live.{IsIn, OfEach, live-without, of_each, removing}
-use Rattle.segment_manager.proofs.Words.{AllByRecursion-append, AllByRecursion-behind, AllByRecursion-front}
-use Rattle.segment_manager.proofs.{Common.without_object, Calling.denotes-live, indexes.HeldIndexes.denotes-index}
-use Rattle.segment_manager.proofs.{Denoted.handles-length, indexes.Indexes.index-from, indexes.Indexes.index-parts}
-use Rattle.segment_manager.proofs.{indexes.Bridge.no-entry-removed}
-use Rattle.segment_manager.proofs.indexes.Tabled.{same-size, same-objects, has-one, place-high}
+use Rattle.segment_manager.proofs as own
+use own.Common.{◌≡◌, refl, sym, ap, subst, ◌∙◌, ℕ, ◌+◌, ◌≤◌, Some, None, Option, List, arith, IsTrue, flat_map}
+use own.Common.{AllByRecursion, Cut, Memory, bytes_of, current, Same-part, Same-trans, IndexRole, Extent, LiveSet}
+use own.Common.{handle, is_proper, added, others, Keeps, LaysOut, SameBlock, live_of, Table, no_table, blocks-trans}
+use own.Common.{Index, beside_table, unlinked, without_link, IsIndexOf, place_of, Object, Directory, extents_of}
+use own.Common.{is_object, live, Denotes, IsObjectAt, class_of_index, entries_of, table_of, with_table_of, ◌*◌, Bool}
+use own.Common.{true, false, ◌&&◌, ◌==◌, [], length, if◌then◌else◌, ◌||◌, option_map, nat_le, nat_lt, list_all, eq-eqb}
+use own.Common.{eqb-true, place, released, resized, cut_table, is_table, serves, placed_is_proper, IsReserved, IsShrunk}
+use own.Common.{KeepsRest, IsIndexAt, link_at, IsHeader, is_index, rises_from, objects_of, order_of, ◌∷◌, lay_out_one}
+use own.Common.{handles, remove_object, table_extents, without_object}
+use own.indexes.Entered.{HasOne, has_both, of_rest, other, other-stays, other-words, other_class}
+use own.indexes.Tables.{index-left_out, left_out, live-moved_index, live-no_index, live-resized_index, live-same_index}
+use own.indexes.Tabled.{same-size, same-objects, has-one, place-high}
+use own.Live.{IsIn, OfEach, live-without, of_each, removing}
+use own.{Order.live-rises, Frame.header-same, Frame.any_index-same, Frame.any_objects-same, Denoted.KeepsFront}
+use own.{Denoted.denotes-taken, Denoted.handles-length, Calling.denotes-live, indexes.Indexes.index-from}
+use own.{indexes.Indexes.index-parts, indexes.HeldIndexes.denotes-index, indexes.Bridge.no-entry-removed}
+use Rattle.raw_region.proofs.Facts.{AllByRecursion-behind, AllByRecursion-front, AllByRecursion-append}
 use Rattle.seg_index.proofs.Laws.{place_behind}
-use Rattle.seg_index.specs.declared.index.Index.TheVariants as index
 use Rattle.best_fit.specs.Fit.{gap_after, room, shorter}
 use Rattle.seg_index.specs.Capacities.{with_cut}
+use Rattle.seg_index.specs.declared.index.Index.TheVariants as index
 
 -- ---- an index has another table
 
@@ -51,10 +44,8 @@ other-table index.Unique t h = record { is = h.is; at = h.at }
 pub tabled-denotes : {i : Index} {a c : Cut} {d : Directory} {t : Table} → Denotes current a.bytes d
     → IsTabled i a c d t → Denotes current c.bytes (with_table_of i d t)
 tabled-denotes {i} {a} {c} {d} {t} k e =
-    let A = bytes_of a.bytes in
-    let C = bytes_of c.bytes in
-    let high = place-high i in
-    let rest = of_rest i (SameBlock A C) e.keeps.blocks in
+    let A = bytes_of a.bytes in let C = bytes_of c.bytes in
+    let high = place-high i in let rest = of_rest i (SameBlock A C) e.keeps.blocks in
     let one = other-stays i (has-one (other i) k) (other-words i e.keeps.before e.keeps.behind) rest.other_table in
     let few : length (objects_of i d) ≤ t.capacity = omega (arith, e.stands.few, handles-length (objects_of i d)) in
     let is = index-from t (objects_of i d) (order_of i) e.stands.places few
@@ -93,13 +84,11 @@ places_in n x = record { capacity = n; extent = Some x }
 pub reserved-tabled : {i : Index} {a c : Cut} {d : Directory} {n : ℕ} → Denotes current a.bytes d
     → (r : IsReserved a c (place_of i) n) → IsTabled i a c d (places_in n r.extent)
 reserved-tabled {i} {a} {c} {d} {n} k r =
-    let x = denotes-index i a k in
-    let now = denotes-live current a.bytes d k in
+    let x = denotes-index i a k in let now = denotes-live current a.bytes d k in
     let moved : without_link (added (live_of a.bytes) r.extent) (link_at (bytes_of a.bytes) (place_of i)) ≡ live
     (with_table_of i d (places_in n r.extent)) = (λ j. without_link (added (now j) r.extent) (x.stands.link j))
-    ∙ live-moved_index i d (places_in n r.extent) r.extent [] refl
-    (placed_is_proper (live d) (8 * n) IndexRole r.extent k.directory.proper
-    (sym (ap (λ l. place l (8 * n) IndexRole) now) ∙ r.placed)) in
+    ∙ live-moved_index i d (places_in n r.extent) r.extent [] refl (placed_is_proper (live d) (8 * n) IndexRole
+    r.extent k.directory.proper (sym (ap (λ l. place l (8 * n) IndexRole) now) ∙ r.placed)) in
     let left : (unlinked a (place_of i)).extents ≡ (live (with_table_of i d no_table)).extents =
     (λ j. (without_link (now j) (x.stands.link j)).extents) ∙ left-link (live d) (table_of i d).extent
     ∙ index-left_out i d [] (live-rises (live d) k.directory.proper) in
@@ -137,8 +126,7 @@ module _ (i : Index) (d : Directory) (n : ℕ) (proper : IsTrue (is_proper (live
   cut-cases None true e f = sym (live-same_index i d no_table (sym e))
   cut-cases None false e f = absurd (let g : false ≡ true = f refl in cc)
   cut-cases (Some y) true e f = live-no_index i d no_table e refl proper
-  cut-cases (Some y) false e f =
-      live-resized_index i d (cut_to (Some y) false) (shorter (live d) y (8 * n)) e refl
+  cut-cases (Some y) false e f = live-resized_index i d (cut_to (Some y) false) (shorter (live d) y (8 * n)) e refl
       (shorter-offset (live d) y (8 * n)) proper
 
   pub cut-live : ((table_of i d).extent ≡ None → (n == 0) ≡ true)
@@ -147,22 +135,19 @@ module _ (i : Index) (d : Directory) (n : ℕ) (proper : IsTrue (is_proper (live
   cut-live f = cut-cases (table_of i d).extent (n == 0) refl f
 
 no-places : (t : Table) (n : ℕ) → IsTrue (is_table IndexRole 8 t) → n ≤ t.capacity → t.extent ≡ None → (n == 0) ≡ true
-no-places t n h few e =
-    eq-eqb n 0 (omega (
-      arith,
-      few,
-      (eqb-true t.capacity 0 (subst (λ (o : Option Extent). IsTrue (elim o as (λ _. Bool) [
-        | None ↦ t.capacity == 0
-        | Some x ↦ nat_lt 0 t.capacity && serves x IndexRole (8 * t.capacity)
-      ])) e h)),
-    ))
+no-places t n h few e = eq-eqb n 0 (omega (
+  arith,
+  few,
+  (eqb-true t.capacity 0 (subst (λ (o : Option Extent). IsTrue (elim o as (λ _. Bool) [
+    | None ↦ t.capacity == 0
+    | Some x ↦ nat_lt 0 t.capacity && serves x IndexRole (8 * t.capacity)
+  ])) e h)),
+))
 
-pub shrunk-tabled : {i : Index} {a c : Cut} {d : Directory} → Denotes current a.bytes d
-    → IsShrunk a c (place_of i) (table_of i d) (entries_of i d)
-    → IsTabled i a c d (cut_table (live d) 8 (length (objects_of i d)) (table_of i d))
+pub shrunk-tabled : {i : Index} {a c : Cut} {d : Directory} → Denotes current a.bytes d → IsShrunk a c (place_of i)
+    (table_of i d) (entries_of i d) → IsTabled i a c d (cut_table (live d) 8 (length (objects_of i d)) (table_of i d))
 shrunk-tabled {i} {a} {c} {d} k r =
-    let x = denotes-index i a k in
-    let now = denotes-live current a.bytes d k in
+    let x = denotes-index i a k in let now = denotes-live current a.bytes d k in
     let len = handles-length (objects_of i d) in
     let laid : LaysOut current c.bytes (with_cut (live d) (length (objects_of i d)) (table_of i d)) =
     subst (LaysOut current c.bytes) (λ j. with_cut (now j) (len j) (table_of i d)) r.live in
@@ -192,16 +177,14 @@ less-if : (P : Extent → Type 0) (b : Bool) (p : Object) (ps qs : List Object)
     → AllByRecursion P (flat_map extents_of (p ∷ ps)) → AllByRecursion P (flat_map extents_of qs)
     → AllByRecursion P (flat_map extents_of (if b then ps else p ∷ qs))
 less-if P true p ps qs a k = AllByRecursion-behind P (extents_of p) (flat_map extents_of ps) a
-less-if P false p ps qs a k =
-    AllByRecursion-append P (extents_of p) (flat_map extents_of qs)
+less-if P false p ps qs a k = AllByRecursion-append P (extents_of p) (flat_map extents_of qs)
     (AllByRecursion-front P (extents_of p) (flat_map extents_of ps) a) k
 
 -- what holds of the blocks of all objects holds of those of the others
 all-less : (P : Extent → Type 0) (h : ℕ) (os : List Object) → AllByRecursion P (flat_map extents_of os)
     → AllByRecursion P (flat_map extents_of (remove_object h os))
 all-less P h [] a = a
-all-less P h (p ∷ ps) a =
-    less-if P (h == handle p.extent) p ps (remove_object h ps) a
+all-less P h (p ∷ ps) a = less-if P (h == handle p.extent) p ps (remove_object h ps) a
     (all-less P h ps (AllByRecursion-behind P (extents_of p) (flat_map extents_of ps) a))
 
 -- ---- the two indexes then
@@ -228,12 +211,9 @@ pub removed-denotes : {i : Index} {a b c : Cut} {d : Directory} (o : Object) →
     → o.class ≡ class_of_index i → IsLeft i a b (table_of i d) (entries_of i (without_object d o))
     → IsGone b c (extents_of o) → Denotes current c.bytes (without_object d o)
 removed-denotes {i} {a} {b} {c} {d} o k f class e g =
-    let A = bytes_of a.bytes in
-    let B = bytes_of b.bytes in
-    let C = bytes_of c.bytes in
-    let low = place_behind i in
-    let high = place-high i in
-    let now = denotes-live current a.bytes d k in
+    let A = bytes_of a.bytes in let B = bytes_of b.bytes in
+    let C = bytes_of c.bytes in let low = place_behind i in
+    let high = place-high i in let now = denotes-live current a.bytes d k in
     let mid = lay_out_one current b.bytes (live_of a.bytes) e.live ∙ now in
     let laid : LaysOut current c.bytes (removing (live d) (extents_of o)) =
     subst (λ l. LaysOut current c.bytes (removing l (extents_of o))) mid g.live in
@@ -247,16 +227,14 @@ removed-denotes {i} {a} {b} {c} {d} o k f class e g =
     let blocks = blocks-trans A B C (flat_map extents_of (remove_object (handle o.extent) d.objects))
     (all-less (SameBlock A B) (handle o.extent) d.objects before.objects) after.objects in
     let one = other-stays i (has-one (other i) k) (other-words i (Same-trans A B C 32 (place_of i) e.keeps.before
-    (Same-part B C 32 128 32 (place_of i) g.keeps.behind (omega arith) (omega arith)))
-    (Same-trans A B C (place_of i + 24) 128 e.keeps.behind
-    (Same-part B C 32 128 (place_of i + 24) 128 g.keeps.behind (omega arith) (omega arith))))
-    (blocks-trans A B C (table_extents (table_of (other i) d)) before.other_table
+    (Same-part B C 32 128 32 (place_of i) g.keeps.behind (omega arith) (omega arith))) (Same-trans A B C
+    (place_of i + 24) 128 e.keeps.behind (Same-part B C 32 128 (place_of i + 24) 128 g.keeps.behind (omega arith)
+    (omega arith)))) (blocks-trans A B C (table_extents (table_of (other i) d)) before.other_table
     (table-in (other i) (SameBlock B C) d o after)) in
-    let both = both-at i o (any_index-same e.stands.places e.stands.few
-    (Same-part B C 32 128 (place_of i) (place_of i + 24) g.keeps.behind low (omega arith))
-    (table-in i (SameBlock B C) d o after) e.stands.stands)
-    (subst (IsIndexAt C (place_of (other i)) (table_of (other i) d))
-    (sym (no-entry-removed (other i) d f.is (other_class i o class))) one.at) in
+    let both = both-at i o (any_index-same e.stands.places e.stands.few (Same-part B C 32 128 (place_of i)
+    (place_of i + 24) g.keeps.behind low (omega arith)) (table-in i (SameBlock B C) d o after) e.stands.stands)
+    (subst (IsIndexAt C (place_of (other i)) (table_of (other i) d)) (sym (no-entry-removed (other i) d f.is
+    (other_class i o class))) one.at) in
     let front : KeepsFront A C = record {
       front = Same-trans A B C 0 24 e.keeps.front g.keeps.front;
       zeros = Same-trans A B C 80 128 (Same-part A B (place_of i + 24) 128 80 128 e.keeps.behind (omega arith)

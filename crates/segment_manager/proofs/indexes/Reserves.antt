@@ -1,16 +1,13 @@
 -- The calls that give the indexes other capacities, as steps of the machine.
-use Rattle.segment_manager.proofs.Common.{◌≡◌, refl, sym, ap, subst, ◌∙◌, ℕ, ◌*◌, ◌<◌, ◌≤◌, ◌⊎◌, inl, inr, true, false}
-use Rattle.segment_manager.proofs.Common.{List, length, arith, if◌then◌else◌, nat_le, cases_lt, le-leb, lt-leb, Cut}
-use Rattle.segment_manager.proofs.Common.{current, SamePlace-trans, IndexRole, place, IsRefused, Table, cut_table}
-use Rattle.segment_manager.proofs.Common.{NoSpace, is_changing, Index, IsRoomy, IsShrunk, HasIndex, IsIndexOf}
-use Rattle.segment_manager.proofs.Common.{capacity_at, place_of, Done, Refused, Denotes, Directory, live, entries_of}
-use Rattle.segment_manager.proofs.Common.{objects_of, reserve_of, table_of, with_table_of, Plan, New, Reply, Request}
-use Rattle.segment_manager.proofs.Common.{IsSegment, IsStep, State, effect, is_read_only, Bool}
-use Rattle.segment_manager.proofs.indexes.OtherTables.{places_in, reserved-tabled, shrunk-tabled, tabled-denotes}
-use Rattle.segment_manager.proofs.containers.Safely.{Stepped, stepped}
-use Rattle.segment_manager.proofs.Steps.{by_no_change, by_step, lands, open-writing, perform-new, perform-no_space}
-use Rattle.segment_manager.proofs.{Calling.denotes-live, indexes.HeldIndexes.denotes-index, Steps.step-plan}
-use Rattle.segment_manager.proofs.{Steps.step-reply}
+use Rattle.segment_manager.proofs as own
+use own.Common.{◌≡◌, cases_lt, IndexRole, IsRefused, cut_table, IsIndexOf, Directory, objects_of, reserve_of, IsSegment}
+use own.Common.{refl, if◌then◌else◌, SamePlace-trans, is_changing, capacity_at, entries_of, with_table_of, is_read_only}
+use own.Common.{sym, ap, ◌∙◌, ◌*◌, ◌<◌, ◌≤◌, ◌⊎◌, inl, inr, List, Cut, Done, live, Plan, New, Bool}
+use own.Common.{subst, true, false, arith, nat_le, le-leb, lt-leb, place, Table, Index, Reply, IsStep, State, effect}
+use own.Common.{ℕ, length, current, NoSpace, IsRoomy, IsShrunk, HasIndex, place_of, Refused, Denotes, table_of, Request}
+use own.indexes.OtherTables.{places_in, reserved-tabled, shrunk-tabled, tabled-denotes}
+use own.Steps.{by_no_change, by_step, lands, open-writing, perform-new, perform-no_space, step-plan, step-reply}
+use own.{containers.Safely.Stepped, containers.Safely.stepped, Calling.denotes-live, indexes.HeldIndexes.denotes-index}
 use Rattle.segment_manager.specs.Step.{shrunk_indexes}
 use Rattle.seg_types.specs.Commands as asked
 use Rattle.seg_index.specs.declared.index.Index.TheVariants as index
@@ -30,22 +27,19 @@ reserve-effect index.Unique d n {b} e = ap (λ b. if b then Reply Done d else ta
 -- there are so many places, or they are taken
 pub reserves : {s t : State} (view : s ≡ t) (b : IsSegment s.cut.bytes) {c : Cut} (i : Index) {n : ℕ}
     → is_read_only t.mode ≡ false → IsRoomy s.cut c (place_of i) n → Stepped s t c (reserve_of i n) Done
-reserves {s} {t} view b {c} i {n} may r =
-    stepped s t view b c (reserve_of i n) Done may
+reserves {s} {t} view b {c} i {n} may r = stepped s t view b c (reserve_of i n) Done may
     (λ writing. by_case writing (cases_lt (capacity_at s.cut (place_of i)) n))
   where
     by_case : is_read_only s.mode ≡ false → (capacity_at s.cut (place_of i) < n) ⊎ (n ≤ capacity_at s.cut (place_of i))
         → IsStep s (record s { cut = c }) (reserve_of i n) Done
-    by_case writing (inr h) =
-        subst (λ (x : Cut). IsStep s (record s { cut = x }) (reserve_of i n) Done) (sym (r.same h))
-        (by_no_change s (reserve_of i n) Done (λ d k.
+    by_case writing (inr h) = subst (λ (x : Cut). IsStep s (record s { cut = x }) (reserve_of i n) Done)
+        (sym (r.same h)) (by_no_change s (reserve_of i n) Done (λ d k.
         let x = denotes-index i s.cut k.denotes in
         step-reply s.mode d (reserve_of i n) Done d (open-writing s.mode (reserve_of i n) writing)
         (reserve-effect i d n (le-leb n (table_of i d).capacity (omega (arith, h, x.stands.capacity))))))
     by_case writing (inl h) =
         by_step (reserve_of i n) (record { mode = refl; place = (r.reserved h).keeps.place }) (λ d k.
-        let x = denotes-index i s.cut k.denotes in
-        let t = r.reserved h in
+        let x = denotes-index i s.cut k.denotes in let t = r.reserved h in
         lands (with_table_of i d (places_in n t.extent)) (record {
           is = step-plan s.mode d (reserve_of i n) (open-writing s.mode (reserve_of i n) writing)
               (reserve-effect i d n (lt-leb n (table_of i d).capacity (omega (arith, h, x.stands.capacity))))
@@ -58,8 +52,7 @@ reserves {s} {t} view b {c} i {n} may r =
 pub reserves-none : {s t : State} (view : s ≡ t) (b : IsSegment s.cut.bytes) {c : Cut} (i : Index) (n : ℕ)
     → is_read_only t.mode ≡ false → capacity_at s.cut (place_of i) < n → IsRefused s.cut c (8 * n) IndexRole
     → Stepped s t c (reserve_of i n) (Refused NoSpace)
-reserves-none {s} {t} view b {c} i n may h r =
-    stepped s t view b c (reserve_of i n) (Refused NoSpace) may (λ writing.
+reserves-none {s} {t} view b {c} i n may h r = stepped s t view b c (reserve_of i n) (Refused NoSpace) may (λ writing.
     subst (λ (x : Cut). IsStep s (record s { cut = x }) (reserve_of i n) (Refused NoSpace)) (sym r.same)
     (by_no_change s (reserve_of i n) (Refused NoSpace) (λ d k.
     let x = denotes-index i s.cut k.denotes in
@@ -86,17 +79,13 @@ shrunk-denotes i {a} {d} k r =
 pub shrinks : {s t : State} (view : s ≡ t) (g : IsSegment s.cut.bytes) {b c : Cut} → is_read_only t.mode ≡ false
     → Shrinks index.Named s.cut b → Shrinks index.Unique b c → Stepped s t c asked.ShrinkIndexes Done
 shrinks {s} {t} view g {b} {c} may n u =
-    let k0 = g.1.denotes in
-    let e0 = shrunk index.Named g.0 in
-    stepped s t view g c asked.ShrinkIndexes Done may (λ writing.
-    by_step asked.ShrinkIndexes (record {
+    let k0 = g.1.denotes in let e0 = shrunk index.Named g.0 in
+    stepped s t view g c asked.ShrinkIndexes Done may (λ writing. by_step asked.ShrinkIndexes (record {
       mode = refl;
-      place = SamePlace-trans s.cut b c
-          (n (table_of index.Named g.0) (entries_of index.Named g.0) (denotes-index index.Named s.cut k0)).keeps.place
-          (u (table_of index.Unique e0) (entries_of index.Unique e0)
-          (denotes-index index.Unique b (shrunk-denotes index.Named k0 n))).keeps.place;
-    }) (λ d k.
-    lands (shrunk index.Unique (shrunk index.Named d)) (record {
+      place = SamePlace-trans s.cut b c (n (table_of index.Named g.0) (entries_of index.Named g.0) (denotes-index
+          index.Named s.cut k0)).keeps.place (u (table_of index.Unique e0) (entries_of index.Unique e0) (denotes-index
+          index.Unique b (shrunk-denotes index.Named k0 n))).keeps.place;
+    }) (λ d k. lands (shrunk index.Unique (shrunk index.Named d)) (record {
       is = step-reply s.mode d asked.ShrinkIndexes Done (shrunk_indexes d)
           (open-writing s.mode asked.ShrinkIndexes writing) refl;
       denotes = shrunk-denotes index.Unique (shrunk-denotes index.Named k.denotes n) u;

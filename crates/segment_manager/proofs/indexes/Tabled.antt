@@ -1,23 +1,16 @@
 -- What the bytes denote after an index has an entry more or less, or another capacity.
-use Rattle.segment_manager.proofs.Common.{◌≡◌, refl, sym, ap, subst, ◌∙◌, ℕ, ◌+◌, ◌≤◌, Some, None, Option, List, arith}
-use Rattle.segment_manager.proofs.Common.{IsTrue, flat_map, insert, AllByRecursion, Cut, Same, SamePlace, bytes_of}
-use Rattle.segment_manager.proofs.Common.{current, Same-part, Same-trans, IndexRole, Extent, LiveSet, handle, is_proper}
-use Rattle.segment_manager.proofs.Common.{added, others, IsAllocated, Keeps, LaysOut, SameBlock, extent_at, live_of}
-use Rattle.segment_manager.proofs.Common.{Table, no_table, allocated-live, blocks-trans, Index, AddKeeps, Adds}
-use Rattle.segment_manager.proofs.Common.{beside_table, unlinked, without_link, IsIndexOf, place_of, grown_capacity}
-use Rattle.segment_manager.proofs.Common.{Object, Directory, extents_of, is_object, live, object_at, with_object}
-use Rattle.segment_manager.proofs.Common.{Denotes, IsObjectAt, class_of_index, entries_of, table_of, with_table_of}
-use Rattle.segment_manager.proofs.Common.{place}
-use Rattle.segment_manager.proofs.Denoted.{KeepsFront, denotes-put}
-use Rattle.segment_manager.proofs.objects.Taking.{IsMade, allocated-found, taken-found, taken-live}
-use Rattle.segment_manager.proofs.Order.{all_of-inserted, inserted, live-rises}
-use Rattle.segment_manager.proofs.indexes.Entered.{HasOne, OfRest, entered-other, entered-own, has_both, key_in, of_all}
-use Rattle.segment_manager.proofs.indexes.Entered.{of_rest, other, other-stays, other-words}
-use Rattle.segment_manager.proofs.indexes.Tables.{index-left_out, last-table, left_out, live-moved_index, same-table}
-use Rattle.segment_manager.proofs.indexes.Tables.{table-of}
-use Rattle.segment_manager.proofs.Frame.{any_object-same}
-use Rattle.segment_manager.proofs.Live.{adding}
-use Rattle.segment_manager.proofs.{Calling.denotes-live}
+use Rattle.segment_manager.proofs as own
+use own.Common.{◌≡◌, refl, sym, ap, subst, ◌∙◌, ℕ, ◌+◌, ◌≤◌, Some, None, Option, List, arith, IsTrue, flat_map, insert}
+use own.Common.{AllByRecursion, Cut, Same, SamePlace, bytes_of, current, Same-part, Same-trans, IndexRole, Extent}
+use own.Common.{LiveSet, handle, is_proper, added, others, IsAllocated, Keeps, LaysOut, SameBlock, extent_at, live_of}
+use own.Common.{Table, no_table, allocated-live, blocks-trans, Index, AddKeeps, Adds, beside_table, unlinked}
+use own.Common.{without_link, IsIndexOf, place_of, grown_capacity, Object, Directory, extents_of, is_object, live}
+use own.Common.{object_at, with_object, Denotes, IsObjectAt, class_of_index, entries_of, table_of, with_table_of, place}
+use own.objects.Taking.{IsMade, allocated-found, taken-found, taken-live}
+use own.indexes.Entered.{HasOne, OfRest, entered-other, entered-own, has_both, key_in, of_all, of_rest, other}
+use own.indexes.Tables.{index-left_out, last-table, left_out, live-moved_index, same-table, table-of}
+use own.{Denoted.KeepsFront, Denoted.denotes-put, Order.inserted, Order.live-rises, Live.adding, Calling.denotes-live}
+use own.{Order.all_of-inserted, indexes.Entered.other-stays, indexes.Entered.other-words, Frame.any_object-same}
 use Rattle.seg_index.proofs.Laws.{place_behind}
 use Rattle.seg_index.specs.declared.index.Index.TheVariants as index
 
@@ -57,12 +50,9 @@ pub entered-denotes : {i : Index} (a : Cut) {b c : Cut} {d : Directory} {t : Tab
     → IsObjectAt (bytes_of b.bytes) o → o.class ≡ class_of_index i → object_at d (key_in i o) ≡ None
     → IsEntered i b c d t o → Denotes current c.bytes (with_object (with_table_of i d t) o)
 entered-denotes {i} a {b} {c} {d} {t} {o} k keeps good at class none e =
-    let A = bytes_of a.bytes in
-    let B = bytes_of b.bytes in
-    let C = bytes_of c.bytes in
-    let low = place_behind i in
-    let high = place-high i in
-    let before = of_all i (SameBlock A B) keeps.blocks in
+    let A = bytes_of a.bytes in let B = bytes_of b.bytes in
+    let C = bytes_of c.bytes in let low = place_behind i in
+    let high = place-high i in let before = of_all i (SameBlock A B) keeps.blocks in
     let parts = all_of-inserted (SameBlock B C) (extents_of o) (live (with_table_of i d no_table)).extents e.blocks in
     let after = of_rest i (SameBlock B C) parts.1 in
     let all : OfRest i (SameBlock A C) d = record {
@@ -87,10 +77,9 @@ entered-denotes {i} a {b} {c} {d} {t} {o} k keeps good at class none e =
 -- the index had a place left
 pub entered-none : {i : Index} (a : Cut) {b : Cut} {c : Cut} {d : Directory} {o : Object} (at : ℕ)
     → Denotes current a.bytes d → IsMade a b o → IsIndexOf b (place_of i) (table_of i d) (entries_of i d)
-    → insert (entries_of i d) at (handle o.extent) ≡ entries_of i (with_object d o)
-    → Adds b c (place_of i) (table_of i d) (insert (entries_of i d) at (handle o.extent)) None
-    → LaysOut current c.bytes (live_of b.bytes) → AddKeeps b c (place_of i) (table_of i d) None
-    → IsEntered i b c d (table_of i d) o
+    → insert (entries_of i d) at (handle o.extent) ≡ entries_of i (with_object d o) → Adds b c (place_of i)
+    (table_of i d) (insert (entries_of i d) at (handle o.extent)) None → LaysOut current c.bytes (live_of b.bytes)
+    → AddKeeps b c (place_of i) (table_of i d) None → IsEntered i b c d (table_of i d) o
 entered-none {i} a {b} {c} {d} {o} at k m x e adds laid keeps =
     let ys = extents_of o in
     let same = taken-live a b (extents_of o) m.taken ∙ ap (λ l. adding l ys) (denotes-live current a.bytes d k) in
@@ -113,15 +102,13 @@ grown_into i d x = record { capacity = grown_capacity (table_of i d).capacity; e
 
 -- the index grew into a new block
 pub entered-some : {i : Index} {a m b : Cut} {c : Cut} {d : Directory} {o : Object} (at : ℕ) {n h : ℕ}
-    → Denotes current a.bytes d → (g : IsAllocated current a m n IndexRole h) → IsMade m b o
-    → IsIndexOf b (place_of i) (table_of i d) (entries_of i d)
-    → insert (entries_of i d) at (handle o.extent) ≡ entries_of i (with_object d o)
+    → Denotes current a.bytes d → (g : IsAllocated current a m n IndexRole h) → IsMade m b o → IsIndexOf b (place_of i)
+    (table_of i d) (entries_of i d) → insert (entries_of i d) at (handle o.extent) ≡ entries_of i (with_object d o)
     → Adds b c (place_of i) (table_of i d) (insert (entries_of i d) at (handle o.extent)) (Some h)
     → LaysOut current c.bytes (unlinked b (place_of i)) → AddKeeps b c (place_of i) (table_of i d) (Some h)
     → IsEntered i b c d (grown_into i d g.extent) o
 entered-some {i} {a} {m} {b} {c} {d} {o} at {n} {h} k g made x e adds laid keeps =
-    let ys = extents_of o in
-    let t = grown_into i d g.extent in
+    let ys = extents_of o in let t = grown_into i d g.extent in
     let mid =
     allocated-live current a m n IndexRole h g ∙ ap (λ l. added l g.extent) (denotes-live current a.bytes d k) in
     let left : unlinked b (place_of i) ≡ adding (live (with_table_of i d t)) ys =

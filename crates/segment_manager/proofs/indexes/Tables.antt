@@ -1,31 +1,28 @@
 -- The live set after one of the two indexes takes another block, loses its block, or has it shortened.
-use Rattle.segment_manager.proofs.Common.{◌≡◌, refl, sym, ap, subst, ◌∙◌, ℕ, ◌+◌, ◌≢◌, Some, None, Option, List, []}
-use Rattle.segment_manager.proofs.Common.{◌∷◌, ◌++◌, append_assoc, IsTrue, flat_map, option_to_list, option_map}
-use Rattle.segment_manager.proofs.Common.{AllByRecursion, Extent, LiveSet, handle, is_proper, others, added, released}
-use Rattle.segment_manager.proofs.Common.{resized, Table, no_table, Index, without_link, Directory, sorted, live}
-use Rattle.segment_manager.proofs.Common.{extents_of, table_extents, table_of, with_table_of}
+use Rattle.segment_manager.proofs as own
+use own.Common.{◌≡◌, refl, sym, ap, subst, ◌∙◌, ℕ, ◌+◌, ◌≢◌, Some, None, Option, List, [], ◌∷◌, ◌++◌, append_assoc}
+use own.Common.{IsTrue, flat_map, option_to_list, option_map, AllByRecursion, Extent, LiveSet, handle, is_proper}
+use own.Common.{others, added, released, resized, Table, no_table, Index, without_link, Directory, sorted, live}
+use own.Common.{extents_of, table_extents, table_of, with_table_of}
+use own.Order.{Differs, Rising, inserted, insert-inserted, sorted-append, all_of-sorted, live-rises, rising-insert}
+use own.{Order.rising-inserted, Order.apart-inserted, Order.others-insert, Live.adding, objects.Regrown.differs-flip}
+use Rattle.raw_region.proofs.Facts.{AllByRecursion-front, AllByRecursion-behind}
 use Rattle.std.proofs.lemmas.List.{append-nil}
 use Rattle.best_fit.specs.{Fit.insert, Table.table_link}
 use Rattle.best_fit.proofs.Laws.{insert-comm}
 use Rattle.seg_index.specs.declared.index.Index.TheVariants as index
-use Rattle.segment_manager.proofs.{Words.AllByRecursion-front, Words.AllByRecursion-behind, Order.Differs, Order.Rising}
-use Rattle.segment_manager.proofs.{Order.inserted, Order.insert-inserted, Order.sorted-append, Order.all_of-sorted}
-use Rattle.segment_manager.proofs.{Order.live-rises, Order.rising-insert, Order.rising-inserted, Order.apart-inserted}
-use Rattle.segment_manager.proofs.{Order.others-insert, Live.adding, objects.Regrown.differs-flip}
 
 -- ---- one extent in a list
 
 -- an extent in the middle of a list is put in last
 sorted-middle : (front back : List Extent) (x : Extent) → Differs x front
     → sorted (front ++ x ∷ back) ≡ insert x (sorted (front ++ back))
-sorted-middle front back x d =
-    sorted-append front (x ∷ back) ∙ sym (insert-inserted x front (sorted back) d)
+sorted-middle front back x d = sorted-append front (x ∷ back) ∙ sym (insert-inserted x front (sorted back) d)
     ∙ ap (insert x) (sym (sorted-append front back))
 
 -- it differs from those before it
 middle-apart : (front back : List Extent) (y : Extent) → Rising 128 (sorted (front ++ y ∷ back)) → Differs y front
-middle-apart front back y r =
-    differs-flip y front (apart-inserted 128 front (y ∷ []) (sorted back)
+middle-apart front back y r = differs-flip y front (apart-inserted 128 front (y ∷ []) (sorted back)
     (subst (Rising 128) (sorted-append front (y ∷ back)) r))
 
 -- without it
@@ -76,10 +73,8 @@ exchanged front back ys None x h =
     (rising-inserted 128 ys (insert x (sorted (front ++ back))) h).0).differs) in
     ap (inserted ys) (sym (sorted-middle front back x d))
 exchanged front back ys (Some y) x h =
-    let b = sorted (front ++ back) in
-    let s = sorted (front ++ y ∷ back) in
-    let w = inserted ys (insert x b) in
-    let f = rising-insert 128 x s (rising-inserted 128 ys (insert x s) h).0 in
+    let b = sorted (front ++ back) in let s = sorted (front ++ y ∷ back) in
+    let w = inserted ys (insert x b) in let f = rising-insert 128 x s (rising-inserted 128 ys (insert x s) h).0 in
     let e = sorted-middle front back y (middle-apart front back y f.rest) in
     let all = all_of-sorted (λ (z : Extent). x.offset ≢ z.offset) (front ++ y ∷ back) f.differs in
     let d = AllByRecursion-front (λ (z : Extent). x.offset ≢ z.offset) front (y ∷ back) all in
@@ -154,8 +149,7 @@ pub index-left_out : (i : Index) (d : Directory) (ys : List Extent) → Rising 1
     → left_out (table_of i d).extent (inserted ys (live d).extents) ≡ inserted ys
     (live (with_table_of i d no_table)).extents
 index-left_out i d ys h =
-    let f : List Extent = (around i d).front in
-    let b : List Extent = (around i d).back in
+    let f : List Extent = (around i d).front in let b : List Extent = (around i d).back in
     let old : Option Extent = (table_of i d).extent in
     let e : (live d).extents ≡ sorted (f ++ (option_to_list old ++ b)) = ap (λ (l : LiveSet). l.extents) (here i d) in
     ap (λ zs. left_out old (inserted ys zs)) e ∙ dropped f b ys old (subst (λ zs. Rising 128 (inserted ys zs)) e h)
@@ -166,10 +160,8 @@ pub live-moved_index : (i : Index) (d : Directory) (t : Table) (x : Extent) (ys 
     → IsTrue (is_proper (adding (added (live d) x) ys))
     → without_link (adding (added (live d) x) ys) (table_link (table_of i d)) ≡ adding (live (with_table_of i d t)) ys
 live-moved_index i d t x ys e h =
-    let f : List Extent = (around i d).front in
-    let b : List Extent = (around i d).back in
-    let old : Option Extent = (table_of i d).extent in
-    let xs = sorted (f ++ (option_to_list old ++ b)) in
+    let f : List Extent = (around i d).front in let b : List Extent = (around i d).back in
+    let old : Option Extent = (table_of i d).extent in let xs = sorted (f ++ (option_to_list old ++ b)) in
     let was : adding (added (live d) x) ys ≡ of_extents d (inserted ys (insert x xs)) =
     ap (λ l. adding (added l x) ys) (here i d) in
     let r = live-rises (of_extents d (inserted ys (insert x xs))) (subst (λ l. IsTrue (is_proper l)) was h) in
@@ -181,8 +173,7 @@ live-moved_index i d t x ys e h =
 pub live-no_index : (i : Index) (d : Directory) (t : Table) {y : Extent} → (table_of i d).extent ≡ Some y
     → t.extent ≡ None → IsTrue (is_proper (live d)) → released (live d) (handle y) ≡ live (with_table_of i d t)
 live-no_index i d t {y} e g h =
-    let f : List Extent = (around i d).front in
-    let b : List Extent = (around i d).back in
+    let f : List Extent = (around i d).front in let b : List Extent = (around i d).back in
     let was = here i d ∙ ap (λ (o : Option Extent). of_extents d (sorted (f ++ (option_to_list o ++ b)))) e in
     let r = live-rises (of_extents d (sorted (f ++ y ∷ b))) (subst (λ l. IsTrue (is_proper l)) was h) in
     let is = split i d t ∙ ap (λ (o : Option Extent). of_extents d (sorted (f ++ (option_to_list o ++ b)))) g in
@@ -193,8 +184,7 @@ pub live-resized_index : (i : Index) (d : Directory) (t : Table) (x : Extent) {y
     → (table_of i d).extent ≡ Some y → t.extent ≡ Some x → x.offset ≡ y.offset → IsTrue (is_proper (live d))
     → resized (live d) x ≡ live (with_table_of i d t)
 live-resized_index i d t x {y} e g o h =
-    let f : List Extent = (around i d).front in
-    let b : List Extent = (around i d).back in
+    let f : List Extent = (around i d).front in let b : List Extent = (around i d).back in
     let was = here i d ∙ ap (λ (o : Option Extent). of_extents d (sorted (f ++ (option_to_list o ++ b)))) e in
     let r = live-rises (of_extents d (sorted (f ++ y ∷ b))) (subst (λ l. IsTrue (is_proper l)) was h) in
     let is = split i d t ∙ ap (λ (o : Option Extent). of_extents d (sorted (f ++ (option_to_list o ++ b)))) g in
@@ -203,6 +193,5 @@ live-resized_index i d t x {y} e g o h =
 -- a directory whose index has no block before or after has the same live set
 pub live-same_index : (i : Index) (d : Directory) (t : Table) → t.extent ≡ (table_of i d).extent
     → live (with_table_of i d t) ≡ live d
-live-same_index i d t e =
-    split i d t ∙ ap (λ (o : Option Extent). of_extents d
+live-same_index i d t e = split i d t ∙ ap (λ (o : Option Extent). of_extents d
     (sorted ((around i d).front ++ (option_to_list o ++ (around i d).back)))) e ∙ sym (here i d)

@@ -59,15 +59,12 @@ not_read d (Pairs k v ps) i {r} e n = let why : WrongKind ≡ r = cc in ap Refus
 not_read d (Texts ps t) i e n = absurd (n refl)
 not_read d v i e n = absurd (cc)
 
-step-not_read : (mode : Mode) {d : Directory} {key : Key} (i : ℕ) {r : Refusal}
-    → ((o : Object) → object_at d key ≡ Some o → kind_of o.value ≡ StringsKind → ⊥) → HasNone d key r
-    → step mode d (asked.Get key i) ≡ (Refused r, d)
-step-not_read mode {d} {key} i n (Nowhere e f) =
-    step-refuse mode d (asked.Get key i) NotFound (open-reading mode (asked.Get key i) refl)
-    (with-not_found d key (λ o. get d o.value i) e) ∙ (λ j. (Refused (f j), d))
-step-not_read mode {d} {key} i {r} n (Other o e f) =
-    step-refuse mode d (asked.Get key i) r (open-reading mode (asked.Get key i) refl)
-    (with-found d key o (λ o. get d o.value i) e ∙ not_read d o.value i f (n o e))
+step-not_read : (mode : Mode) {d : Directory} {key : Key} (i : ℕ) {r : Refusal} → ((o : Object) → object_at d key ≡ Some
+    o → kind_of o.value ≡ StringsKind → ⊥) → HasNone d key r → step mode d (asked.Get key i) ≡ (Refused r, d)
+step-not_read mode {d} {key} i n (Nowhere e f) = step-refuse mode d (asked.Get key i) NotFound (open-reading mode
+    (asked.Get key i) refl) (with-not_found d key (λ o. get d o.value i) e) ∙ (λ j. (Refused (f j), d))
+step-not_read mode {d} {key} i {r} n (Other o e f) = step-refuse mode d (asked.Get key i) r (open-reading mode
+    (asked.Get key i) refl) (with-found d key o (λ o. get d o.value i) e ∙ not_read d o.value i f (n o e))
 
 abbrev reply_of : Mode → Directory → Command → Result ScalarKind Refusal → Answer
 reply_of mode d c q = elim q as (λ _. Answer) [ Err r ↦ Refused r | Ok k ↦ (step mode d c).0 ]
@@ -81,8 +78,7 @@ machine-if mode d key i (Err r) n e =
 
 -- the object of a key is no vector of texts
 abbrev pub HasNoTexts : State → Key → Type 0
-HasNoTexts s key =
-    (d : Directory) → StandsFor s.cut.bytes d → (o : Object) → object_at d key ≡ Some o
+HasNoTexts s key = (d : Directory) → StandsFor s.cut.bytes d → (o : Object) → object_at d key ≡ Some o
     → kind_of o.value ≡ StringsKind → ⊥
 
 -- a call that reads scalars alone answers as the machine where there are no texts
@@ -113,12 +109,10 @@ of_kind-replies {s} key {kind} c a f r = record {
 }
 
 -- it has no scalars
-pub of_kind-none : (s : State) (key : Key) (kind : Kind) (r : Refusal) (c : Command)
-    → Answers s (λ d. kind_at d key) (Ok kind) → elements_of kind ≡ Err r
-    → Answers s (λ d. scalar_reply s.mode d key c) (Refused r)
+pub of_kind-none : (s : State) (key : Key) (kind : Kind) (r : Refusal) (c : Command) → Answers s (λ d. kind_at d key)
+    (Ok kind) → elements_of kind ≡ Err r → Answers s (λ d. scalar_reply s.mode d key c) (Refused r)
 of_kind-none s key kind r c a f = record {
-  answers = λ d l.
-      sym (ap (reply_of s.mode d c) (elements-told d key kind (kind-told d key kind (a.answers d l)) ∙ f));
+  answers = λ d l. sym (ap (reply_of s.mode d c) (elements-told d key kind (kind-told d key kind (a.answers d l)) ∙ f));
 }
 
 -- neither scalars nor a vector of them nor a string
@@ -131,11 +125,9 @@ other-elements w n v t = refl
 
 -- an object that was located is of a kind that has scalars
 pub located-replies : (s : State) (key : Key) (o : Located) (l : IsLocated s key o) (kind : Kind) (k : ScalarKind)
-    (i : ℕ) (answer : Answer) → o.kind ≡ kind → elements_of kind ≡ Ok k
-    → IsReplyOfKind s (ByHandle o.handle) kind (asked.Get (ByHandle o.handle) i) answer
-    → Answers s (λ d. scalar_reply s.mode d key (asked.Get key i)) answer
-located-replies s key o l kind k i answer is f r =
-    of_kind-replies key (asked.Get key i)
+    (i : ℕ) (answer : Answer) → o.kind ≡ kind → elements_of kind ≡ Ok k → IsReplyOfKind s (ByHandle o.handle) kind
+    (asked.Get (ByHandle o.handle) i) answer → Answers s (λ d. scalar_reply s.mode d key (asked.Get key i)) answer
+located-replies s key o l kind k i answer is f r = of_kind-replies key (asked.Get key i)
     (subst (λ (n : Kind). Answers s (λ d. kind_at d key) (Ok n)) is (kind-by_key s key o l)) f
     (reply_of_kind-by_key s key o l kind (asked.Get key i) answer r)
 
@@ -193,9 +185,8 @@ set-plan d o (Bytes bs t) i {k} e =
 set-plan d o v i e = absurd (cc)
 
 set-effect : {d : Directory} {key : Key} {k : ScalarKind} (i : ℕ) (l : Literal) {r : Result ℤ Refusal}
-    (e : HasElements d key k) → value_of_literal k l ≡ r
-    → effect d (asked.Set key i l) ≡ set_with d e.object e.object.value i
-    (set-plan d e.object e.object.value i e.elements).0 r
+    (e : HasElements d key k) → value_of_literal k l ≡ r → effect d (asked.Set key i l) ≡ set_with d e.object
+    e.object.value i (set-plan d e.object e.object.value i e.elements).0 r
 set-effect {d} {key} i l e f =
     let p = set-plan d e.object e.object.value i e.elements in
     with-found d key e.object (λ o. set d o o.value i l) e.is ∙ p.1 l ∙ ap (set_with d e.object e.object.value i p.0) f
@@ -213,8 +204,7 @@ any-literal {old} {new} key {k} i l {z} {answer} a f v r =
 pub any-no_value : (s : State) (key : Key) (k : ScalarKind) (i : ℕ) (l : Literal) (r : Refusal)
     → Answers s (λ d. elements_at d key) (Ok k) → is_read_only s.mode ≡ false → value_of_literal k l ≡ Err r
     → IsStep s s (asked.Set key i l) (Refused r)
-any-no_value s key k i l r a writing f =
-    refused-steps s (asked.Set key i l) r writing
+any-no_value s key k i l r a writing f = refused-steps s (asked.Set key i l) r writing
     (λ d w. ap (perform d (live d)) (set-effect i l (has-elements d key (a.answers d w)) f))
 
 -- ---- objects of other kinds than texts

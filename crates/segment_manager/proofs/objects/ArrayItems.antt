@@ -1,15 +1,13 @@
 -- An array that is made of items: the call takes all of them, or none.
-use Rattle.segment_manager.proofs.Common.{◌≡◌, refl, sym, ap, subst, ◌∙◌, ℕ, ◌+◌, ◌*◌, ◌≤◌, ℤ, Bool, true, false}
-use Rattle.segment_manager.proofs.Common.{if◌then◌else◌, Option, Some, None, Result, Ok, Err, List, [], ◌∷◌, ◌++◌}
-use Rattle.segment_manager.proofs.Common.{length, map, replicate, arith, IfErr, MatchResult, nat_lt, pos, take, Yields}
-use Rattle.segment_manager.proofs.Common.{le-ltb, lt-ltb, length-map, length-replicate, take_all, ObjectRole, Extent}
-use Rattle.segment_manager.proofs.Common.{LiveSet, handle, resized, Class, Anonymous, ScalarKind, Refusal, Exists}
-use Rattle.segment_manager.proofs.Common.{NoSpace, OutOfRange, size_of, Key, Mode, Write, CopyOnWrite, Answer, Made}
-use Rattle.segment_manager.proofs.Common.{Refused, is_untouched, Numbers, Object, Directory, live, named_objects}
-use Rattle.segment_manager.proofs.Common.{object_at, object_len, padded, unique_objects, with_object, TakesItems}
-use Rattle.segment_manager.proofs.Common.{head_len, Need, New, Plan, Refuse, Reply, Request, class_of, met, name_of}
-use Rattle.segment_manager.proofs.Common.{perform, with_entry, with_new_object, IsStep, KeepsRefused, State, StandsFor}
-use Rattle.segment_manager.proofs.Common.{handle_answer, step}
+use Rattle.segment_manager.proofs as own
+use own.Common.{◌≡◌, refl, sym, ap, subst, ◌∙◌, ℕ, ◌+◌, ◌*◌, ◌≤◌, ℤ, Bool, true, false, if◌then◌else◌, Option, Some}
+use own.Common.{None, Result, Ok, Err, List, [], ◌∷◌, ◌++◌, length, map, replicate, arith, IfErr, MatchResult, nat_lt}
+use own.Common.{pos, take, Yields, le-ltb, lt-ltb, length-map, length-replicate, take_all, ObjectRole, Extent, LiveSet}
+use own.Common.{handle, resized, Class, Anonymous, ScalarKind, Refusal, Exists, NoSpace, OutOfRange, size_of, Key, Mode}
+use own.Common.{Write, CopyOnWrite, Answer, Made, Refused, is_untouched, Numbers, Object, Directory, live}
+use own.Common.{named_objects, object_at, object_len, padded, unique_objects, with_object, TakesItems, head_len, Need}
+use own.Common.{New, Plan, Refuse, Reply, Request, class_of, met, name_of, perform, with_entry, with_new_object, IsStep}
+use own.Common.{KeepsRefused, State, StandsFor, handle_answer, step}
 use Rattle.std.specs.Iterator.{YieldsFirst, YieldsThen}
 use Rattle.std.proofs.lemmas.List.{append-nil, length-append}
 use Rattle.seg_types.specs.declared.kinds.Class.TheVariants.{Named, Unique}
@@ -93,32 +91,28 @@ module _ (r : Refusal) (other : r ≡ OutOfRange → ⊥) where
       → length ws ≡ length zs → ((x : Extent) → IsSame (perform d (resized l x) (f x)) (perform d (resized l x) (g x)))
       → IsSame (perform d l (Request (New ObjectRole (object_len (name_of key) (Numbers k zs))) f))
       (perform d l (Request (New ObjectRole (object_len (name_of key) (Numbers k ws))) g))
-  object-same d l key k zs ws f g long h refused =
-      ap (λ n. perform d l (Request (New ObjectRole n) g))
+  object-same d l key k zs ws f g long h refused = ap (λ n. perform d l (Request (New ObjectRole n) g))
       (ap (λ n. head_len + padded (length (name_of key)) + size_of k * n) long)
       ∙ request-same d l (New ObjectRole (object_len (name_of key) (Numbers k zs))) f g h refused
 
   new-same : (d : Directory) (l : LiveSet) (key : Key) (k : ScalarKind) (zs ws : List ℤ) → length ws ≡ length zs
       → IsSame (perform d l (with_new_object d key (asked.Numbers k zs) (λ o e. Reply (Refused OutOfRange) d)))
       (perform d l (with_new_object d key (asked.Numbers k ws) (λ o e. Reply (Made (handle o.extent)) e)))
-  new-same d l key k zs ws long =
-      entry-same d l (class_of key) _ _ (λ e m. object-same d m key k zs ws (λ x. Reply (Refused OutOfRange) d)
-      (λ x. Reply (Made (handle x))
-      (with_object e (record { class = class_of key; name = name_of key; value = Numbers k ws; extent = x })))
-      long (λ x refused. absurd (other (cc))))
+  new-same d l key k zs ws long = entry-same d l (class_of key) _ _ (λ e m. object-same d m key k zs ws
+      (λ x. Reply (Refused OutOfRange) d) (λ x. Reply (Made (handle x)) (with_object e
+      (record { class = class_of key; name = name_of key; value = Numbers k ws; extent = x }))) long (λ x refused.
+      absurd (other (cc))))
 
   items-same : (d : Directory) (l : LiveSet) (key : Key) (k : ScalarKind) {n : ℕ} (zs : List ℤ) (found : Option Object)
       → 1 ≤ n → length zs ≡ n → IsSame (perform d l (from-items d key k n [] found))
       (perform d l (from-items d key k n zs found))
   items-same d l key k zs (Some o) some long refused = refl
   items-same d l key k {n} zs None some long refused =
-      let few = lt-ltb 0 n some in
-      let told = refused ∙ ap (λ b. (perform d l (by-items d key k n [] b)).0) few in
+      let few = lt-ltb 0 n some in let told = refused ∙ ap (λ b. (perform d l (by-items d key k n [] b)).0) few in
       ap (λ b. perform d l (by-items d key k n zs b)) (le-ltb (length zs) n (omega arith))
-      ∙ ap (λ ws. perform d l (with_new_object d key (asked.Numbers k ws)
-      (λ o e. Reply (Made (handle o.extent)) e))) (take_all n zs (omega arith))
-      ∙ new-same d l key k (replicate n (pos 0)) zs (long ∙ sym (length-replicate n (pos 0))) told
-      ∙ ap (λ b. perform d l (by-items d key k n [] b)) (sym few)
+      ∙ ap (λ ws. perform d l (with_new_object d key (asked.Numbers k ws) (λ o e. Reply (Made (handle o.extent))
+      e))) (take_all n zs (omega arith)) ∙ new-same d l key k (replicate n (pos 0)) zs (long
+      ∙ sym (length-replicate n (pos 0))) told ∙ ap (λ b. perform d l (by-items d key k n [] b)) (sym few)
 
   step-same : (mode : Mode) (d : Directory) (key : Key) (k : ScalarKind) (n : ℕ) (zs : List ℤ) → 1 ≤ n → length zs ≡ n
       → IsSame (step mode d (asked.ConstructIt key k n [])) (step mode d (asked.ConstructIt key k n zs))
@@ -159,8 +153,7 @@ module _ {S A : Type 0} (items : S → List A) {whole : A → ℤ} {old new : St
   enough xs r h e =
       let until : TakesUntil (YieldsFirst items) n w xs t OutOfRange =
       subst (TakesUntil (YieldsFirst items) n w xs t) e h in
-      let all = taken-until items w t xs until.0 in
-      let fewer = until.1 in
+      let all = taken-until items w t xs until.0 in let fewer = until.1 in
       omega arith
 
   abbrev IsTaken : List A → Result ℕ Refusal → Type 0
@@ -170,12 +163,10 @@ module _ {S A : Type 0} (items : S → List A) {whole : A → ℤ} {old new : St
   step-of : {numbers : List ℤ} → map whole (items w) ≡ numbers → 1 ≤ n → (xs : List A) (q : Result ℕ Refusal)
       → IsTaken xs q → IsStep old new (asked.ConstructIt key k n (map whole xs)) (handle_answer q)
       → IsStep old new (asked.ConstructIt key k n numbers) (handle_answer q)
-  step-of are some xs (Ok h) taken step =
-      subst (λ (zs : List ℤ). IsStep old new (asked.ConstructIt key k n zs) (Made h))
-      (ap (map whole) (taken-all items w t taken.0 (taken.1 ∙ sym long)) ∙ are) step
+  step-of are some xs (Ok h) taken step = subst (λ (zs : List ℤ). IsStep old new (asked.ConstructIt key k n zs)
+      (Made h)) (ap (map whole) (taken-all items w t taken.0 (taken.1 ∙ sym long)) ∙ are) step
   step-of {numbers} are some xs (Err r) taken step =
-      let other = enough xs r taken in
-      let none : map whole xs ≡ [] = ap (map whole) (early r other taken) in
+      let other = enough xs r taken in let none : map whole xs ≡ [] = ap (map whole) (early r other taken) in
       refused-array r other key k numbers some (ap length (sym are) ∙ length-map (items w) whole ∙ long)
       (subst (λ (zs : List ℤ). IsStep old new (asked.ConstructIt key k n zs) (Refused r)) none step)
 

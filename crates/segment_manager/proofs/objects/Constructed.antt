@@ -1,25 +1,21 @@
 -- An object made under a key with an entry: what the bytes denote, and what the machine does.
-use Rattle.segment_manager.proofs.Common.{◌≡◌, refl, sym, ap, subst, ◌∙◌, ℕ, ◌*◌, ◌<◌, ◌≤◌, inl, inr, ℤ, Some, None}
-use Rattle.segment_manager.proofs.Common.{Option, List, length, arith, insert, Cut, bytes_of, current, ObjectRole}
-use Rattle.segment_manager.proofs.Common.{IndexRole, Extent, LiveSet, handle, added, place, resized, Keeps, LaysOut}
-use Rattle.segment_manager.proofs.Common.{live_of, Table, allocated-live, keeps-trans, Kind, Scalar, ScalarKind}
-use Rattle.segment_manager.proofs.Common.{Content, Index, Absent, AddKeeps, Adds, IsGrowth, grown_bytes, IsIndexOf}
-use Rattle.segment_manager.proofs.Common.{entry_count, place_of, grown_capacity, IsPlace, Refused, Denotes, Value}
-use Rattle.segment_manager.proofs.Common.{Numbers, Object, Directory, count_of, extents_of, kind_of, live, object_len}
-use Rattle.segment_manager.proofs.Common.{with_object, IsDenied, IsGiven, class_of_index, entries_of, objects_of}
-use Rattle.segment_manager.proofs.Common.{table_of, with_table_of, IsNewKeyOf, IsRequested, IsRestored, Plan, New}
-use Rattle.segment_manager.proofs.Common.{Request, bare, class_of, name_of, perform, with_entry, with_new_object}
-use Rattle.segment_manager.proofs.objects.Requests.{entry-grows, entry-refused, entry-room}
-use Rattle.segment_manager.proofs.indexes.Tabled.{IsEntered, entered-denotes, entered-none, entered-some, grown_into}
-use Rattle.segment_manager.proofs.objects.NewKeys.{key-class, key-has, key-name, key-own, key-seeks, object_of}
-use Rattle.segment_manager.proofs.{Common.with_value, Common.NoSpace, indexes.Bridge.entry-added}
-use Rattle.segment_manager.proofs.{indexes.Bridge.lookup-absent, Calling.denotes-live, Kept.denotes-kept}
-use Rattle.segment_manager.proofs.{objects.Taking.IsMade, objects.Taking.taken-index, Steps.perform-new}
-use Rattle.segment_manager.proofs.{Steps.perform-no_space, indexes.Tables.same-table, objects.Taking.growth-index}
-use Rattle.segment_manager.proofs.{indexes.HeldIndexes.denotes-index, Denoted.handles-length}
+use Rattle.segment_manager.proofs as own
+use own.Common.{◌≡◌, refl, sym, ap, subst, ◌∙◌, ℕ, ◌*◌, ◌<◌, ◌≤◌, inl, inr, ℤ, Some, None, Option, List, length, arith}
+use own.Common.{insert, Cut, bytes_of, current, ObjectRole, IndexRole, Extent, LiveSet, handle, added, place, resized}
+use own.Common.{Keeps, LaysOut, live_of, Table, allocated-live, keeps-trans, Kind, Scalar, ScalarKind, Content, Index}
+use own.Common.{Absent, AddKeeps, Adds, IsGrowth, grown_bytes, IsIndexOf, entry_count, place_of, grown_capacity}
+use own.Common.{IsPlace, Refused, Denotes, Value, Numbers, Object, Directory, count_of, extents_of, kind_of, live}
+use own.Common.{object_len, with_object, IsDenied, IsGiven, class_of_index, entries_of, objects_of, table_of}
+use own.Common.{with_table_of, IsNewKeyOf, IsRequested, IsRestored, Plan, New, Request, bare, class_of, name_of}
+use own.Common.{perform, with_entry, with_new_object, with_value, NoSpace}
+use own.objects.Requests.{entry-grows, entry-refused, entry-room}
+use own.indexes.Tabled.{IsEntered, entered-denotes, entered-none, entered-some, grown_into}
+use own.objects.NewKeys.{key-class, key-has, key-name, key-own, key-seeks, object_of}
+use own.{indexes.Bridge.entry-added, indexes.Bridge.lookup-absent, Calling.denotes-live, Kept.denotes-kept}
+use own.{objects.Taking.IsMade, objects.Taking.taken-index, objects.Taking.growth-index, Steps.perform-new}
+use own.{Steps.perform-no_space, indexes.Tables.same-table, indexes.HeldIndexes.denotes-index, Denoted.handles-length}
 use Rattle.best_fit.proofs.Laws.{AllByRecursion-insert}
-use Rattle.seg_index.specs.declared.keys.Key.{Key}
-use Rattle.seg_index.specs.Growth.{grown_live}
+use Rattle.seg_index.specs.{declared.keys.Key.Key, Growth.grown_live}
 use Rattle.segment_manager.specs.objects.NewObjects.{FindsNone}
 use Rattle.seg_index.proofs.Laws.{place_behind, place_small}
 use Rattle.seg_types.specs.Names as names
@@ -53,9 +49,8 @@ pub record IsMet (d : Directory) (key : names.Key) (content : Content) : Type 0 
 -- the same blocks are in use, and nothing in them changed: the bytes denote the same directory
 pub restored-denotes : (a c : Cut) (d : Directory) → Denotes current a.bytes d → IsRestored a c
     → Denotes current c.bytes d
-restored-denotes a c d said r =
-    denotes-kept a c said (subst (LaysOut current c.bytes) (denotes-live current a.bytes d said) r.laid)
-    (subst (λ (l : LiveSet). Keeps a c l.extents) (denotes-live current a.bytes d said) r.keeps)
+restored-denotes a c d said r = denotes-kept a c said (subst (LaysOut current c.bytes) (denotes-live current a.bytes d
+    said) r.laid) (subst (λ (l : LiveSet). Keeps a c l.extents) (denotes-live current a.bytes d said) r.keeps)
 
 -- ---- the index grows, or not
 
@@ -98,14 +93,12 @@ keeps-front b c x l k = record {
 
 pub grows-keeps : (i : Index) (a b c : Cut) {d : Directory} (g : Option ℕ) → Denotes current a.bytes d
     → IsGrowth a b (place_of i) g → Keeps b c (live_of b.bytes).extents → Keeps a c (live d).extents
-grows-keeps i a b c {d} None k h keeps =
-    subst (λ (l : LiveSet). Keeps a c l.extents) (denotes-live current a.bytes d k)
+grows-keeps i a b c {d} None k h keeps = subst (λ (l : LiveSet). Keeps a c l.extents) (denotes-live current a.bytes d k)
     (subst (λ (x : Cut). Keeps x c (live_of x.bytes).extents) h.1 keeps)
-grows-keeps i a b c {d} (Some g) k h keeps =
-    subst (λ (l : LiveSet). Keeps a c l.extents) (denotes-live current a.bytes d k)
-    (keeps-trans a b c (live_of a.bytes).extents h.1.keeps (keeps-front b c h.1.extent (live_of a.bytes)
-    (subst (λ (l : LiveSet). Keeps b c l.extents)
-    (allocated-live current a b (grown_bytes a (place_of i)) IndexRole g h.1) keeps)))
+grows-keeps i a b c {d} (Some g) k h keeps = subst (λ (l : LiveSet). Keeps a c l.extents) (denotes-live current a.bytes
+    d k) (keeps-trans a b c (live_of a.bytes).extents h.1.keeps (keeps-front b c h.1.extent (live_of a.bytes)
+    (subst (λ (l : LiveSet). Keeps b c l.extents) (allocated-live current a b (grown_bytes a (place_of i)) IndexRole g
+    h.1) keeps)))
 
 -- ---- the entry is there
 
@@ -120,12 +113,11 @@ grown-is i d a b None h = sym (same-table i)
 grown-is i d a b (Some g) h = refl
 
 entered : {i : Index} (a b : Cut) {c : Cut} {e : Cut} {d : Directory} {o : Object} (at : ℕ) (g : Option ℕ)
-    → Denotes current a.bytes d → (h : IsGrowth a b (place_of i) g) → IsMade b c o
-    → IsIndexOf c (place_of i) (table_of i d) (entries_of i d)
-    → insert (entries_of i d) at (handle o.extent) ≡ entries_of i (with_object d o)
-    → Adds c e (place_of i) (table_of i d) (insert (entries_of i d) at (handle o.extent)) g
-    → LaysOut current e.bytes (grown_live c (place_of i) g) → AddKeeps c e (place_of i) (table_of i d) g
-    → IsEntered i c e d (table_then i d a b g h) o
+    → Denotes current a.bytes d → (h : IsGrowth a b (place_of i) g) → IsMade b c o → IsIndexOf c (place_of i)
+    (table_of i d) (entries_of i d) → insert (entries_of i d) at (handle o.extent) ≡ entries_of i (with_object d o)
+    → Adds c e (place_of i) (table_of i d) (insert (entries_of i d) at (handle o.extent)) g → LaysOut current e.bytes
+    (grown_live c (place_of i) g) → AddKeeps c e (place_of i) (table_of i d) g → IsEntered i c e d (table_then i d a b g
+    h) o
 entered a b {c} {o} at None k h made x same adds laid keeps =
     entered-none a at k (subst (λ (s : Cut). IsMade s c o) h.1 made) x same adds laid keeps
 entered a b at (Some g) k h made x same adds laid keeps = entered-some at k h.1 made x same adds laid keeps
@@ -167,17 +159,15 @@ module _ (i : Index) (a : Cut) (d : Directory) (e : Key) (key : names.Key) (name
 
   -- the requests are met
   pub content-met : (b : Cut) {x : Extent} (v : Value) (left : LiveSet) (g : Option ℕ)
-      → (grows : IsGrowth a b (place_of i) g)
-      → place (live_of b.bytes) (object_len name (bare content)) ObjectRole ≡ Some x
-      → IsGiven d (resized (live_of b.bytes) x) content v left → (next : Object → Directory → Plan)
+      → (grows : IsGrowth a b (place_of i) g) → place (live_of b.bytes) (object_len name (bare content))
+      ObjectRole ≡ Some x → IsGiven d (resized (live_of b.bytes) x) content v left → (next : Object → Directory → Plan)
       → perform d (live d) (with_new_object d key content next) ≡ perform d left
       (next (object_of i name v x) (with_object (grown i d a b g grows) (object_of i name v x)))
   content-met b {x} v left g grows placed given next =
       let then = grown i d a b g grows in
       ap (perform d (live d)) (plan-of next) ∙ grows-performs i a b g (object_plan i name content next) said grows
-      ∙ perform-new d (live_of b.bytes) ObjectRole (object_len name (bare content))
-      (value_plan i name content next then) x placed
-      ∙ given.met (λ v. next (object_of i name v x) (with_object then (object_of i name v x)))
+      ∙ perform-new d (live_of b.bytes) ObjectRole (object_len name (bare content)) (value_plan i name content next
+      then) x placed ∙ given.met (λ v. next (object_of i name v x) (with_object then (object_of i name v x)))
 
   -- the value's are refused
   pub content-denied : (b : Cut) {x : Extent} (g : Option ℕ) → (grows : IsGrowth a b (place_of i) g)
@@ -187,24 +177,21 @@ module _ (i : Index) (a : Cut) (d : Directory) (e : Key) (key : names.Key) (name
   content-denied b {x} g grows placed denied next =
       let then = grown i d a b g grows in
       ap (perform d (live d)) (plan-of next) ∙ grows-performs i a b g (object_plan i name content next) said grows
-      ∙ perform-new d (live_of b.bytes) ObjectRole (object_len name (bare content))
-      (value_plan i name content next then) x placed
-      ∙ denied (λ v. next (object_of i name v x) (with_object then (object_of i name v x)))
+      ∙ perform-new d (live_of b.bytes) ObjectRole (object_len name (bare content)) (value_plan i name content next
+      then) x placed ∙ denied (λ v. next (object_of i name v x) (with_object then (object_of i name v x)))
 
   -- the index's or the object's are
   pub content-none : (next : Object → Directory → Plan) (n : ℕ) → n ≡ object_len name (bare content)
       → FindsNone a (place_of i) n → perform d (live d) (with_new_object d key content next) ≡ (Refused NoSpace, d)
   content-none next n len (inl full) =
       let x = denotes-index i a said in
-      ap (perform d (live d)) (plan-of next)
-      ∙ entry-refused i d (object_plan i name content next) (omega (arith, full.0, count-is i d x, x.stands.capacity))
-      (sym (λ j. place (denotes-live current a.bytes d said j) (8 * grown_capacity (x.stands.capacity j)) IndexRole)
-      ∙ full.1)
-  content-none next n len (inr r) =
-      ap (perform d (live d)) (plan-of next) ∙ grows-performs i a r.1 r.0 (object_plan i name content next) said r.2
-      ∙ perform-no_space d (live_of r.1.bytes) ObjectRole (object_len name (bare content))
-      (value_plan i name content next (grown i d a r.1 r.0 r.2))
-      (ap (λ m. place (live_of r.1.bytes) m ObjectRole) (sym len) ∙ r.3)
+      ap (perform d (live d)) (plan-of next) ∙ entry-refused i d (object_plan i name content next)
+      (omega (arith, full.0, count-is i d x, x.stands.capacity)) (sym (λ j. place (denotes-live current a.bytes d
+      said j) (8 * grown_capacity (x.stands.capacity j)) IndexRole) ∙ full.1)
+  content-none next n len (inr r) = ap (perform d (live d)) (plan-of next) ∙ grows-performs i a r.1 r.0 (object_plan i
+      name content next) said r.2 ∙ perform-no_space d (live_of r.1.bytes) ObjectRole (object_len name (bare content))
+      (value_plan i name content next (grown i d a r.1 r.0 r.2)) (ap (λ m. place (live_of r.1.bytes) m ObjectRole)
+      (sym len) ∙ r.3)
 
   -- the object is made, and its entry is added
   pub content-entered : (b w : Cut) {c : Cut} {x : Extent} {v : Value} {left : LiveSet} (at : ℕ) {h : ℕ} (g : Option ℕ)
@@ -228,8 +215,7 @@ module _ (i : Index) (a : Cut) (d : Directory) (e : Key) (key : names.Key) (name
         left = left;
         at = is;
         count = counts;
-        met = λ next.
-            content-met b v left g grows placed given next
+        met = λ next. content-met b v left g grows placed given next
             ∙ ap (λ dir. perform d left (next o (with_object dir o))) (grown-is i d a b g grows);
         denotes = entered-denotes a said (grows-keeps i a b w g said grows made.taken.keeps) made.good made.at refl
             (key-own i e key name v d x new' none) there;
@@ -249,7 +235,6 @@ module _ (i : Index) {a : Cut} {d : Directory} (e : Key) {key : names.Key} (name
         after = with_object (grown i d a r.between g r.grows) (object_of i name (Numbers k zs) x);
         left = resized (live_of r.between.bytes) x;
         met = content-met i a d e key name (Scalar k) (asked.Numbers k zs) said new r.between (Numbers k zs)
-            (resized (live_of r.between.bytes) x) g r.grows
-            (ap (λ j. place (live_of r.between.bytes) j ObjectRole) (sym len) ∙ r.takes.placed)
-            (record { met = λ next. refl });
+            (resized (live_of r.between.bytes) x) g r.grows (ap (λ j. place (live_of r.between.bytes) j ObjectRole)
+            (sym len) ∙ r.takes.placed) (record { met = λ next. refl });
       }

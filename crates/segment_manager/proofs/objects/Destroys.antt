@@ -1,33 +1,30 @@
 -- The object of a handle and its own entry, and what it is to destroy an object.
-use Rattle.segment_manager.proofs.Common.{◌≡◌, refl, sym, ap, subst, ◌∙◌, ℕ, true, false, ◌==◌, Some, None, Option}
-use Rattle.segment_manager.proofs.Common.{List, bytes_of, current, handle, Class, class_code, Index, Absent, IsPlace}
-use Rattle.segment_manager.proofs.Common.{Object, Directory, is_class, object_at, IsAnonymousAt, IsSegment, State}
-use Rattle.segment_manager.proofs.Common.{StandsFor, ◌<◌, [], ◌∷◌, arith, remove, slice_get, same_Some}
-use Rattle.segment_manager.proofs.Common.{slice_get_within, Cut, SamePlace-trans, IsReleased, LaysOut, is_live_in}
-use Rattle.segment_manager.proofs.Common.{live_of, Table, lay_out_one, NotFound, Found, KeepsRest, beside_table}
-use Rattle.segment_manager.proofs.Common.{HasIndex, IsIndexOf, entry_count, place_of, Refused, Truth, Denotes, Becomes}
-use Rattle.segment_manager.proofs.Common.{Empties, HoldsObject, emptied, without_object, Seeks, class_of_index}
-use Rattle.segment_manager.proofs.Common.{entries_of, objects_of, order_of, table_of, Plan, Reply, IsStep, changed}
-use Rattle.segment_manager.proofs.Common.{is_read_only}
-use Rattle.segment_manager.proofs.indexes.Bridge.{lookup-absent, IsEntryFor, entry-removed, in-handles}
+use Rattle.segment_manager.proofs.Common.{◌≡◌, sym, ap, ◌∙◌, ◌<◌, [], ◌∷◌, Cut}
+use Rattle.segment_manager.proofs.Common.{refl, true, ◌==◌, Some, None, List, Table, Found, Truth, Seeks, Plan, Reply}
+use Rattle.segment_manager.proofs.Common.{subst, Directory, IsReleased, is_live_in, HoldsObject, entries_of, objects_of}
+use Rattle.segment_manager.proofs.Common.{ℕ, Option, handle, Class, Index, Absent, Object, State, arith, remove, IsStep}
+use Rattle.segment_manager.proofs.Common.{false, LaysOut, live_of, Refused, Denotes, Becomes, Empties, emptied, changed}
+use Rattle.segment_manager.proofs.Common.{bytes_of, IsAnonymousAt, lay_out_one, beside_table, entry_count, is_read_only}
+use Rattle.segment_manager.proofs.Common.{current, IsPlace, is_class, NotFound, HasIndex, place_of, order_of, table_of}
+use Rattle.segment_manager.proofs.Common.{class_code, slice_get_within, SamePlace-trans, without_object, class_of_index}
+use Rattle.segment_manager.proofs.Common.{object_at, IsSegment, StandsFor, slice_get, same_Some, KeepsRest, IsIndexOf}
+use Rattle.segment_manager.proofs.indexes.Bridge.{lookup-absent, IsEntryFor, entry-removed, in-handles, lookup-found}
 use Rattle.segment_manager.proofs.containers.Emptied.{changed-entries, changed-in, changed-others, emptied-is}
 use Rattle.segment_manager.proofs.Steps.{by_no_change, by_step, lands, open-writing, step-refuse, step-reply}
 use Rattle.segment_manager.proofs.Calling.{denotes-live, denotes-released, object-live}
 use Rattle.segment_manager.proofs.indexes.EntryPlaces.{all-at, at-handle, of-class}
 use Rattle.segment_manager.proofs.indexes.OtherTables.{IsGone, IsLeft, removed-denotes}
-use Rattle.segment_manager.proofs.{indexes.Bridge.lookup-found, Steps.with-found, Steps.with-not_found}
-use Rattle.segment_manager.proofs.{containers.Safely.Stepped, containers.Safely.stepped}
-use Rattle.segment_manager.proofs.{objects.ObjectLists.found-handle, objects.ObjectLists.key-found}
-use Rattle.segment_manager.proofs.{indexes.HeldIndexes.denotes-index, Live.IsIn, objects.Ranks.all-ordered}
-use Rattle.segment_manager.proofs.{objects.Rewritten.with_value}
+use Rattle.segment_manager.proofs.containers.Safely.{Stepped, stepped}
+use Rattle.segment_manager.proofs.objects.ObjectLists.{found-handle, key-found}
+use Rattle.segment_manager.proofs.{Steps.with-found, Steps.with-not_found, indexes.HeldIndexes.denotes-index, Live.IsIn}
+use Rattle.segment_manager.proofs.{objects.Ranks.all-ordered, objects.Rewritten.with_value}
+use Rattle.seg_index.specs.{declared.keys.Key.Key, declared.keys.Lookup.Lookup}
+use Rattle.segment_manager.specs.indexes.Listed.{IsEntryAt}
+use Rattle.segment_manager.specs.objects.Destroyed.{HoldsEntry, RemovesAnonymous, RemovesEntry}
 use Rattle.seg_types.specs.declared.kinds.Class.TheVariants as class
 use Rattle.seg_types.specs.Names as names
 use Rattle.seg_types.specs.Commands as asked
 use Rattle.seg_index.specs.declared.index.Index.TheVariants as index
-use Rattle.seg_index.specs.declared.keys.Key.{Key}
-use Rattle.segment_manager.specs.indexes.Listed.{IsEntryAt}
-use Rattle.segment_manager.specs.objects.Destroyed.{HoldsEntry, RemovesAnonymous, RemovesEntry}
-use Rattle.seg_index.specs.declared.keys.Lookup.{Lookup}
 
 -- ---- an object with an entry
 
@@ -38,19 +35,17 @@ class-is i c e = absurd (cc)
 
 entry-class : (i : Index) (d : Directory) (at : ℕ) {o : Object} → slice_get (objects_of i d) at ≡ Some o
     → o.class ≡ class_of_index i
-entry-class i d at {o} e =
-    class-is i o.class (all-at (λ p. is_class (class_of_index i) p ≡ true) (objects_of i d) at
+entry-class i d at {o} e = class-is i o.class (all-at (λ p. is_class (class_of_index i) p ≡ true) (objects_of i d) at
     (all-ordered (λ p. is_class (class_of_index i) p ≡ true) (class_of_index i) (order_of i) d.objects
     (of-class (class_of_index i) d.objects)) e)
 
 -- it stands in the heap with the other entries
 pub entry-index : {c : Cut} {i : Index} {at : ℕ} → HoldsEntry c.bytes i at → HasIndex c (place_of i)
-entry-index {c} {i} x =
-    record {
-      table = table_of i x.directory;
-      handles = entries_of i x.directory;
-      index = denotes-index i c x.stands.denotes;
-    }
+entry-index {c} {i} x = record {
+  table = table_of i x.directory;
+  handles = entries_of i x.directory;
+  index = denotes-index i c x.stands.denotes;
+}
 
 pub entry-below : (c : Cut) {i : Index} {at : ℕ} → HoldsEntry c.bytes i at → at < entry_count c (place_of i)
 entry-below c {i} {at} x =
@@ -68,8 +63,7 @@ LeadsTo c i at h = (t : Table) (hs : List ℕ) → IsIndexOf c (place_of i) t hs
 module _ {a : Cut} (i : Index) (at : ℕ) {h : ℕ} (leads : LeadsTo a i at h) where
   entry-found : {d : Directory} {o : Object} → Denotes current a.bytes d → slice_get (objects_of i d) at ≡ Some o
       → object_at d (names.ByHandle h) ≡ Some o
-  entry-found {d} {o} k e =
-      subst (λ g. object_at d (names.ByHandle g) ≡ Some o) (sym (same_Some h (handle o.extent)
+  entry-found {d} {o} k e = subst (λ g. object_at d (names.ByHandle g) ≡ Some o) (sym (same_Some h (handle o.extent)
       (sym (leads (table_of i d) (entries_of i d) (denotes-index i a k)) ∙ at-handle (objects_of i d) at e)))
       (all-at (λ (p : Object). object_at d (names.ByHandle (handle p.extent)) ≡ Some p) (objects_of i d) at
       (in-handles i k.directory) e)
@@ -119,20 +113,18 @@ module _ {a b : Cut} (h : ℕ) (empties : Empties a b h) {d : Directory} {o : Ob
 
   -- an index has the entries that it had
   emptied-index : (i : Index) → IsIndexOf b (place_of i) (table_of i emptied_directory) (entries_of i d)
-  emptied-index i =
-      subst (IsIndexOf b (place_of i) (table_of i emptied_directory))
+  emptied-index i = subst (IsIndexOf b (place_of i) (table_of i emptied_directory))
       (changed-entries d o is-in i (emptied o.value) (emptied-is o.value).kind) (denotes-index i b emptied-denotes)
 
   -- where its own block was released and nothing else, and it has no key
   pub anonymous-gone : {c : Cut} → o.class ≡ class.Anonymous → IsReleased current b c h
       → Becomes a c (without_object d o)
-  anonymous-gone {c} is r =
-      record {
-        place = SamePlace-trans a b c (empties d o k e).place r.keeps.place;
-        denotes = subst (Denotes current c.bytes) (changed-others d o is-in (emptied o.value))
-            (denotes-released emptied_object emptied-denotes emptied-in is (emptied-is o.value).alone
-            (subst (IsReleased current b c) (found-handle h d.objects o (record { is = e })) r));
-      }
+  anonymous-gone {c} is r = record {
+    place = SamePlace-trans a b c (empties d o k e).place r.keeps.place;
+    denotes = subst (Denotes current c.bytes) (changed-others d o is-in (emptied o.value))
+        (denotes-released emptied_object emptied-denotes emptied-in is (emptied-is o.value).alone
+        (subst (IsReleased current b c) (found-handle h d.objects o (record { is = e })) r));
+  }
 
   -- where an entry was removed that it has, and then its own block was released
   entry-gone : {c f : Cut} {i : Index} {at : ℕ} → slice_get (objects_of i d) at ≡ Some o → IsUnlisted i b c at
@@ -141,8 +133,7 @@ module _ {a b : Cut} (h : ℕ) (empties : Empties a b h) {d : Directory} {o : Ob
       let t = table_of i emptied_directory in
       let released : IsReleased current c f (handle o.extent) =
       subst (IsReleased current c f) (found-handle h d.objects o (record { is = e })) r in
-      let rest = changed-others d o is-in (emptied o.value) in
-      let before = emptied-index i in
+      let rest = changed-others d o is-in (emptied o.value) in let before = emptied-index i in
       let less = entry-removed i at k.denotes.directory there ∙ ap (entries_of i) (sym rest) in
       let left : IsLeft i b c t (entries_of i (without_object emptied_directory emptied_object)) = record {
         live = u.live;
@@ -172,13 +163,12 @@ module _ {a b : Cut} {i : Index} {at h : ℕ} (leads : LeadsTo a i at h) (emptie
     }
 
     pub below-still : at < entry_count b (place_of i)
-    below-still =
-        omega (
-          arith,
-          (slice_get_within (entries_of i x.directory) at (handle x.object.extent)
-              (at-handle (objects_of i x.directory) at x.is)),
-          (emptied-index h empties x.stands held i).stands.count,
-        )
+    below-still = omega (
+      arith,
+      (slice_get_within (entries_of i x.directory) at (handle x.object.extent)
+          (at-handle (objects_of i x.directory) at x.is)),
+      (emptied-index h empties x.stands held i).stands.count,
+    )
 
     -- its block is in use, also where the entry is removed
     pub block-still : (c : Cut) → LaysOut current c.bytes (live_of b.bytes) → is_live_in (live_of c.bytes) h ≡ true
@@ -211,8 +201,7 @@ pub destroys-entered : {s t : State} (view : s ≡ t) (b : IsSegment s.cut.bytes
     (key : names.Key) (at : ℕ) → is_read_only t.mode ≡ false → Seeks i e key → Ends s.cut i e (Found at)
     → RemovesEntry s.cut c i at → Stepped s t c (asked.Destroy key) (Truth true)
 destroys-entered {s} {t} view b {c} i e key at may q p r =
-    stepped s t view b c (asked.Destroy key) (Truth true) may (λ writing.
-    by_step (asked.Destroy key) (record {
+    stepped s t view b c (asked.Destroy key) (Truth true) may (λ writing. by_step (asked.Destroy key) (record {
       mode = refl;
       place = let x = found-entry s.cut b i e key at q p in
           (r x.directory x.object x.stands x.is).place;
@@ -227,15 +216,13 @@ destroys-entered {s} {t} view b {c} i e key at may q p r =
     })))
 
 -- or there is none
-pub destroys-none : {s t : State} (view : s ≡ t) (i : Index) (e : Key) (key : names.Key) (at : ℕ)
-    → is_read_only t.mode ≡ false → Seeks i e key → Ends s.cut i e (Absent at)
-    → IsStep t t (asked.Destroy key) (Truth false)
+pub destroys-none : {s t : State} (view : s ≡ t) (i : Index) (e : Key) (key : names.Key) (at : ℕ) → is_read_only t.mode
+    ≡ false → Seeks i e key → Ends s.cut i e (Absent at) → IsStep t t (asked.Destroy key) (Truth false)
 destroys-none {s} view i e key at may q p =
     let writing : is_read_only s.mode ≡ false = subst (λ (u : State). is_read_only u.mode ≡ false) (sym view) may in
-    subst (λ (u : State). IsStep u u (asked.Destroy key) (Truth false)) view
-    (by_no_change s (asked.Destroy key) (Truth false) (λ d k.
-    step-reply s.mode d (asked.Destroy key) (Truth false) d (open-writing s.mode (asked.Destroy key) writing)
-    (ap (λ (r : Option Object).
+    subst (λ (u : State). IsStep u u (asked.Destroy key) (Truth false)) view (by_no_change s (asked.Destroy key)
+    (Truth false) (λ d k. step-reply s.mode d (asked.Destroy key) (Truth false) d (open-writing s.mode
+    (asked.Destroy key) writing) (ap (λ (r : Option Object).
     elim r as (λ _. Plan) [ None ↦ Reply (Truth false) d | Some o ↦ Reply (Truth true) (without_object d o) ])
     (lookup-absent i s.cut e key k.denotes q
     (p (table_of i d) (entries_of i d) (denotes-index i s.cut k.denotes))).none)))
@@ -243,10 +230,9 @@ destroys-none {s} view i e key at may q p =
 -- ---- destroying by a handle
 
 -- the object of the handle is gone from each directory
-destroys-object : {s : State} (c : Cut) (h : ℕ) → is_read_only s.mode ≡ false → IsSegment s.cut.bytes
-    → ((d : Directory) → StandsFor s.cut.bytes d
-    → (o : Object) × ((object_at d (names.ByHandle h) ≡ Some o) × Becomes s.cut c (without_object d o)))
-    → IsStep s (record s { cut = c }) (asked.DestroyPtr h) (Truth true)
+destroys-object : {s : State} (c : Cut) (h : ℕ) → is_read_only s.mode ≡ false → IsSegment s.cut.bytes → ((d : Directory)
+    → StandsFor s.cut.bytes d → (o : Object) × ((object_at d (names.ByHandle h) ≡ Some o)
+    × Becomes s.cut c (without_object d o))) → IsStep s (record s { cut = c }) (asked.DestroyPtr h) (Truth true)
 destroys-object {s} c h writing b each =
     by_step (asked.DestroyPtr h) (record { mode = refl; place = (each b.0 b.1).1.1.place }) (λ d k.
     let x = each d k in
@@ -272,10 +258,8 @@ module _ {s t : State} (view : s ≡ t) {h : ℕ} {i : Index} {at : ℕ} where
       → RemovesEntry s.cut c i at → Stepped s t c (asked.DestroyPtr h) (Truth true)
   destroys-ptr b {c} may listed r =
       let l = seen-entry listed in
-      stepped s t view b c (asked.DestroyPtr h) (Truth true) may (λ writing.
-      destroys-object c h writing b (λ d k.
-      let x = l.leads d k in
-      let there = found-for s.cut l.entry k.denotes x.seeks l.found in
+      stepped s t view b c (asked.DestroyPtr h) (Truth true) may (λ writing. destroys-object c h writing b (λ d k.
+      let x = l.leads d k in let there = found-for s.cut l.entry k.denotes x.seeks l.found in
       let same = same_Some there.object x.object (sym there.is ∙ x.found) in
       (x.object, (x.is, subst (λ o. Becomes s.cut c (without_object d o)) same (r d there.object k there.stands)))))
 
@@ -289,10 +273,8 @@ destroys-anonymous {s} {t} view b {c} h may listed r =
     destroys-object c h writing b (λ d k. let x = each d k in (x.0, (x.1, r d x.0 k x.1 x.2))))
 
 -- no object has the handle
-pub destroys-no_ptr : {s : State} (h : ℕ) → is_read_only s.mode ≡ false
-    → ((d : Directory) → StandsFor s.cut.bytes d → object_at d (names.ByHandle h) ≡ None)
-    → IsStep s s (asked.DestroyPtr h) (Refused NotFound)
-destroys-no_ptr {s} h writing each =
-    by_no_change s (asked.DestroyPtr h) (Refused NotFound) (λ d k.
+pub destroys-no_ptr : {s : State} (h : ℕ) → is_read_only s.mode ≡ false → ((d : Directory) → StandsFor s.cut.bytes d
+    → object_at d (names.ByHandle h) ≡ None) → IsStep s s (asked.DestroyPtr h) (Refused NotFound)
+destroys-no_ptr {s} h writing each = by_no_change s (asked.DestroyPtr h) (Refused NotFound) (λ d k.
     step-refuse s.mode d (asked.DestroyPtr h) NotFound (open-writing s.mode (asked.DestroyPtr h) writing)
     (with-not_found d (names.ByHandle h) (λ o. Reply (Truth true) (without_object d o)) (each d k)))

@@ -1,19 +1,18 @@
 -- Commands on elements by literals: which call is the step of the command, by the kind of the object.
-use Rattle.segment_manager.proofs.Common.{◌≡◌, refl, sym, ap, subst, ◌∙◌, ◌⊎◌, inl, inr, ℕ, ℤ, true, false, Option}
-use Rattle.segment_manager.proofs.Common.{Some, None, Result, Ok, Err, List, length, nat_lt, Table, Kind, MapKind}
-use Rattle.segment_manager.proofs.Common.{Scalar, StringsKind, Vector, ScalarKind, Refusal, NotFound, WrongKind}
-use Rattle.segment_manager.proofs.Common.{ScalarValue, is_value, Key, ByHandle, Literal, Quoted, literal_of}
-use Rattle.segment_manager.proofs.Common.{value_of_literal, kind_of_scalar, value_of_scalar, OwnedText, Located, Answer}
-use Rattle.segment_manager.proofs.Common.{Refused, elements_at, elements_of, kind_at, IsChangeable, IsToChange}
-use Rattle.segment_manager.proofs.Common.{IsUnchangeable, IsValueOf, Value, Elements, Pairs, Texts, Object, Directory}
-use Rattle.segment_manager.proofs.Common.{kind_of, IsLocated, Refuse, Answers, IsStep, IsStepOfKind, State, StandsFor}
+use Rattle.segment_manager.proofs.Common.{◌≡◌, true, Some, None, List, Kind, Value, Pairs, Texts, Refuse, IsStep, State}
+use Rattle.segment_manager.proofs.Common.{refl, NotFound, is_value, ByHandle, Elements, Directory, IsLocated, StandsFor}
+use Rattle.segment_manager.proofs.Common.{sym, ap, ◌∙◌, ◌⊎◌, inl, inr, ℕ, ℤ, Ok, Err, Key}
+use Rattle.segment_manager.proofs.Common.{subst, literal_of, OwnedText, elements_at, elements_of, IsToChange, IsValueOf}
+use Rattle.segment_manager.proofs.Common.{false, MapKind, Refusal, Literal, Located, Refused, kind_at, kind_of, Answers}
+use Rattle.segment_manager.proofs.Common.{Option, Result, length, nat_lt, Table, Scalar, Vector, Quoted, Answer, Object}
+use Rattle.segment_manager.proofs.Common.{StringsKind, WrongKind, ScalarValue, IsChangeable, IsStepOfKind, is_read_only}
+use Rattle.segment_manager.proofs.Common.{ScalarKind, value_of_literal, kind_of_scalar, value_of_scalar, IsUnchangeable}
 use Rattle.segment_manager.proofs.containers.AnyStorage.{IsOfKindAt, kind-told, of_kind-steps}
 use Rattle.segment_manager.proofs.containers.ContentPlans.{erase-other, insert-other, insert-plan, is_no_vector}
 use Rattle.segment_manager.proofs.containers.ContentPlans.{pop-other, push-other, push-plan}
-use Rattle.segment_manager.proofs.{Common.is_read_only, objects.AnyKind.any-literal}
-use Rattle.segment_manager.proofs.{objects.Locating.step_of_kind-by_key, Steps.with-found, Steps.with-not_found}
-use Rattle.segment_manager.proofs.{objects.Stored.literal-read, ElementLaws.same_plan-steps}
-use Rattle.segment_manager.proofs.{containers.Changeable.refuses, containers.Changeable.says-kind}
+use Rattle.segment_manager.proofs.containers.Changeable.{refuses, says-kind}
+use Rattle.segment_manager.proofs.{objects.AnyKind.any-literal, objects.Locating.step_of_kind-by_key, Steps.with-found}
+use Rattle.segment_manager.proofs.{Steps.with-not_found, objects.Stored.literal-read, ElementLaws.same_plan-steps}
 use Rattle.segment_manager.specs.containers.Changeable.{IsElement, IsNoElement}
 use Rattle.seg_types.specs.Commands as asked
 use Rattle.segment_manager.specs.Step as step
@@ -85,8 +84,7 @@ module _ {s : State} {key : Key} {o : Located} (h : IsToChange s key o)
   there {d} st = told (says-kind h.located refl) d st
 
   none : {d : Directory} (st : StandsFor s.cut.bytes d) → is_no_vector (there st).object.value ≡ true
-  none st =
-      no_vector-if (there st).object.value (λ k e. other k (sym (there st).kind_is ∙ e))
+  none st = no_vector-if (there st).object.value (λ k e. other k (sym (there st).kind_is ∙ e))
       (λ e. no_texts (sym (there st).kind_is ∙ e))
 
   pub no_vector-element : (l : Literal) → IsNoElement s key l WrongKind
@@ -102,8 +100,7 @@ module _ {s : State} {key : Key} {o : Located} (h : IsToChange s key o)
       refuses s (asked.Pop key) WrongKind h.writing (λ d st. pop-other d key (there st).object (there st).is (none st))
 
   pub erase-no_vector : (i : ℕ) → IsStep s s (asked.Erase key i) (Refused WrongKind)
-  erase-no_vector i =
-      refuses s (asked.Erase key i) WrongKind h.writing
+  erase-no_vector i = refuses s (asked.Erase key i) WrongKind h.writing
       (λ d st. erase-other d key (there st).object (there st).is (none st) i)
 
 -- ---- it is a vector
@@ -118,8 +115,7 @@ module _ {s : State} (key : Key) (k : ScalarKind) (a : Answers s (λ d. kind_at 
       → IsStep s new (asked.Push key l) answer
   push-read {new} l {z} {answer} e v r =
       same_plan-steps s new (asked.Push key l) (asked.Push key (literal_of k z)) answer refl (λ d st.
-      let f = told a d st in
-      let h = held st in
+      let f = told a d st in let h = held st in
       push-plan d key f.object k h.numbers h.table f.is h.is l (Ok z) e
       ∙ sym (push-plan d key f.object k h.numbers h.table f.is h.is (literal_of k z) (Ok z) (literal-read k z v)))
       (of_kind-steps s new key (Vector k) (asked.Push key (literal_of k z)) answer a r)
@@ -129,8 +125,7 @@ module _ {s : State} (key : Key) (k : ScalarKind) (a : Answers s (λ d. kind_at 
       → IsStep s new (asked.Insert key i l) answer
   insert-read {new} i l {z} {answer} e v r =
       same_plan-steps s new (asked.Insert key i l) (asked.Insert key i (literal_of k z)) answer refl (λ d st.
-      let f = told a d st in
-      let h = held st in
+      let f = told a d st in let h = held st in
       let outside = nat_lt (length h.numbers) i in
       insert-plan d key f.object k h.numbers h.table f.is h.is i l (Ok z) outside e refl
       ∙ sym (insert-plan d key f.object k h.numbers h.table f.is h.is i (literal_of k z) (Ok z) outside
@@ -140,9 +135,8 @@ module _ {s : State} (key : Key) (k : ScalarKind) (a : Answers s (λ d. kind_at 
   refused-element : {l : Literal} {why : Refusal} → is_read_only s.mode ≡ false → value_of_literal k l ≡ Err why
       → IsNoElement s key l why
   refused-element {l} {why} writing e = record {
-    push = refuses s (asked.Push key l) why writing
-        (λ d st. push-plan d key (told a d st).object k (held st).numbers (held st).table (told a d st).is
-        (held st).is l (Err why) e);
+    push = refuses s (asked.Push key l) why writing (λ d st. push-plan d key (told a d st).object k (held st).numbers
+        (held st).table (told a d st).is (held st).is l (Err why) e);
     insert = λ i. refuses s (asked.Insert key i l) why writing
         (λ d st. insert-plan d key (told a d st).object k (held st).numbers (held st).table (told a d st).is
         (held st).is i l (Err why) (nat_lt (length (held st).numbers) i) e refl);
@@ -168,15 +162,12 @@ module _ {s : State} {key : Key} {o : Located} (located : IsLocated s key o) {l 
     (e : IsElement s key l v) {new : State} {answer : Answer} where
   pub push-element : IsStepOfKind s new (ByHandle o.handle) (Vector (kind_of_scalar v))
       (asked.Push (ByHandle o.handle) (own v)) answer → IsStep s new (asked.Push key l) answer
-  push-element r =
-      push-read key (kind_of_scalar v) e.is l e.value e.range
+  push-element r = push-read key (kind_of_scalar v) e.is l e.value e.range
       (step_of_kind-by_key s key o located new (Vector (kind_of_scalar v)) (asked.Push key (own v)) answer r)
 
-  pub insert-element : (i : ℕ)
-      → IsStepOfKind s new (ByHandle o.handle) (Vector (kind_of_scalar v)) (asked.Insert (ByHandle o.handle) i (own v))
-      answer → IsStep s new (asked.Insert key i l) answer
-  insert-element i r =
-      insert-read key (kind_of_scalar v) e.is i l e.value e.range
+  pub insert-element : (i : ℕ) → IsStepOfKind s new (ByHandle o.handle) (Vector (kind_of_scalar v))
+      (asked.Insert (ByHandle o.handle) i (own v)) answer → IsStep s new (asked.Insert key i l) answer
+  insert-element i r = insert-read key (kind_of_scalar v) e.is i l e.value e.range
       (step_of_kind-by_key s key o located new (Vector (kind_of_scalar v)) (asked.Insert key i (own v)) answer r)
 
 -- ---- it is a vector of strings, and the literal no text
@@ -205,8 +196,7 @@ module _ {s : State} {key : Key} (h : IsChangeable s key StringsKind) {l : Liter
   owned st = texts-if (found st).object.value (found st).kind_is
 
   pub set-no_text : (i : ℕ) → IsStep s s (asked.Set key i l) (Refused WrongKind)
-  set-no_text i =
-      refuses s (asked.Set key i l) WrongKind h.writing (λ d st.
+  set-no_text i = refuses s (asked.Set key i l) WrongKind h.writing (λ d st.
       let o : Object = (found st).object in
       with-found d key o (λ o. step.set d o o.value i l) (found st).is ∙ ap (λ v. step.set d o v i l) (owned st).is
       ∙ not_set d o (owned st).texts (owned st).table i l n)
@@ -246,8 +236,7 @@ pub set-step : {old new : State} (key : Key) {k : ScalarKind} (i : ℕ) (l : Lit
     → Answers old (λ d. elements_at d key) (Ok k) → IsValueOf k (value_of_literal k l) (Ok v)
     → IsStep old new (asked.Set key i (literal_of (kind_of_scalar v) (value_of_scalar v))) answer
     → IsStep old new (asked.Set key i l) answer
-set-step {old} {new} key {k} i l v {answer} a (same, value, range) h =
-    any-literal key i l a value range
+set-step {old} {new} key {k} i l v {answer} a (same, value, range) h = any-literal key i l a value range
     (subst (λ j. IsStep old new (asked.Set key i (literal_of j (value_of_scalar v))) answer) same h)
 
 -- a map has none
@@ -258,7 +247,6 @@ no_map_set d o v i l k m e = absurd (cc)
 
 pub set-map : {s : State} {key : Key} {k m : ScalarKind} (i : ℕ) (l : Literal) → IsChangeable s key (MapKind k m)
     → IsStep s s (asked.Set key i l) (Refused WrongKind)
-set-map {s} {key} {k} {m} i l h =
-    refuses s (asked.Set key i l) WrongKind h.writing (λ d st. let f = told h.is d st in
+set-map {s} {key} {k} {m} i l h = refuses s (asked.Set key i l) WrongKind h.writing (λ d st. let f = told h.is d st in
     with-found d key f.object (λ o. step.set d o o.value i l) f.is
     ∙ no_map_set d f.object f.object.value i l k m f.kind_is)

@@ -1,15 +1,13 @@
 -- The elements of the object of a key, one after another: what a reading of one says of the list, and how long it is.
-use Rattle.segment_manager.proofs.Common.{◌≡◌, refl, sym, ap, ◌∙◌, ℕ, zero, suc, ℤ, Bool, true, false, Option, Some}
-use Rattle.segment_manager.proofs.Common.{None, Result, Ok, Err, List, [], ◌∷◌, length, map, if◌then◌else◌, option_map}
-use Rattle.segment_manager.proofs.Common.{slice_get, Kind, ScalarOf, StringsKind, ScalarKind, Refusal, NotFound}
-use Rattle.segment_manager.proofs.Common.{OutOfRange, WrongKind, same_kind, Key, OwnedText, Mode, Answer, Element}
-use Rattle.segment_manager.proofs.Common.{Refused, TextElement, sizes_of, sizes_of_kind, Value, Object, Directory}
-use Rattle.segment_manager.proofs.Common.{count_of, kind_of, live, object_at, first_size, length_at_kind}
-use Rattle.segment_manager.proofs.Common.{number_or_none, Reply, perform, with, answer_of, get, step_of_kind}
-use Rattle.segment_manager.proofs.Steps.{open-reading, step_of_kind-found, step_of_kind-not_found, step_of_kind-other}
-use Rattle.segment_manager.proofs.{Codes.numbers-only, containers.TextsHeld.texts-only}
-use Rattle.segment_manager.proofs.{containers.ItemSteps.vector-only, containers.ContentPlans.of_slice}
-use Rattle.segment_manager.proofs.{containers.TextPlans.text_in, Steps.with-found}
+use Rattle.segment_manager.proofs as own
+use own.Common.{◌≡◌, refl, sym, ap, ◌∙◌, ℕ, zero, suc, ℤ, Bool, true, false, Option, Some, None, Result, Ok, Err, List}
+use own.Common.{[], ◌∷◌, length, map, if◌then◌else◌, option_map, slice_get, Kind, ScalarOf, StringsKind, ScalarKind}
+use own.Common.{Refusal, NotFound, OutOfRange, WrongKind, same_kind, Key, OwnedText, Mode, Answer, Element, Refused}
+use own.Common.{TextElement, sizes_of, sizes_of_kind, Value, Object, Directory, count_of, kind_of, live, object_at}
+use own.Common.{first_size, length_at_kind, number_or_none, Reply, perform, with, answer_of, get, step_of_kind}
+use own.Steps.{open-reading, step_of_kind-found, step_of_kind-not_found, step_of_kind-other, with-found}
+use own.{Codes.numbers-only, containers.TextsHeld.texts-only, containers.ItemSteps.vector-only}
+use own.{containers.ContentPlans.of_slice, containers.TextPlans.text_in}
 use Rattle.seg_types.specs.declared.kinds.Kind.TheVariants.{Vector as VectorOf}
 use Rattle.segment_manager.specs.objects.ElementLists.{array_at, array_length_at, list_at, numbers_in, texts_at}
 use Rattle.segment_manager.specs.objects.ElementLists.{texts_in, vector_at}
@@ -24,15 +22,13 @@ got (Err why) = None
 
 pub none-listed : {A : Type 0} (items : Value → List A) (d : Directory) (key : Key) (kind : Kind)
     → object_at d key ≡ None → list_at items d key kind ≡ []
-none-listed {A} items d key kind e =
-    ap (λ (r : Option Object).
+none-listed {A} items d key kind e = ap (λ (r : Option Object).
     elim r as (λ _. List A) [ None ↦ [] | Some o ↦ if same_kind kind (kind_of o.value) then items o.value else [] ]) e
 
 pub list-of : {A : Type 0} (items : Value → List A) (d : Directory) (key : Key) (kind : Kind) (o : Object) (b : Bool)
     → object_at d key ≡ Some o → same_kind kind (kind_of o.value) ≡ b
     → list_at items d key kind ≡ (if b then items o.value else [])
-list-of {A} items d key kind o b e f =
-    ap (λ (r : Option Object).
+list-of {A} items d key kind o b e f = ap (λ (r : Option Object).
     elim r as (λ _. List A) [ None ↦ [] | Some o ↦ if same_kind kind (kind_of o.value) then items o.value else [] ]) e
     ∙ ap (λ b. if b then items o.value else []) f
 
@@ -60,21 +56,17 @@ module _ {A : Type 0} (says : A → Answer) (one : (a b : A) → says a ≡ says
     item-of : {o : Object} (b : Bool) → object_at d key ≡ Some o → same_kind kind (kind_of o.value) ≡ b
         → answer_of says r ≡ (step_of_kind mode d key kind (asked.Get key i)).0
         → got r ≡ slice_get (list_at items d key kind) i
-    item-of {o} false e g f =
-        not-got r WrongKind (f ∙ ap (λ (n : Answer × Directory). n.0)
+    item-of {o} false e g f = not-got r WrongKind (f ∙ ap (λ (n : Answer × Directory). n.0)
         (step_of_kind-other mode d key kind (asked.Get key i) o (open-reading mode (asked.Get key i) refl) e g))
         ∙ sym (ap (λ zs. slice_get zs i) (list-of items d key kind o false e g))
-    item-of {o} true e g f =
-        got-as r (slice_get (items o.value) i) (f ∙ ap (λ (n : Answer × Directory). n.0)
+    item-of {o} true e g f = got-as r (slice_get (items o.value) i) (f ∙ ap (λ (n : Answer × Directory). n.0)
         (step_of_kind-found mode d key kind (asked.Get key i) o (open-reading mode (asked.Get key i) refl) e g)
         ∙ ap (λ p. (perform d (live d) p).0) (with-found d key o (λ o. get d o.value i) e) ∙ gets o.value g)
         ∙ sym (ap (λ zs. slice_get zs i) (list-of items d key kind o true e g))
 
-    item-at : (p : Option Object) → object_at d key ≡ p
-        → answer_of says r ≡ (step_of_kind mode d key kind (asked.Get key i)).0
-        → got r ≡ slice_get (list_at items d key kind) i
-    item-at None e f =
-        not-got r NotFound (f ∙ ap (λ (n : Answer × Directory). n.0)
+    item-at : (p : Option Object) → object_at d key ≡ p → answer_of says r ≡ (step_of_kind mode d key kind
+        (asked.Get key i)).0 → got r ≡ slice_get (list_at items d key kind) i
+    item-at None e f = not-got r NotFound (f ∙ ap (λ (n : Answer × Directory). n.0)
         (step_of_kind-not_found mode d key kind (asked.Get key i) (open-reading mode (asked.Get key i) refl) e))
         ∙ sym (ap (λ zs. slice_get zs i) (none-listed items d key kind e))
     item-at (Some o) e f = item-of (same_kind kind (kind_of o.value)) e refl f
@@ -108,16 +100,14 @@ array-gets d k i v e =
 pub vector-read : (mode : Mode) (d : Directory) (key : Key) (k : ScalarKind) (i : ℕ) (r : Result ℤ Refusal)
     → answer_of (Element k) r ≡ (step_of_kind mode d key (VectorOf k) (asked.Get key i)).0
     → got r ≡ slice_get (vector_at d key k) i
-vector-read mode d key k i r f =
-    item-at (Element k) (number-one k) (number-some k) numbers_in mode d key (VectorOf k) i (vector-gets d k i) r
-    (object_at d key) refl f
+vector-read mode d key k i r f = item-at (Element k) (number-one k) (number-some k) numbers_in mode d key (VectorOf k) i
+    (vector-gets d k i) r (object_at d key) refl f
 
 pub array-read : (mode : Mode) (d : Directory) (key : Key) (k : ScalarKind) (i : ℕ) (r : Result ℤ Refusal)
     → answer_of (Element k) r ≡ (step_of_kind mode d key (ScalarOf k) (asked.Get key i)).0
     → got r ≡ slice_get (array_at d key k) i
-array-read mode d key k i r f =
-    item-at (Element k) (number-one k) (number-some k) numbers_in mode d key (ScalarOf k) i (array-gets d k i) r
-    (object_at d key) refl f
+array-read mode d key k i r f = item-at (Element k) (number-one k) (number-some k) numbers_in mode d key (ScalarOf k) i
+    (array-gets d k i) r (object_at d key) refl f
 
 -- texts
 got-map : (ps : List OwnedText) (i : ℕ)
@@ -139,12 +129,10 @@ texts-gets d i v e =
     ap (λ w. (perform d (live d) (get d w i)).0) is.1.1 ∙ text-told d (slice_get is.0 i)
     ∙ ap (told TextElement) (sym (got-map is.0 i)) ∙ sym (ap (λ w. told TextElement (slice_get (texts_in w) i)) is.1.1)
 
-pub text-read : (mode : Mode) (d : Directory) (key : Key) (i : ℕ) (r : Result (List ℕ) Refusal)
-    → answer_of TextElement r ≡ (step_of_kind mode d key StringsKind (asked.Get key i)).0
-    → got r ≡ slice_get (texts_at d key) i
-text-read mode d key i r f =
-    item-at TextElement (λ a b e. cc) (λ a why e. absurd (cc)) texts_in mode d key StringsKind i (texts-gets d i) r
-    (object_at d key) refl f
+pub text-read : (mode : Mode) (d : Directory) (key : Key) (i : ℕ) (r : Result (List ℕ) Refusal) → answer_of TextElement
+    r ≡ (step_of_kind mode d key StringsKind (asked.Get key i)).0 → got r ≡ slice_get (texts_at d key) i
+text-read mode d key i r f = item-at TextElement (λ a b e. cc) (λ a why e. absurd (cc)) texts_in mode d key StringsKind
+    i (texts-gets d i) r (object_at d key) refl f
 
 -- ---- how many
 
@@ -163,12 +151,10 @@ module _ {A : Type 0} (items : Value → List A) (say : Value → Result ℕ Ref
   many-if o false g = refl
   many-if o true g = ap number_or_none (only o.value g)
 
-  many-in : (p : Option Object)
-      → number_or_none (elim p as (λ _. Result ℕ Refusal) [
-        | None ↦ Err NotFound
-        | Some o ↦ if same_kind kind
-            (kind_of o.value) then say o.value else Err WrongKind
-      ]) ≡ length
+  many-in : (p : Option Object) → number_or_none (elim p as (λ _. Result ℕ Refusal) [
+    | None ↦ Err NotFound
+    | Some o ↦ if same_kind kind (kind_of o.value) then say o.value else Err WrongKind
+  ]) ≡ length
       (elim p as (λ _. List A) [ None ↦ [] | Some o ↦ if same_kind kind (kind_of o.value) then items o.value else [] ])
   many-in None = refl
   many-in (Some o) = many-if o (same_kind kind (kind_of o.value)) refl
@@ -182,13 +168,10 @@ sizes-first : (b : Bool) (v : Value)
 sizes-first true v = refl
 sizes-first false v = refl
 
-length-first : (kind : Kind) (p : Option Object)
-    → first_size (elim p as (λ _. Result (ℕ
+length-first : (kind : Kind) (p : Option Object) → first_size (elim p as (λ _. Result (ℕ
     × ℕ) Refusal) [ None ↦ Err NotFound | Some o ↦ sizes_of_kind o kind ]) ≡ elim p as (λ _. Result ℕ Refusal) [
-      | None
-          ↦ Err NotFound
-      | Some o ↦ if same_kind kind (kind_of o.value) then first_size (sizes_of o.value) else Err
-          WrongKind
+      | None ↦ Err NotFound
+      | Some o ↦ if same_kind kind (kind_of o.value) then first_size (sizes_of o.value) else Err WrongKind
     ]
 length-first kind None = refl
 length-first kind (Some o) = sizes-first (same_kind kind (kind_of o.value)) o.value
@@ -211,8 +194,7 @@ array-many k v e =
 pub listed-length : {A : Type 0} (items : Value → List A) (d : Directory) (key : Key) (kind : Kind)
     → ((v : Value) → same_kind kind (kind_of v) ≡ true → first_size (sizes_of v) ≡ Ok (length (items v)))
     → (r : Result ℕ Refusal) → r ≡ length_at_kind d key kind → number_or_none r ≡ length (list_at items d key kind)
-listed-length items d key kind only r e =
-    ap number_or_none (e ∙ length-first kind (object_at d key))
+listed-length items d key kind only r e = ap number_or_none (e ∙ length-first kind (object_at d key))
     ∙ many-at items (λ v. first_size (sizes_of v)) d key kind only
 
 pub vector-length : (d : Directory) (key : Key) (k : ScalarKind) (r : Result ℕ Refusal)

@@ -7,16 +7,15 @@ use Rattle.segment_manager.proofs.Common.{extents_of, padded, count_of, kind_of,
 use Rattle.segment_manager.proofs.Common.{remove_object, with_changed, without_object, Denotes, IsObjectAt, IsValueAt}
 use Rattle.segment_manager.proofs.Common.{changed, SameSpread, inserted-append, live-spaced, middle-first}
 use Rattle.segment_manager.proofs.Common.{spaced-insert, ◌-◌, current, Some, IsChanged, extent_at}
-use Rattle.best_fit.proofs.Laws.{changed-keeps_block, found-room, spread-refl, written-but, LiesBeside, above, below}
-use Rattle.best_fit.specs.Fit.{insert}
-use Rattle.segment_manager.proofs.{Calling.denotes-heap, Calling.denotes-live, Calling.object-at}
-use Rattle.segment_manager.proofs.{containers.MapBlocks.blocks-in_use, Denoted.denotes-replaced, Faces.IsLike}
-use Rattle.segment_manager.proofs.{Frame.object-roomy, Live.adding, Live.IsFound, Live.IsIn, Live.live-split}
-use Rattle.segment_manager.proofs.{Live.live-changed, objects.Regrown.InPlace, objects.Regrown.differs-flip}
-use Rattle.segment_manager.proofs.{objects.Regrown.rest, objects.Regrown.with_extents, objects.Rewritten.object-held}
-use Rattle.segment_manager.proofs.{objects.Rewritten.value_start, objects.Rewritten.with_value}
+use Rattle.segment_manager.proofs.Live.{adding, IsFound, IsIn, live-split, live-changed}
+use Rattle.segment_manager.proofs.objects.Regrown.{InPlace, differs-flip, rest, with_extents}
+use Rattle.segment_manager.proofs.objects.Rewritten.{object-held, value_start, with_value}
 use Rattle.segment_manager.proofs.Order.{Rising, inserted, insert-inserted, all_of-inserted, live-rises, rising-insert}
 use Rattle.segment_manager.proofs.Order.{apart-inserted, without_all, without-inserted}
+use Rattle.segment_manager.proofs.{Calling.denotes-heap, containers.MapBlocks.blocks-in_use, Denoted.denotes-replaced}
+use Rattle.segment_manager.proofs.{Calling.denotes-live, Calling.object-at, Faces.IsLike, Frame.object-roomy}
+use Rattle.best_fit.proofs.Laws.{changed-keeps_block, found-room, spread-refl, written-but, LiesBeside, above, below}
+use Rattle.best_fit.specs.Fit.{insert}
 
 -- ---- extents among others
 
@@ -68,9 +67,8 @@ abbrev of_extents : Directory → Object → List Extent → LiveSet
 of_extents d o xs = record (live (without_object d o)) { extents = xs }
 
 -- the live set of the directory with the other object is the one with the blocks exchanged
-pub live-exchanged : (d : Directory) (o o' : Object) (gone come : List Extent) → InPlace d o o'
-    → Exchange o o' gone come → IsTrue (is_proper (exchanged (live d) gone come))
-    → live (with_changed d o') ≡ exchanged (live d) gone come
+pub live-exchanged : (d : Directory) (o o' : Object) (gone come : List Extent) → InPlace d o o' → Exchange o o' gone
+    come → IsTrue (is_proper (exchanged (live d) gone come)) → live (with_changed d o') ≡ exchanged (live d) gone come
 unfolding live
 live-exchanged d o o' gone come p x h =
     let r = rest d o' in
@@ -132,14 +130,12 @@ others-beside d o o' p =
 -- What the bytes denote once an object's value has other blocks, whatever its class: a vector or text regrown, cut or
 -- released, texts put or gone, pairs put or removed. In its own block n bytes changed. A block of the value that is
 -- written in is gone, and comes.
-pub denotes-exchanged : {format : ℕ} {old new : Cut} {d : Directory} {o o' : Object} {from n : ℕ}
-    {gone come : List Extent} → Denotes format old.bytes d → IsFound (handle o'.extent) d.objects o → IsLike o o'
-    → Exchange o o' gone come → IsTrue (is_object format o') → handle o.extent ≤ from → from + n ≤ end_of o.extent
-    → IsExchanged format old new from n gone come → IsObjectAt (bytes_of new.bytes) o'
-    → Denotes format new.bytes (with_changed d o')
+pub denotes-exchanged : {format : ℕ} {old new : Cut} {d : Directory} {o o' : Object} {from n : ℕ} {gone come : List
+    Extent} → Denotes format old.bytes d → IsFound (handle o'.extent) d.objects o → IsLike o o' → Exchange o o' gone
+    come → IsTrue (is_object format o') → handle o.extent ≤ from → from + n ≤ end_of o.extent → IsExchanged format old
+    new from n gone come → IsObjectAt (bytes_of new.bytes) o' → Denotes format new.bytes (with_changed d o')
 denotes-exchanged {format} {old} {new} {d} {o} {o'} {from} {n} {gone} {come} k found like x good f g c at =
-    let m = bytes_of old.bytes in
-    let m' = bytes_of new.bytes in
+    let m = bytes_of old.bytes in let m' = bytes_of new.bytes in
     let p : InPlace d o o' = record { found = found; extent = like.extent; proper = k.directory.proper } in
     let l = denotes-live format old.bytes d k in
     let laid : LaysOut format new.bytes (exchanged (live d) gone come) =
@@ -164,8 +160,7 @@ denotes-held : {format : ℕ} (old new : Cut) {d : Directory} (o : Object) (v : 
     → value_start o ≤ from → from + n ≤ end_of o.extent → IsExchanged format old new from n gone come
     → IsValueAt (bytes_of new.bytes) (value_start o) v → Denotes format new.bytes (changed d o v)
 denotes-held {format} old new {d} o v from n gone come k found x kind count good low high c at =
-    let o' = with_value o v in
-    let m = bytes_of old.bytes in
+    let o' = with_value o v in let m = bytes_of old.bytes in
     let m' = bytes_of new.bytes in
     let like : IsLike o o' = record { extent = refl; name = refl; class = refl; kind = kind } in
     let p : InPlace d o o' = record { found = found; extent = refl; proper = k.directory.proper } in
@@ -195,12 +190,10 @@ pub denotes-rewritten : {old new : Cut} {d : Directory} (o : Object) (v : Value)
     → from + n ≤ end_of o.extent → IsChanged current old new from n → IsValueAt (bytes_of new.bytes) (value_start o) v
     → Denotes current new.bytes (changed d o v)
 denotes-rewritten {old} {new} {d} o v {from} {n} k found kind count extents good low high c at =
-    let l = live_of old.bytes in
-    let x : Extent = o.extent in
+    let l = live_of old.bytes in let x : Extent = o.extent in
     let proper : IsTrue (is_proper l) = (denotes-heap current old.bytes d k).proper in
-    let own : extent_at l (handle x) ≡ Some x =
-    ap (λ (s : LiveSet). extent_at s (handle x)) (denotes-live current old.bytes d k)
-    ∙ (blocks-in_use d o k.directory.proper found).own in
+    let own : extent_at l (handle x) ≡ Some x = ap (λ (s : LiveSet). extent_at s (handle x))
+    (denotes-live current old.bytes d k) ∙ (blocks-in_use d o k.directory.proper found).own in
     let keeps = changed-keeps_block current old new from n (handle x) (from + n - handle x) c
     (found-room l (handle x) (from + n - handle x) x own (omega arith)) (omega arith) (omega arith) in
     let same : SameSpread (value_extents o.value) (value_extents v) =

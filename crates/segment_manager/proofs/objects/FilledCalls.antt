@@ -1,27 +1,19 @@
 -- Calls that construct an object, of what fills it or of numbers from items, as the code makes them.
-use Rattle.segment_manager.proofs.Common.{false≢true, ◌≡◌, refl, sym, ap, subst, ◌∙◌, ℕ, true, false, Some, None}
-use Rattle.segment_manager.proofs.Common.{Option, Ok, Err, Result, List, IfErr, none-some, Cut, Kind, Refusal, Exists}
-use Rattle.segment_manager.proofs.Common.{NoSpace, Command, Content, Index, NewEntry, Mode, Answer, Made, Refused}
-use Rattle.segment_manager.proofs.Common.{is_untouched, Begins, IsAbsentAt, IsNotBegun, Object, Directory, count_of}
-use Rattle.segment_manager.proofs.Common.{kind_of, object_at, value_len, Constructs, FindsOrConstructs, IsBegunFor}
-use Rattle.segment_manager.proofs.Common.{MakesValue, with_count, handle_at, pair_answer, IsNewKeyOf, bare, StandsAt}
-use Rattle.segment_manager.proofs.Common.{pair_of_kind, Answers, IsSegment, IsStep, State, answer_of, handle_answer}
-use Rattle.segment_manager.proofs.Common.{is_read_only, Reply, effect, found, with_new_object, handle, place, step}
-use Rattle.segment_manager.proofs.objects.FoundOrMade.{constructs-exists, finds, found-there, made_for, made_handle}
-use Rattle.segment_manager.proofs.objects.FoundOrMade.{makes}
-use Rattle.segment_manager.proofs.objects.NewValues.{IsMadeNever, IsMadeNow, away-in, value-built, value-loose}
-use Rattle.segment_manager.proofs.objects.NewValues.{value-not_built, value-ready}
-use Rattle.segment_manager.proofs.objects.NotBegun.{key-taken, value-not_begun}
-use Rattle.segment_manager.proofs.Steps.{step-segment}
-use Rattle.segment_manager.proofs.{objects.FoundOrMade.makes-nothing, indexes.Bridge.lookup-absent}
-use Rattle.segment_manager.proofs.{objects.NewKeys.key-seeks}
-use Rattle.segment_manager.specs.objects.Begun.{Ends, IsEnding}
+use Rattle.segment_manager.proofs as own
+use own.Common.{false≢true, ◌≡◌, refl, sym, ap, subst, ◌∙◌, ℕ, true, false, Some, None, Option, Ok, Err, Result, List}
+use own.Common.{IfErr, none-some, Cut, Kind, Refusal, Exists, NoSpace, Command, Content, Index, NewEntry, Mode, Answer}
+use own.Common.{Made, Refused, is_untouched, Begins, IsAbsentAt, IsNotBegun, Object, Directory, count_of, kind_of}
+use own.Common.{object_at, value_len, Constructs, FindsOrConstructs, IsBegunFor, MakesValue, with_count, handle_at}
+use own.Common.{pair_answer, IsNewKeyOf, bare, StandsAt, pair_of_kind, Answers, IsSegment, IsStep, State, answer_of}
+use own.Common.{handle_answer, is_read_only, Reply, effect, found, with_new_object, handle, place, step}
+use own.objects.FoundOrMade.{constructs-exists, finds, found-there, made_for, made_handle, makes, makes-nothing}
+use own.objects.NewValues.{IsMadeNever, IsMadeNow, away-in, value-built, value-loose, value-not_built, value-ready}
+use own.objects.NotBegun.{key-taken, value-not_begun}
+use own.{Steps.step-segment, indexes.Bridge.lookup-absent, objects.NewKeys.key-seeks}
 use Rattle.segment_manager.specs.containers.Filled.{HasBegun, Builds, IsShapeOf}
-use Rattle.segment_manager.specs.objects.Found.{pair_found}
-use Rattle.segment_manager.specs.Answers.{Found}
+use Rattle.segment_manager.specs.{objects.Begun.Ends, objects.Begun.IsEnding, objects.Found.pair_found, Answers.Found}
+use Rattle.segment_manager.specs.{declared.objects.beginning.Begun.Begun, declared.containers.fillings.Shape.Shape}
 use Rattle.seg_index.specs.declared.keys.Key.{Key}
-use Rattle.segment_manager.specs.declared.objects.beginning.Begun.{Begun}
-use Rattle.segment_manager.specs.declared.containers.fillings.Shape.{Shape}
 use Rattle.seg_types.specs.Names as names
 use Rattle.seg_types.specs.Commands as asked
 
@@ -31,10 +23,9 @@ use Rattle.seg_types.specs.Commands as asked
 pub begun-for : (old new : Cut) (key : names.Key) {content : Content} {s : Shape} (r : Result Begun Refusal)
     → IsShapeOf content s → Begins old new key s.kind s.count s.len r
     → Begins old new key (kind_of (bare content)) (count_of (bare content)) (value_len (bare content)) r
-begun-for old new key {content} {s} r is g =
-    subst (λ (k : Kind). Begins old new key k (count_of (bare content)) (value_len (bare content)) r) is.kind
-    (subst (λ n. Begins old new key s.kind n (value_len (bare content)) r) is.count
-    (subst (λ n. Begins old new key s.kind s.count n r) is.len g))
+begun-for old new key {content} {s} r is g = subst (λ (k : Kind). Begins old new key k (count_of (bare content))
+    (value_len (bare content)) r) is.kind (subst (λ n. Begins old new key s.kind n (value_len (bare content)) r)
+    is.count (subst (λ n. Begins old new key s.kind s.count n r) is.len g))
 
 pub has-begun : (old new : Cut) (key : names.Key) {content : Content} {s : Shape} (r : Begun) → IsSegment old.bytes
     → IsShapeOf content s → Begins old new key s.kind s.count s.len (Ok r) → HasBegun new content r.handle r.at r.entry
@@ -97,8 +88,7 @@ module _ {a : Cut} (b : IsSegment a.bytes) (key : names.Key) (content : Content)
     construct-built (Ok n) g r =
         let d = made-now g r in
         record {
-          step = λ mode writing.
-              makes (asked.Construct key content) made_handle writing d.place
+          step = λ mode writing. makes (asked.Construct key content) made_handle writing d.place
               (λ d e. ap (made_for d key content) e) (λ d n. ap Made (sym n.at)) d.each;
           refused = tt;
         }
@@ -109,21 +99,18 @@ module _ {a : Cut} (b : IsSegment a.bytes) (key : names.Key) (content : Content)
     found-built (Ok n) g r =
         let d = made-now g r in
         record {
-          step = λ mode writing.
-              makes (asked.FindOrConstruct key content) found writing d.place
+          step = λ mode writing. makes (asked.FindOrConstruct key content) found writing d.place
               (λ d e. ap (finds d key content) e) (λ d n. λ j. Found (sym n.at j) (n.count j)) d.each;
           refused = tt;
         }
     found-built (Err why) g r = none-found c why r.none.refusal (made-never why g r)
 
   -- it is not begun
-  pub construct-not_begun : (why : Refusal) (c : Cut)
-      → IsNotBegun a c key (kind_of (bare content)) (value_len (bare content)) why
-      → Constructs a c (asked.Construct key content) handle_answer (Err why)
+  pub construct-not_begun : (why : Refusal) (c : Cut) → IsNotBegun a c key (kind_of (bare content))
+      (value_len (bare content)) why → Constructs a c (asked.Construct key content) handle_answer (Err why)
   construct-not_begun Exists c t = record {
-    step = λ mode writing.
-        subst (λ (u : Cut). IsStep (record { cut = a; mode = mode }) (record { cut = u; mode = mode })
-        (asked.Construct key content) (Refused Exists)) (sym t.same)
+    step = λ mode writing. subst (λ (u : Cut). IsStep (record { cut = a; mode = mode })
+        (record { cut = u; mode = mode }) (asked.Construct key content) (Refused Exists)) (sym t.same)
         (constructs-exists key content writing (key-taken key content t));
     refused = λ e. t.same;
   }
@@ -139,10 +126,9 @@ module _ {a : Cut} (b : IsSegment a.bytes) (key : names.Key) (content : Content)
   found-not_begun why none t = absurd t
 
   -- an object has the key, and stays as it is
-  pub found-all : {h : ℕ} {r : Result (ℕ × ℕ) Refusal}
-      → ((mode : Mode) → Answers (record { cut = a; mode = mode }) (λ d. handle_at d key) (Some h))
-      → ((o : Object) → StandsAt a.bytes h o → r ≡ pair_of_kind o (kind_of (bare content)))
-      → FindsOrConstructs a a key content r
+  pub found-all : {h : ℕ} {r : Result (ℕ × ℕ) Refusal} → ((mode : Mode) → Answers (record { cut = a; mode = mode })
+      (λ d. handle_at d key) (Some h)) → ((o : Object) → StandsAt a.bytes h o → r ≡ pair_of_kind o
+      (kind_of (bare content))) → FindsOrConstructs a a key content r
   found-all {r} there each = record {
     constructs = record {
       step = λ mode writing. found-there key content writing (there mode) each;
@@ -169,9 +155,8 @@ pub found-absent : {a c : Cut} (i : Index) (e : Key) (at : ℕ) {key : names.Key
     → Constructs a c (asked.FindOrConstruct key content) pair_answer r → FindsOrConstructs a c key content r
 found-absent {a} i e at {key} name kind new away done = record {
   constructs = done;
-  found = λ d st has. absurd (none-some has.0
-      (sym (lookup-absent i a e key st.denotes (key-seeks i e key name kind new) (away-in i e at st.denotes away)).none
-      ∙ has.1));
+  found = λ d st has. absurd (none-some has.0 (sym (lookup-absent i a e key st.denotes (key-seeks i e key name kind new)
+      (away-in i e at st.denotes away)).none ∙ has.1));
 }
 
 -- ---- the segment afterwards, as its view before the call is named
@@ -179,11 +164,9 @@ found-absent {a} i e at {key} name kind new away done = record {
 module _ {A : Type 0} {s t : State} (view : s ≡ t) {c : Cut} {command : Command} {answer : Result A Refusal → Answer}
     {r : Result A Refusal} (done : Constructs s.cut c command answer r) where
   pub made-step : is_read_only t.mode ≡ false → IsStep t (record s { cut = c }) command (answer r)
-  made-step writing =
-      subst (λ (u : State). IsStep u (record s { cut = c }) command (answer r)) view
+  made-step writing = subst (λ (u : State). IsStep u (record s { cut = c }) command (answer r)) view
       (done.step s.mode (ap (λ (u : State). is_read_only u.mode) view ∙ writing))
 
   pub made-segment : is_read_only t.mode ≡ false → IsSegment s.cut.bytes → IsSegment c.bytes
-  made-segment writing b =
-      step-segment s (record s { cut = c }) command (answer r)
+  made-segment writing b = step-segment s (record s { cut = c }) command (answer r)
       (done.step s.mode (ap (λ (u : State). is_read_only u.mode) view ∙ writing)) b

@@ -1,16 +1,14 @@
 -- Items taken from an iterator and written one behind another.
-use Rattle.segment_manager.proofs.Common.{◌≡◌, refl, sym, ap, subst, ◌∙◌, ℕ, ◌+◌, ◌*◌, ℤ, Bool, true, Some, Option}
-use Rattle.segment_manager.proofs.Common.{List, [], ◌∷◌, ◌++◌, length, map, arith, length-append, IsTrue}
-use Rattle.segment_manager.proofs.Common.{AllByRecursion, list_all, Yields, and_from, flat_map_more, length-map, Cut}
-use Rattle.segment_manager.proofs.Common.{Has, bytes_of, current, IsChanged, ScalarKind, is_value, size_of, spelling}
-use Rattle.segment_manager.proofs.Common.{spelled}
+use Rattle.segment_manager.proofs.Common.{◌≡◌, sym, ap, ◌∙◌, ◌+◌, ◌*◌, ℤ, [], ◌∷◌, ◌++◌, map, Cut, Has}
+use Rattle.segment_manager.proofs.Common.{refl, subst, ℕ, Bool, true, Some, Option, List, length, arith, IsTrue, Yields}
+use Rattle.segment_manager.proofs.Common.{length-append, AllByRecursion, flat_map_more, length-map, current, ScalarKind}
+use Rattle.segment_manager.proofs.Common.{list_all, and_from, bytes_of, IsChanged, is_value, size_of, spelling, spelled}
+use Rattle.segment_manager.proofs.blocks.Blocks.{spelled-length, spelling-length}
+use Rattle.segment_manager.proofs.{blocks.NewBlocks.changed-trans, objects.Pieces.bytes-stay}
+use Rattle.raw_region.proofs.{Facts.AllByRecursion-behind, Facts.first, Facts.second, Bytes.Has-append}
 use Rattle.std.specs.Iterator.{HoldsAlong}
 use Rattle.std.proofs.lemmas.List.{map_push}
 use Rattle.segment_manager.specs.objects.Begun.{IsItemWritten}
-use Rattle.seg_vector.proofs.Bytes.{Has-append}
-use Rattle.segment_manager.proofs.{blocks.Blocks.spelled-length, blocks.Blocks.spelling-length}
-use Rattle.segment_manager.proofs.{blocks.NewBlocks.changed-trans, objects.Pieces.bytes-stay}
-use Rattle.segment_manager.proofs.{Words.AllByRecursion-behind, Words.first, Words.second}
 
 -- ---- calls, and then one more
 
@@ -29,8 +27,7 @@ last-holds steps P s t u xs x all h f =
 all-more : (t : ℤ → Bool) (zs : List ℤ) (z : ℤ) → IsTrue (list_all t zs) → IsTrue (t z)
     → IsTrue (list_all t (zs ++ z ∷ []))
 all-more t [] z h e = and_from (t z) true e refl
-all-more t (y ∷ ys) z h e =
-    and_from (t y) (list_all t (ys ++ z ∷ [])) (first (t y) (list_all t ys) h)
+all-more t (y ∷ ys) z h e = and_from (t y) (list_all t (ys ++ z ∷ [])) (first (t y) (list_all t ys) h)
     (all-more t ys z (second (t y) (list_all t ys) h) e)
 
 -- ---- so many items were written
@@ -52,10 +49,8 @@ module _ (S : Type 0) {A : Type 0} {gives : S → Option A → S → Type 0} {ca
       → to ≡ from + size_of k * i → IsItemWritten gives whole b c k to s t
       → IsFilling gives can whole old c k from (i + 1) before t
   filling-more {b} {c} {i} {to} {s} {t} f go at w =
-      let zs = map whole f.items in
-      let bytes = spelling k (whole w.item) in
-      let more = map_push whole f.items w.item in
-      let each = spelling-length k (whole w.item) in
+      let zs = map whole f.items in let bytes = spelling k (whole w.item) in
+      let more = map_push whole f.items w.item in let each = spelling-length k (whole w.item) in
       let all = spelled-length k zs ∙ ap (λ m. size_of k * m) (length-map f.items whole ∙ f.long) in
       let sum : size_of k * i + size_of k ≡ size_of k * (i + 1) = omega arith in
       let change' : IsChanged current b c (from + size_of k * i) (size_of k) =
@@ -70,8 +65,7 @@ module _ (S : Type 0) {A : Type 0} {gives : S → Option A → S → Type 0} {ca
         values = subst (λ ys. IsTrue (list_all (is_value k) ys)) (sym more)
             (all-more (is_value k) zs (whole w.item) f.values w.value);
         change = subst (IsChanged current old c from) sum (changed-trans f.change change');
-        content = subst (Has (bytes_of c.bytes) from)
-            (flat_map_more (spelling k) [] zs (whole w.item) ∙ ap (spelled k) (sym more))
-            (Has-append (bytes_of c.bytes) from (spelled k zs) bytes front
+        content = subst (Has (bytes_of c.bytes) from) (flat_map_more (spelling k) [] zs (whole w.item)
+            ∙ ap (spelled k) (sym more)) (Has-append (bytes_of c.bytes) from (spelled k zs) bytes front
             (subst (λ p. Has (bytes_of c.bytes) p bytes) place w.content));
       }

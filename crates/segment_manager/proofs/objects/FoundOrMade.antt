@@ -1,12 +1,11 @@
 -- An object found under a key, or constructed where there is none, as a step of the machine.
-use Rattle.segment_manager.proofs.Common.{◌≡◌, refl, sym, ap, ◌∙◌, ℕ, false, Some, None, Option, Result, if◌then◌else◌}
-use Rattle.segment_manager.proofs.Common.{Cut, SamePlace, handle, Refusal, NoSpace, WrongKind, Exists, same_kind, Key}
-use Rattle.segment_manager.proofs.Common.{Content, Answer, Refused, Made, Object, Directory, kind_of, object_at}
-use Rattle.segment_manager.proofs.Common.{handle_at, pair_answer, Plan, Refuse, Reply, bare, with_new_object, StandsAt}
-use Rattle.segment_manager.proofs.Common.{pair_of_kind, Answers, IsStep, StandsFor, State, found, is_read_only}
-use Rattle.segment_manager.proofs.objects.Constructed.{IsNewObject, IsNoObject}
-use Rattle.segment_manager.proofs.Steps.{by_no_change, by_step, lands, open-writing, step-plan, step-refuse}
-use Rattle.segment_manager.proofs.{Common.Command, Common.effect, objects.Here.here, objects.KeyCalls.kind-step}
+use Rattle.segment_manager.proofs as own
+use own.Common.{◌≡◌, refl, sym, ap, ◌∙◌, ℕ, false, Some, None, Option, Result, if◌then◌else◌, Cut, SamePlace, handle}
+use own.Common.{Refusal, NoSpace, WrongKind, Exists, same_kind, Key, Content, Answer, Refused, Made, Object, Directory}
+use own.Common.{kind_of, object_at, handle_at, pair_answer, Plan, Refuse, Reply, bare, with_new_object, StandsAt}
+use own.Common.{pair_of_kind, Answers, IsStep, StandsFor, State, found, is_read_only, Command, effect}
+use own.Steps.{by_no_change, by_step, lands, open-writing, step-plan, step-refuse}
+use own.{objects.Constructed.IsNewObject, objects.Constructed.IsNoObject, objects.Here.here, objects.KeyCalls.kind-step}
 use Rattle.seg_types.specs.Commands as asked
 
 -- ---- an object that is constructed
@@ -20,16 +19,13 @@ made_for d key content r =
     ]
 
 module _ {old : State} {new : Cut} {key : Key} {content : Content} (c : Command) (say : Object → Answer)
-    (writing : is_read_only old.mode ≡ false) (place : SamePlace old.cut new)
-    (asks : ((d : Directory) → object_at d key ≡ None
-    → effect d c ≡ with_new_object d key content (λ o e. Reply (say o) e))) where
+    (writing : is_read_only old.mode ≡ false) (place : SamePlace old.cut new) (asks : ((d : Directory)
+    → object_at d key ≡ None → effect d c ≡ with_new_object d key content (λ o e. Reply (say o) e))) where
   -- A command asks for a new object where no object has the key, and says this of it: it is made.
-  pub makes : {h : ℕ} {answer : Answer}
-      → ((d : Directory) → (n : IsNewObject new d key content h) → say n.object ≡ answer)
-      → ((d : Directory) → StandsFor old.cut.bytes d → (object_at d key ≡ None) × IsNewObject new d key content h)
-      → IsStep old (record old { cut = new }) c answer
-  makes {h} said each =
-      by_step c (record { mode = refl; place = place }) (λ d k.
+  pub makes : {h : ℕ} {answer : Answer} → ((d : Directory) → (n : IsNewObject new d key content h)
+      → say n.object ≡ answer) → ((d : Directory) → StandsFor old.cut.bytes d → (object_at d key ≡ None)
+      × IsNewObject new d key content h) → IsStep old (record old { cut = new }) c answer
+  makes {h} said each = by_step c (record { mode = refl; place = place }) (λ d k.
       let n : IsNewObject new d key content h = (each d k).1 in
       lands n.after (record {
         is = step-plan old.mode d c (open-writing old.mode c writing) (asks d (each d k).0)
@@ -38,16 +34,13 @@ module _ {old : State} {new : Cut} {key : Key} {content : Content} (c : Command)
       }))
 
   -- or a request is refused
-  pub makes-nothing : ((d : Directory) → StandsFor old.cut.bytes d
-      → (object_at d key ≡ None) × IsNoObject new d key content)
-      → IsStep old (record old { cut = new }) c (Refused NoSpace)
-  makes-nothing each =
-      by_step c (record { mode = refl; place = place }) (λ d k.
-      lands d (record {
-        is = step-plan old.mode d c (open-writing old.mode c writing) (asks d (each d k).0)
-            ∙ (each d k).1.refused (λ o e. Reply (say o) e);
-        denotes = (each d k).1.denotes;
-      }))
+  pub makes-nothing : ((d : Directory) → StandsFor old.cut.bytes d → (object_at d key ≡ None)
+      × IsNoObject new d key content) → IsStep old (record old { cut = new }) c (Refused NoSpace)
+  makes-nothing each = by_step c (record { mode = refl; place = place }) (λ d k. lands d (record {
+    is = step-plan old.mode d c (open-writing old.mode c writing) (asks d (each d k).0)
+        ∙ (each d k).1.refused (λ o e. Reply (say o) e);
+    denotes = (each d k).1.denotes;
+  }))
 
 abbrev pub made_handle : Object → Answer
 made_handle o = Made (handle o.extent)
@@ -56,8 +49,7 @@ made_handle o = Made (handle o.extent)
 pub constructs-exists : {s : State} (key : Key) (content : Content) → is_read_only s.mode ≡ false
     → ((d : Directory) → StandsFor s.cut.bytes d → (o : Object) × (object_at d key ≡ Some o))
     → IsStep s s (asked.Construct key content) (Refused Exists)
-constructs-exists {s} key content writing each =
-    by_no_change s (asked.Construct key content) (Refused Exists) (λ d k.
+constructs-exists {s} key content writing each = by_no_change s (asked.Construct key content) (Refused Exists) (λ d k.
     step-refuse s.mode d (asked.Construct key content) Exists
     (open-writing s.mode (asked.Construct key content) writing) (ap (made_for d key content) (each d k).1))
 

@@ -1,17 +1,15 @@
 -- What the words of an index entry are of an object that stands in its block.
-use Rattle.segment_manager.proofs.Common.{◌≡◌, ap, ◌∙◌, ℕ, zero, suc, ◌+◌, ◌*◌, ◌-◌, ◌<◌, ◌≤◌, Bool, true, false, ◌&&◌}
-use Rattle.segment_manager.proofs.Common.{not, List, [], ◌∷◌, ◌++◌, length, replicate, ◌==◌, if◌then◌else◌, arith}
-use Rattle.segment_manager.proofs.Common.{IsTrue, nat_le, AllByRecursion, list_all, is_utf8, chars, and_parts, eqb-true}
-use Rattle.segment_manager.proofs.Common.{leb-true, Memory, bytes_of, read, Has, word_at, handle, serves, ObjectRole}
-use Rattle.segment_manager.proofs.Common.{ScalarKind, BoolKind, Kind, Scalar, Vector, Map, scalar_code, code_of}
-use Rattle.segment_manager.proofs.Common.{class_code, is_kind_of, is_name, is_printable_name, is_text_name, is_control}
-use Rattle.segment_manager.proofs.Common.{name_len_at, Object, kind_of, count_of, padded, is_class, has_good_name}
-use Rattle.segment_manager.proofs.Common.{is_good_value, is_object, object_len, IsObjectAt, IsEntry, subst}
-use Rattle.segment_manager.proofs.{Common.length-append, Words.first, Words.second}
+use Rattle.segment_manager.proofs as own
+use own.Common.{◌≡◌, ap, ◌∙◌, ℕ, zero, suc, ◌+◌, ◌*◌, ◌-◌, ◌<◌, ◌≤◌, Bool, true, false, ◌&&◌, not, List, [], ◌∷◌, ◌++◌}
+use own.Common.{length, replicate, ◌==◌, if◌then◌else◌, arith, IsTrue, nat_le, AllByRecursion, list_all, is_utf8, chars}
+use own.Common.{and_parts, eqb-true, leb-true, Memory, bytes_of, read, Has, word_at, handle, serves, ObjectRole}
+use own.Common.{ScalarKind, BoolKind, Kind, Scalar, Vector, Map, scalar_code, code_of, class_code, is_kind_of, is_name}
+use own.Common.{is_printable_name, is_text_name, is_control, name_len_at, Object, kind_of, count_of, padded, is_class}
+use own.Common.{has_good_name, is_good_value, is_object, object_len, IsObjectAt, IsEntry, subst, length-append}
+use Rattle.raw_region.proofs.{Facts.first, Facts.second, Bytes.Has-take}
 use Rattle.seg_types.specs.declared.kinds.Class.TheVariants.{Named}
 use Rattle.segment_manager.specs.objects.Heads.{EntriesSayObjects}
 use Rattle.std.proofs.Math.Seq.{take-append_seam}
-use Rattle.seg_vector.proofs.Bytes.{Has-take}
 
 -- ---- the codes are below 2 ^ 32
 
@@ -59,8 +57,7 @@ good_name-short format o h = good-if format o (is_class Named o) h
 
 -- the first of two rows of bytes
 pub Has-front : (m : Memory) (at : ℕ) (xs ys : List ℕ) → Has m at (xs ++ ys) → Has m at xs
-Has-front m at xs ys h =
-    subst (Has m at) (take-append_seam xs ys)
+Has-front m at xs ys h = subst (Has m at) (take-append_seam xs ys)
     (Has-take m at (length xs) (xs ++ ys) (omega (arith, length-append xs ys)) h)
 
 -- the length of the name
@@ -88,11 +85,9 @@ object-entry m o short a =
 
 -- a good object has a good name
 pub good-name : (format : ℕ) (o : Object) → IsTrue (is_object format o) → IsTrue (has_good_name format o)
-good-name format o h =
-    first (has_good_name format o) (is_kind_of format (kind_of o.value))
-    (first (has_good_name format o && is_kind_of format (kind_of o.value)) (is_good_value o.value)
-    (first (has_good_name format o && is_kind_of format (kind_of o.value) && is_good_value o.value)
-    (serves o.extent ObjectRole (object_len o.name o.value)) h))
+good-name format o h = first (has_good_name format o) (is_kind_of format (kind_of o.value)) (first (has_good_name format
+    o && is_kind_of format (kind_of o.value)) (is_good_value o.value) (first (has_good_name format o && is_kind_of
+    format (kind_of o.value) && is_good_value o.value) (serves o.extent ObjectRole (object_len o.name o.value)) h))
 
 entries : (format : ℕ) (m : Memory) (os : List Object) → IsTrue (list_all (is_object format) os)
     → AllByRecursion (IsObjectAt m) os → AllByRecursion (IsEntry m) os

@@ -1,11 +1,10 @@
 -- The object of a key as it stands in its block, and what is said of it.
-use Rattle.segment_manager.proofs.Common.{◌≡◌, refl, sym, ap, subst, ◌∙◌, ℕ, ◌+◌, Option, Some, None, Result, Ok, Err}
-use Rattle.segment_manager.proofs.Common.{List, IsTrue, option_map, le-leb, current, handle, has_room, Refusal}
-use Rattle.segment_manager.proofs.Common.{NotFound, Key, Object, Directory, has_key, is_object, object_at, object_len}
-use Rattle.segment_manager.proofs.Common.{Denotes, handle_at, HasObject, StandsAt, Answers, IsSegment, State, Head}
-use Rattle.segment_manager.proofs.Calling.{denotes-live, object-at, object-room}
+use Rattle.segment_manager.proofs.Common.{◌≡◌, sym, ap, ◌∙◌, ℕ, ◌+◌, Some, None, Ok, Err, List, Key, State, Head}
+use Rattle.segment_manager.proofs.Common.{refl, subst, Option, Result, IsTrue, le-leb, handle, Object, Denotes, Answers}
+use Rattle.segment_manager.proofs.Common.{option_map, Directory, is_object, object_at, object_len, handle_at, HasObject}
+use Rattle.segment_manager.proofs.Common.{current, has_room, Refusal, NotFound, has_key, StandsAt, IsSegment, IsHeadOf}
 use Rattle.segment_manager.proofs.objects.ObjectLists.{all-found, each-true, key-found}
-use Rattle.segment_manager.proofs.{Common.IsHeadOf, Frame.object-roomy}
+use Rattle.segment_manager.proofs.{Calling.denotes-live, Calling.object-at, Calling.object-room, Frame.object-roomy}
 use Rattle.segment_manager.specs.Calls.{told_at}
 
 -- ---- the object of a key
@@ -60,9 +59,8 @@ has-object {s} key {h} i a =
     (o.object, o.stands)
 
 -- what is said of each object that stands there is said of the key's
-pub tells : {A : Type 0} {s : State} (key : Key) {h : ℕ} (say : Object → A) {x : A}
-    → Answers s (λ d. handle_at d key) (Some h) → ((o : Object) → StandsAt s.cut.bytes h o → x ≡ say o)
-    → Answers s (λ d. told_at d key say) (Ok x)
+pub tells : {A : Type 0} {s : State} (key : Key) {h : ℕ} (say : Object → A) {x : A} → Answers s (λ d. handle_at d key)
+    (Some h) → ((o : Object) → StandsAt s.cut.bytes h o → x ≡ say o) → Answers s (λ d. told_at d key say) (Ok x)
 tells {A} {s} key {h} say a each = record {
   answers = λ d k.
       let o = here s.cut.bytes d key h k.denotes (a.answers d k) in
@@ -84,6 +82,5 @@ seen-object s t view key h i a = has-object key i (seen-handle s t view key (Som
 pub seen-tells : {A : Type 0} {s t : State} (view : s ≡ t) (key : Key) {h : ℕ} (say : Object → A) {x : A}
     → Answers t (λ d. handle_at d key) (Some h) → ((o : Object) → StandsAt s.cut.bytes h o → x ≡ say o)
     → Answers t (λ d. told_at d key say) (Ok x)
-seen-tells {A} {s} {t} view key {h} say {x} a each =
-    subst (λ (u : State). Answers u (λ d. told_at d key say) (Ok x)) view
-    (tells key say (seen-handle s t view key (Some h) a) each)
+seen-tells {A} {s} {t} view key {h} say {x} a each = subst (λ (u : State). Answers u (λ d. told_at d key say) (Ok x))
+    view (tells key say (seen-handle s t view key (Some h) a) each)

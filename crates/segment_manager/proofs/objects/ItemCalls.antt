@@ -1,32 +1,24 @@
 -- Calls that construct an object of numbers from items, as the code makes them.
-use Rattle.segment_manager.proofs.Common.{◌≡◌, refl, sym, ap, subst, ◌∙◌, ℕ, true, false, Some, None, Option, Ok, Err}
-use Rattle.segment_manager.proofs.Common.{Result, List, Cut, Refusal, Exists, NoSpace, Command, NewEntry, Made, Refused}
-use Rattle.segment_manager.proofs.Common.{IsNotBegun, Object, Directory, object_at, IsSegment, IsStep, State}
-use Rattle.segment_manager.proofs.Common.{is_read_only, Reply, effect, with_new_object, ◌+◌, ◌*◌, ◌≤◌, ℤ, Bool, []}
-use Rattle.segment_manager.proofs.Common.{length, map, replicate, arith, ◌<◌, if◌then◌else◌, mul-le-mul_left, IsTrue}
-use Rattle.segment_manager.proofs.Common.{pos, take, nat_lt, list_all, lt-ltb, le-ltb, length-map, length-replicate}
-use Rattle.segment_manager.proofs.Common.{take_all, SamePlace, current, ObjectRole, Extent, handle, place, resized}
-use Rattle.segment_manager.proofs.Common.{IsAllocated, IsChanged, Scalar, ScalarKind, Anonymous, OutOfRange, ReadOnly}
-use Rattle.segment_manager.proofs.Common.{is_value, size_of, IsBegun, IsLoose, IsTakenKey, LeadsThere, Denotes, Numbers}
-use Rattle.segment_manager.proofs.Common.{is_good_value, live, object_len, padded, with_object, entries_of, table_of}
-use Rattle.segment_manager.proofs.Common.{TakesItems, head_len, IsRestored, room_for, StandsFor, step, Plan, perform}
-use Rattle.segment_manager.proofs.Common.{has_room, live_of}
-use Rattle.segment_manager.proofs.objects.FoundOrMade.{made_handle, makes}
-use Rattle.segment_manager.proofs.objects.NewValues.{away-in, value-built, no_key-none}
-use Rattle.segment_manager.proofs.objects.NotBegun.{key-taken, value-not_begun}
-use Rattle.segment_manager.proofs.Steps.{step-segment, perform-new, refuses-read_only, by_no_change, by_step, lands}
-use Rattle.segment_manager.proofs.Steps.{open-writing, step-plan, step-refuse}
-use Rattle.segment_manager.proofs.objects.Constructed.{IsMet, IsNewObject, numbers-met, restored-denotes, IsNoObject}
-use Rattle.segment_manager.proofs.{indexes.Bridge.lookup-absent, objects.NewKeys.key-seeks}
-use Rattle.segment_manager.proofs.{objects.NewKeys.numbers-value, objects.ArrayItems.by-items}
-use Rattle.segment_manager.proofs.{objects.ArrayItems.from-items, Calling.denotes-live}
-use Rattle.segment_manager.proofs.{indexes.HeldIndexes.denotes-index, objects.KeyCalls.segment-index}
-use Rattle.segment_manager.proofs.{objects.Loose.begun-room, objects.Loose.loose-ready}
-use Rattle.segment_manager.proofs.{objects.MadeValues.headed-change, objects.NewNumbers.numbers-made}
+use Rattle.segment_manager.proofs as own
+use own.Common.{◌≡◌, refl, sym, ap, subst, ◌∙◌, ℕ, true, false, Some, None, Option, Ok, Err, Result, List, Cut, Refusal}
+use own.Common.{Exists, NoSpace, Command, NewEntry, Made, Refused, IsNotBegun, Object, Directory, object_at, IsSegment}
+use own.Common.{IsStep, State, is_read_only, Reply, effect, with_new_object, ◌+◌, ◌*◌, ◌≤◌, ℤ, Bool, [], length, map}
+use own.Common.{replicate, arith, ◌<◌, if◌then◌else◌, mul-le-mul_left, IsTrue, pos, take, nat_lt, list_all, lt-ltb}
+use own.Common.{le-ltb, length-map, length-replicate, take_all, SamePlace, current, ObjectRole, Extent, handle, place}
+use own.Common.{resized, IsAllocated, IsChanged, Scalar, ScalarKind, Anonymous, OutOfRange, ReadOnly, is_value, size_of}
+use own.Common.{IsBegun, IsLoose, IsTakenKey, LeadsThere, Denotes, Numbers, is_good_value, live, object_len, padded}
+use own.Common.{with_object, entries_of, table_of, TakesItems, head_len, IsRestored, room_for, StandsFor, step, Plan}
+use own.Steps.{step-segment, perform-new, refuses-read_only, by_no_change, by_step, lands, open-writing, step-plan}
+use own.objects.Constructed.{IsMet, IsNewObject, numbers-met, restored-denotes, IsNoObject}
+use own.{Common.perform, Common.has_room, Common.live_of, objects.Loose.begun-room, objects.Loose.loose-ready}
+use own.{objects.FoundOrMade.made_handle, objects.KeyCalls.segment-index, objects.NewNumbers.numbers-made}
+use own.{objects.FoundOrMade.makes, objects.NewValues.away-in, objects.NotBegun.key-taken, objects.NewKeys.key-seeks}
+use own.{objects.NewValues.value-built, objects.NewValues.no_key-none, Steps.step-refuse, objects.NewKeys.numbers-value}
+use own.{objects.NotBegun.value-not_begun, indexes.HeldIndexes.denotes-index, objects.MadeValues.headed-change}
+use own.{indexes.Bridge.lookup-absent, objects.ArrayItems.by-items, objects.ArrayItems.from-items, Calling.denotes-live}
 use Rattle.segment_manager.specs.objects.Begun.{Ends, IsEnding, Fills}
-use Rattle.segment_manager.specs.containers.Filled.{numbers_shape}
+use Rattle.segment_manager.specs.{containers.Filled.numbers_shape, declared.containers.fillings.Shape.Shape}
 use Rattle.seg_index.specs.declared.keys.Key.{Key}
-use Rattle.segment_manager.specs.declared.containers.fillings.Shape.{Shape}
 use Rattle.seg_types.specs.Names as names
 use Rattle.seg_types.specs.Commands as asked
 
@@ -46,26 +38,21 @@ module _ (old : State) (key : names.Key) (k : ScalarKind) (count : ℕ) (zs : Li
   -- an object has the key, and no item is taken
   pub items-exists : ((d : Directory) → StandsFor old.cut.bytes d → (o : Object) × (object_at d key ≡ Some o))
       → IsStep old old c (Refused Exists)
-  items-exists each =
-      by_no_change old c (Refused Exists) (λ d st. step-refuse old.mode d c Exists (open-writing old.mode c writing)
-      (ap (from-items d key k count zs) (each d st).1))
+  items-exists each = by_no_change old c (Refused Exists) (λ d st. step-refuse old.mode d c Exists (open-writing
+      old.mode c writing) (ap (from-items d key k count zs) (each d st).1))
 
   -- there are enough, and the object is made of them
   pub items-made : {new : Cut} (h : ℕ) → SamePlace old.cut new → count ≤ length zs
-      → ((d : Directory) → StandsFor old.cut.bytes d
-      → (object_at d key ≡ None) × IsNewObject new d key (asked.Numbers k (take count zs)) h)
-      → IsStep old (record old { cut = new }) c (Made h)
-  items-made h place enough each =
-      makes c made_handle writing place (λ d e. plan-of d e (le-ltb (length zs) count enough))
-      (λ d n. ap Made (sym n.at)) each
+      → ((d : Directory) → StandsFor old.cut.bytes d → (object_at d key ≡ None)
+      × IsNewObject new d key (asked.Numbers k (take count zs)) h) → IsStep old (record old { cut = new }) c (Made h)
+  items-made h place enough each = makes c made_handle writing place
+      (λ d e. plan-of d e (le-ltb (length zs) count enough)) (λ d n. ap Made (sym n.at)) each
 
   -- there are too few: what was taken is given back
-  pub items-few : {new : Cut} → SamePlace old.cut new → length zs < count
-      → ((d : Directory) → StandsFor old.cut.bytes d
+  pub items-few : {new : Cut} → SamePlace old.cut new → length zs < count → ((d : Directory) → StandsFor old.cut.bytes d
       → (object_at d key ≡ None) × IsMet d key (asked.Numbers k (replicate count (pos 0)))
       × Denotes current new.bytes d) → IsStep old (record old { cut = new }) c (Refused OutOfRange)
-  items-few {new} place few each =
-      by_step c (record { mode = refl; place = place }) (λ d st.
+  items-few {new} place few each = by_step c (record { mode = refl; place = place }) (λ d st.
       let all = each d st in
       lands d (record {
         is = step-plan old.mode d c (open-writing old.mode c writing) (plan-of d all.0 (lt-ltb (length zs) count few))
@@ -74,24 +61,19 @@ module _ (old : State) (key : names.Key) (k : ScalarKind) (count : ℕ) (zs : Li
       }))
 
   none-if : (d : Directory) (few : Bool) → object_at d key ≡ None → nat_lt (length zs) count ≡ few
-      → ((next : Object → Directory → Plan)
-      → perform d (live d) (with_new_object d key
+      → ((next : Object → Directory → Plan) → perform d (live d) (with_new_object d key
       (asked.Numbers k (if few then replicate count (pos 0) else take count zs)) next) ≡ (Refused NoSpace, d))
       → step old.mode d c ≡ (Refused NoSpace, d)
-  none-if d true e f none =
-      step-plan old.mode d c (open-writing old.mode c writing) (plan-of d e f)
+  none-if d true e f none = step-plan old.mode d c (open-writing old.mode c writing) (plan-of d e f)
       ∙ none (λ o e. Reply (Refused OutOfRange) d)
-  none-if d false e f none =
-      step-plan old.mode d c (open-writing old.mode c writing) (plan-of d e f)
+  none-if d false e f none = step-plan old.mode d c (open-writing old.mode c writing) (plan-of d e f)
       ∙ none (λ o e. Reply (Made (handle o.extent)) e)
 
   -- a request is refused, and no item is taken
-  pub items-none : {new : Cut} → SamePlace old.cut new
-      → ((d : Directory) → StandsFor old.cut.bytes d
+  pub items-none : {new : Cut} → SamePlace old.cut new → ((d : Directory) → StandsFor old.cut.bytes d
       → (object_at d key ≡ None) × IsNoObject new d key (asked.Numbers k (asked_for count zs)))
       → IsStep old (record old { cut = new }) c (Refused NoSpace)
-  items-none {new} place each =
-      by_step c (record { mode = refl; place = place }) (λ d st.
+  items-none {new} place each = by_step c (record { mode = refl; place = place }) (λ d st.
       let both = each d st in
       lands d
       (record { is = none-if d (nat_lt (length zs) count) both.0 refl both.1.refused; denotes = both.1.denotes }))
@@ -103,9 +85,8 @@ equal-len k name count z = ap (λ m. head_len + padded (length name) + size_of k
 
 -- where no item was taken, zeros are asked for
 asked-long : {count : ℕ} → 1 ≤ count → length (asked_for count []) ≡ count
-asked-long {count} low =
-    ap (λ (b : Bool). length (if b then replicate count (pos 0) else take count [])) (lt-ltb 0 count low)
-    ∙ length-replicate count (pos 0)
+asked-long {count} low = ap (λ (b : Bool). length (if b then replicate count (pos 0) else take count []))
+    (lt-ltb 0 count low) ∙ length-replicate count (pos 0)
 
 -- ---- without a key
 
@@ -147,11 +128,9 @@ module _ (S : Type 0) {A : Type 0} (gives : S → Option A → S → Type 0) (wh
       → (f : Fills gives whole m w k (h + at) count before after (Ok tt)) → LeadsThere w c h entry
       → IsStep s (record s { cut = c }) (asked.ConstructIt key k count (map whole f.items)) (Made h)
   steps-made entry {m} {w} c h at g f led =
-      let zs = map whole f.items in
-      let long = many f.items f.taken.1 in
-      let made = numbers-made k zs (good-items f.items f.taken.1 f.values)
-      (subst (λ n. IsChanged current m w (h + at) (size_of k * n)) (sym (length-map f.items whole)) f.change)
-      f.content in
+      let zs = map whole f.items in let long = many f.items f.taken.1 in
+      let made = numbers-made k zs (good-items f.items f.taken.1 f.values) (subst (λ n. IsChanged current m w (h + at)
+      (size_of k * n)) (sym (length-map f.items whole)) f.change) f.content in
       let now = value-built (asked.Numbers k zs) b h at entry
       (subst (λ n. IsBegun s.cut m key (Scalar k) n (size_of k * n) h at entry) (sym long) g) made led in
       items-made s key k count zs writing h now.place (omega arith) (λ d st.
@@ -166,8 +145,7 @@ module _ (S : Type 0) {A : Type 0} (gives : S → Option A → S → Type 0) (wh
       subst (λ (q : names.Key). (object_at d q ≡ None) × IsMet d q (asked.Numbers k (replicate count (pos 0))))
       (sym g.is) (
         no_key-none d.objects,
-        anonymous-met k (replicate count (pos 0)) st.denotes
-            (equal-len k [] count (pos 0)) g.takes,
+        anonymous-met k (replicate count (pos 0)) st.denotes (equal-len k [] count (pos 0)) g.takes,
       )
   begun-met (Some e) m h at g st = (
     (lookup-absent e.index s.cut g.entry key st.denotes (key-seeks e.index g.entry key g.name (Scalar k) g.is)
@@ -229,13 +207,11 @@ module _ (S : Type 0) {A : Type 0} (gives : S → Option A → S → Type 0) (wh
       (result : Result ℕ Refusal) → IsBegun s.cut m key (Scalar k) count (size_of k * count) h at entry
       → Fills gives whole m w k (h + at) count before after filled → Ends w c h entry filled result
       → TakesItems gives whole s (record s { cut = c }) key k count before after result
-  takes entry (Ok tt) m w c h at result g f fin =
-      subst (λ (r : Result ℕ Refusal). TakesItems gives whole s (record s { cut = c }) key k count before after r)
-      (sym fin.0)
+  takes entry (Ok tt) m w c h at result g f fin = subst (λ (r : Result ℕ Refusal). TakesItems gives whole s
+      (record s { cut = c }) key k count before after r) (sym fin.0)
       (record { items = f.items; step = steps-made entry c h at g f fin.1; taken = f.taken; unchanged = tt })
-  takes entry (Err why) m w c h at result g f fin =
-      subst (λ (r : Result ℕ Refusal). TakesItems gives whole s (record s { cut = c }) key k count before after r)
-      (sym (fin.0 ∙ ap Err f.taken.0)) (record {
+  takes entry (Err why) m w c h at result g f fin = subst (λ (r : Result ℕ Refusal). TakesItems gives whole s
+      (record s { cut = c }) key k count before after r) (sym (fin.0 ∙ ap Err f.taken.0)) (record {
         items = f.items;
         step = steps-few entry h at g f (fin.1 s.cut (loose entry (Err why) m w h at g f));
         taken = (f.taken.1, f.taken.2);
@@ -256,28 +232,24 @@ module _ (S : Type 0) {A : Type 0} (gives : S → Option A → S → Type 0) (wh
 
   exists-step : {c : Cut} → is_read_only s.mode ≡ false → IsTakenKey s.cut c key (Scalar k)
       → IsStep s (record s { cut = c }) (asked.ConstructIt key k count []) (Refused Exists)
-  exists-step writing t =
-      subst (λ (u : Cut). IsStep s (record s { cut = u }) (asked.ConstructIt key k count []) (Refused Exists))
-      (sym t.same) (items-exists s key k count [] writing (key-taken key (asked.Numbers k []) t))
+  exists-step writing t = subst (λ (u : Cut). IsStep s (record s { cut = u }) (asked.ConstructIt key k count [])
+      (Refused Exists)) (sym t.same) (items-exists s key k count [] writing (key-taken key (asked.Numbers k []) t))
 
-  none-step : (c : Cut) → is_read_only s.mode ≡ false → 1 ≤ count
-      → IsNotBegun s.cut c key (Scalar k) (size_of k * count) NoSpace
-      → IsStep s (record s { cut = c }) (asked.ConstructIt key k count []) (Refused NoSpace)
+  none-step : (c : Cut) → is_read_only s.mode ≡ false → 1 ≤ count → IsNotBegun s.cut c key (Scalar k)
+      (size_of k * count) NoSpace → IsStep s (record s { cut = c }) (asked.ConstructIt key k count []) (Refused NoSpace)
   none-step c writing low t =
       let never = value-not_begun key (asked.Numbers k (asked_for count []))
       (subst (λ n. IsNotBegun s.cut c key (Scalar k) (size_of k * n) NoSpace) (sym (asked-long low)) t) in
       items-none s key k count [] writing never.place never.each
 
-  pub takes-none : (why : Refusal) (c : Cut) → is_read_only s.mode ≡ false → 1 ≤ count
-      → IsNotBegun s.cut c key (Scalar k) (size_of k * count) why
-      → TakesItems gives whole s (record s { cut = c }) key k count at at (Err why)
-  takes-none Exists c writing low t =
-      record {
-        items = [];
-        step = exists-step writing t;
-        taken = (refl, refl);
-        unchanged = ap (λ (u : Cut). let r : State = record s { cut = u } in r) t.same;
-      }
+  pub takes-none : (why : Refusal) (c : Cut) → is_read_only s.mode ≡ false → 1 ≤ count → IsNotBegun s.cut c key
+      (Scalar k) (size_of k * count) why → TakesItems gives whole s (record s { cut = c }) key k count at at (Err why)
+  takes-none Exists c writing low t = record {
+    items = [];
+    step = exists-step writing t;
+    taken = (refl, refl);
+    unchanged = ap (λ (u : Cut). let r : State = record s { cut = u } in r) t.same;
+  }
   takes-none NoSpace c writing low t = record {
     items = [];
     step = none-step c writing low t;
@@ -296,21 +268,17 @@ module _ (S : Type 0) {A : Type 0} (gives : S → Option A → S → Type 0) (wh
 
   none-taken : {why : Refusal} (c : Cut) → IsNotBegun s.cut c key shape.kind shape.len why
       → TakesItems gives whole s (record s { cut = c }) key k count before before (Err why)
-  none-taken {why} c not =
-      takes-none S gives whole key k count before why c writes low
+  none-taken {why} c not = takes-none S gives whole key k count before why c writes low
       (subst (λ (j : Shape). IsNotBegun s.cut c key j.kind j.len why) same not)
 
   pub refused-segment : (why : Refusal) (c : Cut) → IsNotBegun s.cut c key shape.kind shape.len why → IsSegment c.bytes
   refused-segment why c not = step-segment s (record s { cut = c }) _ _ (none-taken c not).step b
 
-  pub refused-items : {why : Refusal} (c : Cut) {r : Result ℕ Refusal} → r ≡ Err why
-      → IsNotBegun s.cut c key shape.kind shape.len why
-      → TakesItems gives whole t (record s { cut = c }) key k count before before r
-  refused-items {why} c is not =
-      subst (λ (q : Result ℕ Refusal). TakesItems gives whole t (record s { cut = c }) key k count before before q)
-      (sym is)
-      (subst (λ (u : State). TakesItems gives whole u (record s { cut = c }) key k count before before (Err why)) view
-      (none-taken c not))
+  pub refused-items : {why : Refusal} (c : Cut) {r : Result ℕ Refusal} → r ≡ Err why → IsNotBegun s.cut c key shape.kind
+      shape.len why → TakesItems gives whole t (record s { cut = c }) key k count before before r
+  refused-items {why} c is not = subst (λ (q : Result ℕ Refusal). TakesItems gives whole t (record s { cut = c }) key k
+      count before before q) (sym is) (subst (λ (u : State). TakesItems gives whole u (record s { cut = c }) key k count
+      before before (Err why)) view (none-taken c not))
 
   module _ (high : count ≤ 1048576) (m : Cut) (h at : ℕ) (entry : Option NewEntry)
       (begun : IsBegun s.cut m key shape.kind shape.count shape.len h at entry) where
@@ -328,14 +296,12 @@ module _ (S : Type 0) {A : Type 0} (gives : S → Option A → S → Type 0) (wh
 
       module _ (c : Cut) (result : Result ℕ Refusal) (fin : Ends w c h entry filled result) where
         finished : TakesItems gives whole s (record s { cut = c }) key k count before after result
-        finished =
-            takes S gives whole s b key k count writes low high before after entry filled m w c h at result
+        finished = takes S gives whole s b key k count writes low high before after entry filled m w c h at result
             begun-so f fin
 
         pub items-segment : IsSegment c.bytes
         items-segment = step-segment s (record s { cut = c }) _ _ finished.step b
 
         pub items-taken : TakesItems gives whole t (record s { cut = c }) key k count before after result
-        items-taken =
-            subst (λ (u : State). TakesItems gives whole u (record s { cut = c }) key k count before after result) view
-            finished
+        items-taken = subst (λ (u : State). TakesItems gives whole u (record s { cut = c }) key k count before after
+            result) view finished

@@ -1,30 +1,25 @@
 -- What calls that look a key up find, and what they say of it, for each directory that the bytes stand for.
-use Rattle.segment_manager.proofs.Common.{◌≡◌, refl, sym, ap, ◌∙◌, ℕ, ◌+◌, ◌<◌, Bool, true, false, ◌&&◌, ◌||◌, ◌==◌}
-use Rattle.segment_manager.proofs.Common.{Option, Some, None, List, [], ◌∷◌, arith, cond, find, is_some, option_map}
-use Rattle.segment_manager.proofs.Common.{slice_get, list_any, eqb-true, ne_eqb, none-some, same_Some, slice_get_within}
-use Rattle.segment_manager.proofs.Common.{current, Cut, bytes_of, Role, ObjectRole, Extent, handle, extent_at}
-use Rattle.segment_manager.proofs.Common.{is_live_in, live_of, Table, same_role, Key, ByHandle, Index, Entry, Found}
-use Rattle.segment_manager.proofs.Common.{Absent, HasIndex, IsIndexOf, entry_count, place_of, IsPlace, Object}
-use Rattle.segment_manager.proofs.Common.{Directory, has_key, live, object_at, Denotes, handle_at, is_object_at, Seeks}
-use Rattle.segment_manager.proofs.Common.{entries_of, table_of, Answers, IsSegment, State, StandsFor, subst, length}
-use Rattle.segment_manager.proofs.Common.{if◌then◌else◌, Kind, WrongKind, same_kind, Named, Unique, Answer, Number}
-use Rattle.segment_manager.proofs.Common.{kind_of, named_objects, unique_objects, IsBelow, objects_of, Plan, Refuse}
-use Rattle.segment_manager.proofs.Common.{Reply, StandsAt, IsReply, found, Mode, Command, step, Err, Ok, Refusal}
-use Rattle.segment_manager.proofs.Common.{Result, count_of, pair_answer, pair_of_kind, effect, Instance, IsInstance}
-use Rattle.segment_manager.proofs.Common.{SaysAt, SaysOf, HasObject}
-use Rattle.segment_manager.proofs.indexes.Bridge.{lookup-absent, lookup-found, in-handles}
-use Rattle.segment_manager.proofs.Steps.{open-reading, IsOpenFor, step-refuse, step-reply}
-use Rattle.segment_manager.proofs.objects.Here.{here, nothing-if, standing}
-use Rattle.segment_manager.proofs.indexes.EntryPlaces as places
-use Rattle.segment_manager.proofs.{Calling.denotes-live, blocks.OwnBlocks.handle-is-object, blocks.OwnBlocks.or-none}
-use Rattle.segment_manager.proofs.{indexes.HeldIndexes.denotes-index, objects.ObjectLists.found-handle, Order.Rising}
-use Rattle.segment_manager.proofs.{Order.live-rises, Denoted.handles-length, indexes.EntryPlaces.all-at}
-use Rattle.segment_manager.proofs.{indexes.EntryPlaces.stands-at}
+use Rattle.segment_manager.proofs as own
+use own.Common.{◌≡◌, Option, ne_eqb, Extent, handle, Absent, Object, length, Unique, IsBelow, IsReply, Command, Refusal}
+use own.Common.{refl, none-some, same_Some, extent_at, same_role, IsIndexOf, Directory, object_at, handle_at, IsSegment}
+use own.Common.{sym, ◌∙◌, ℕ, ◌+◌, ◌<◌, [], ◌∷◌, Cut, Key, live, Kind, Plan, Mode, step, Err, Ok}
+use own.Common.{ap, Bool, true, ◌&&◌, ◌||◌, ◌==◌, Some, None, List, cond, find, Role, State, subst, Named, Reply, found}
+use own.Common.{false, arith, Table, Index, Entry, Found, Seeks, Answer, Number, Refuse, Result, effect, SaysAt, SaysOf}
+use own.Common.{is_some, option_map, slice_get, ObjectRole, is_live_in, entries_of, objects_of, pair_answer, IsInstance}
+use own.Common.{list_any, eqb-true, bytes_of, ByHandle, HasIndex, place_of, StandsFor, WrongKind, same_kind, HasObject}
+use own.Common.{slice_get_within, entry_count, is_object_at, if◌then◌else◌, named_objects, unique_objects, pair_of_kind}
+use own.Common.{current, live_of, IsPlace, has_key, Denotes, table_of, Answers, kind_of, StandsAt, count_of, Instance}
+use own.indexes.Bridge.{lookup-absent, lookup-found, in-handles}
+use own.{Steps.open-reading, Steps.IsOpenFor, Steps.step-refuse, Steps.step-reply, objects.Here.here}
+use own.{objects.Here.nothing-if, objects.Here.standing, Calling.denotes-live, blocks.OwnBlocks.handle-is-object}
+use own.{blocks.OwnBlocks.or-none, indexes.HeldIndexes.denotes-index, objects.ObjectLists.found-handle, Order.Rising}
+use own.{Order.live-rises, Denoted.handles-length, indexes.EntryPlaces.all-at, indexes.EntryPlaces.stands-at}
 use Rattle.std.specs.Bool.{then_some}
 use Rattle.block_tags.specs.contracts.tile.Role.{the_type}
 use denote.Enum.Bare.{sameb}
 use Rattle.seg_types.specs.Names.{NoKey}
 use Rattle.segment_manager.specs.Answers.{Absent}
+use Rattle.segment_manager.proofs.indexes.EntryPlaces as places
 use Rattle.seg_types.specs.Commands as asked
 
 -- ---- a handle from outside
@@ -41,15 +36,13 @@ first_of h xs = find (λ (x : Extent). handle x == h) xs
 none-behind : (t : Extent → Bool) (h n : ℕ) (xs : List Extent) → h < n + 16 → Rising n xs
     → list_any (λ (x : Extent). (handle x == h) && t x) xs ≡ false
 none-behind t h n [] l r = refl
-none-behind t h n (x ∷ xs) l r =
-    ap (λ b. (b && t x) || list_any (λ (x : Extent). (handle x == h) && t x) xs)
+none-behind t h n (x ∷ xs) l r = ap (λ b. (b && t x) || list_any (λ (x : Extent). (handle x == h) && t x) xs)
     (ne_eqb (handle x) h (λ e. omega (arith, r.0, e))) ∙ none-behind t h (x.offset + 1) xs (omega (arith, r.0)) r.1
 
 any-first-if : (t : Extent → Bool) (h : ℕ) (x : Extent) (xs : List Extent) (b : Bool) → (handle x == h) ≡ b
     → Rising (x.offset + 1) xs → list_any (λ (x : Extent). (handle x == h) && t x) xs ≡ passes t (first_of h xs)
     → ((b && t x) || list_any (λ (x : Extent). (handle x == h) && t x) xs) ≡ passes t (cond b (Some x) (first_of h xs))
-any-first-if t h x xs true e r k =
-    or-none (t x) (list_any (λ (x : Extent). (handle x == h) && t x) xs)
+any-first-if t h x xs true e r k = or-none (t x) (list_any (λ (x : Extent). (handle x == h) && t x) xs)
     (none-behind t h (x.offset + 1) xs (omega (arith, eqb-true (handle x) h e)) r)
 any-first-if t h x xs false e r k = k
 
@@ -76,8 +69,7 @@ for_object x = same_role x.role ObjectRole
 -- an object has the handle where its block is for one
 pub object-passes : {b : List ℕ} {d : Directory} (h : ℕ) → Denotes current b d
     → is_object_at d h ≡ passes for_object (extent_at (live_of b) h)
-object-passes {b} {d} h k =
-    sym (handle-is-object h k.directory)
+object-passes {b} {d} h k = sym (handle-is-object h k.directory)
     ∙ any-first for_object h 128 (live d).extents (live-rises (live d) k.directory.proper)
     ∙ ap (λ l. passes for_object (extent_at l h)) (sym (denotes-live current b d k))
 
@@ -91,9 +83,8 @@ of-role None {r} e = absurd (none-some r e)
 of-role (Some x) {r} e = ap (λ role. same_role role ObjectRole) (same_Some x.role r e)
 
 -- the answer of the two tests, for a block in use of this role
-pub role-answers : {s : State} (h : ℕ) {r : Role} {b : Bool}
-    → option_map (λ (x : Extent). x.role) (extent_at (live_of s.cut.bytes) h) ≡ Some r → b ≡ sameb the_type r ObjectRole
-    → Answers s (λ d. is_object_at d h) b
+pub role-answers : {s : State} (h : ℕ) {r : Role} {b : Bool} → option_map (λ (x : Extent). x.role)
+    (extent_at (live_of s.cut.bytes) h) ≡ Some r → b ≡ sameb the_type r ObjectRole → Answers s (λ d. is_object_at d h) b
 role-answers {s} h {r} e f = record {
   answers =
       λ d k. f ∙ same-test r ∙ sym (of-role (extent_at (live_of s.cut.bytes) h) e) ∙ sym (object-passes h k.denotes);
@@ -125,15 +116,13 @@ of-directory s i P {d} k f = f (table_of i d) (entries_of i d) (denotes-index i 
 pub place-below : {c : Cut} (i : Index) (e : Entry) (place : ℕ) → IsSegment c.bytes
     → ForIndex c i (λ hs. IsPlace (bytes_of c.bytes) e hs (Found place)) → place < entry_count c (place_of i)
 place-below {c} i e place s f =
-    let stands = denotes-index i c s.1.denotes in
-    let at = f (table_of i s.0) (entries_of i s.0) stands in
+    let stands = denotes-index i c s.1.denotes in let at = f (table_of i s.0) (entries_of i s.0) stands in
     omega (arith, slice_get_within (entries_of i s.0) place at.0 at.1, stands.stands.count)
 
 -- the object's handle is what the entry leads to
-pub found-answers : (s : State) (i : Index) (e : Entry) (place : ℕ) {h : ℕ}
-    → ForIndex s.cut i (λ hs. IsPlace (bytes_of s.cut.bytes) e hs (Found place))
-    → ForIndex s.cut i (λ hs. slice_get hs place ≡ Some h) → (key : Key) → Seeks i e key
-    → Answers s (λ d. handle_at d key) (Some h)
+pub found-answers : (s : State) (i : Index) (e : Entry) (place : ℕ) {h : ℕ} → ForIndex s.cut i (λ hs. IsPlace
+    (bytes_of s.cut.bytes) e hs (Found place)) → ForIndex s.cut i (λ hs. slice_get hs place ≡ Some h) → (key : Key)
+    → Seeks i e key → Answers s (λ d. handle_at d key) (Some h)
 found-answers s i e place {h} f g key q = record {
   answers = λ d k.
       let there = lookup-found i s.cut e key k.denotes q place
@@ -143,12 +132,10 @@ found-answers s i e place {h} f g key q = record {
 }
 
 -- or no object has the key
-pub absent-answers : {s : State} (i : Index) (e : Entry) (place : ℕ)
-    → ForIndex s.cut i (λ hs. IsPlace (bytes_of s.cut.bytes) e hs (Absent place)) → (key : Key) → Seeks i e key
-    → Answers s (λ d. handle_at d key) None
+pub absent-answers : {s : State} (i : Index) (e : Entry) (place : ℕ) → ForIndex s.cut i (λ hs. IsPlace
+    (bytes_of s.cut.bytes) e hs (Absent place)) → (key : Key) → Seeks i e key → Answers s (λ d. handle_at d key) None
 absent-answers {s} i e place f key q = record {
-  answers = λ d k.
-      sym (ap (option_map (λ (o : Object). handle o.extent)) (lookup-absent i s.cut e key k.denotes q
+  answers = λ d k. sym (ap (option_map (λ (o : Object). handle o.extent)) (lookup-absent i s.cut e key k.denotes q
       (of-directory s i (λ hs. IsPlace (bytes_of s.cut.bytes) e hs (Absent place)) k f)).none);
 }
 
@@ -190,8 +177,7 @@ finds d kind r =
 pub find-absent : {s : State} (key : Key) (kind : Kind) → Answers s (λ d. handle_at d key) None
     → IsReply s (asked.Find key kind) Absent
 find-absent {s} key kind a = record {
-  answers = λ d k.
-      sym (ap (λ (r : Answer × Directory). r.0)
+  answers = λ d k. sym (ap (λ (r : Answer × Directory). r.0)
       (step-reply s.mode d (asked.Find key kind) Absent d (open-reading s.mode (asked.Find key kind) refl)
       (ap (finds d kind) (nothing-if (object_at d key) (a.answers d k)))));
 }
@@ -216,9 +202,8 @@ find-there {t} view key kind {h} a each = record {
   answers = λ d k.
       let o = here t.cut.bytes d key h k.denotes (a.answers d k) in
       ap pair_answer (each o.object (subst (λ (u : State). StandsAt u.cut.bytes h o.object) (sym view) o.stands))
-      ∙ sym (ap (λ (q : Answer × Directory). q.0)
-      (kind-step t.mode d (asked.Find key kind) o.object kind (open-reading t.mode (asked.Find key kind) refl)
-      (ap (finds d kind) o.is)));
+      ∙ sym (ap (λ (q : Answer × Directory). q.0) (kind-step t.mode d (asked.Find key kind) o.object kind
+      (open-reading t.mode (asked.Find key kind) refl) (ap (finds d kind) o.is)));
 }
 
 -- ---- the entries of the indexes
@@ -235,20 +220,17 @@ num_command Unique = asked.NumUnique
 
 num-step : (mode : Mode) (i : Index) (d : Directory)
     → step mode d (num_command i) ≡ (Number (length (objects_of i d)), d)
-num-step mode Named d =
-    step-reply mode d asked.NumNamed (Number (length (objects_of Named d))) d
+num-step mode Named d = step-reply mode d asked.NumNamed (Number (length (objects_of Named d))) d
     (open-reading mode asked.NumNamed refl) refl
-num-step mode Unique d =
-    step-reply mode d asked.NumUnique (Number (length (objects_of Unique d))) d
+num-step mode Unique d = step-reply mode d asked.NumUnique (Number (length (objects_of Unique d))) d
     (open-reading mode asked.NumUnique refl) refl
 
 pub num-replies : {s : State} (i : Index) (n : ℕ) → ForIndex s.cut i (λ hs. n ≡ length hs)
     → IsReply s (num_command i) (Number n)
-num-replies {s} i n f =
-    record {
-      answers =
-          λ d k. ap Number (index-counts s i f d k) ∙ sym (ap (λ (r : Answer × Directory). r.0) (num-step s.mode i d));
-    }
+num-replies {s} i n f = record {
+  answers =
+      λ d k. ap Number (index-counts s i f d k) ∙ sym (ap (λ (r : Answer × Directory). r.0) (num-step s.mode i d));
+}
 
 -- a number below their count is a place
 pub below-count : {s t : State} (view : s ≡ t) (i : Index) {n : ℕ} → IsSegment s.cut.bytes
@@ -261,8 +243,7 @@ below-count {s} view i {n} g b =
 -- and what stands there is an entry of the directory
 pub at-answers : {s t : State} (view : s ≡ t) (i : Index) (n : ℕ) {h : ℕ}
     → ForIndex s.cut i (λ hs. slice_get hs n ≡ Some h) → Answers t (λ d. slice_get (entries_of i d) n) (Some h)
-at-answers {s} view i n {h} f =
-    subst (λ (u : State). Answers u (λ d. slice_get (entries_of i d) n) (Some h)) view
+at-answers {s} view i n {h} f = subst (λ (u : State). Answers u (λ d. slice_get (entries_of i d) n) (Some h)) view
     (record { answers = λ d k. sym (of-directory s i (λ hs. slice_get hs n ≡ Some h) k f) })
 
 -- ---- an index below that number
@@ -297,10 +278,9 @@ entered s {i} {n} {h} f {d} k =
     record {
       object = o;
       is = at.is;
-      stands = subst (λ x. StandsAt s.cut.bytes x o) (sym at.handle)
-          (standing s.cut.bytes d (ByHandle (handle o.extent)) o k.denotes
-          (all-at (λ (p : Object). object_at d (ByHandle (handle p.extent)) ≡ Some p) (objects_of i d) n
-          (in-handles i k.denotes.directory) at.is));
+      stands = subst (λ x. StandsAt s.cut.bytes x o) (sym at.handle) (standing s.cut.bytes d
+          (ByHandle (handle o.extent)) o k.denotes (all-at (λ (p : Object). object_at d (ByHandle (handle p.extent))
+          ≡ Some p) (objects_of i d) n (in-handles i k.denotes.directory) at.is));
     }
 
 -- some object stands there
@@ -309,9 +289,8 @@ pub entered-object : (s : State) (i : Index) (n h : ℕ) → IsSegment s.cut.byt
 entered-object s i n h g f = let o = entered s f g.1 in (o.object, o.stands)
 
 -- what was read is said of it
-pub entered-says : {s : State} (i : Index) {n h : ℕ} {said : Instance}
-    → ForIndex s.cut i (λ hs. slice_get hs n ≡ Some h) → ((o : Object) → StandsAt s.cut.bytes h o → IsInstance o said)
-    → SaysAt s (objects_of i) n said
+pub entered-says : {s : State} (i : Index) {n h : ℕ} {said : Instance} → ForIndex s.cut i (λ hs. slice_get hs n ≡ Some
+    h) → ((o : Object) → StandsAt s.cut.bytes h o → IsInstance o said) → SaysAt s (objects_of i) n said
 entered-says {s} i {n} {h} f each = record {
   says = λ d k. let o = entered s f k in (o.object, o.is, each o.object o.stands);
 }

@@ -1,17 +1,16 @@
 -- An object that was located: it is that of the key, and what a command does under its handle it does under the key.
-use Rattle.segment_manager.proofs.Common.{◌≡◌, refl, sym, ap, subst, ◌∙◌, ℕ, ◌&&◌, Option, Some, None, Result, Ok, Err}
-use Rattle.segment_manager.proofs.Common.{if◌then◌else◌, is_some, option_map, same_Some, Kind, Refusal, NotFound}
-use Rattle.segment_manager.proofs.Common.{ReadOnly, WrongKind, same_kind, Key, ByHandle, Command, is_changing, Head}
-use Rattle.segment_manager.proofs.Common.{Change, Clear, Reserve, Shrink, Located, Answer, kind_at, sizes_at}
-use Rattle.segment_manager.proofs.Common.{sizes_at_kind, sizes_of, sizes_of_kind, Object, Directory, kind_of, live}
-use Rattle.segment_manager.proofs.Common.{object_at, handle_at, HasPlaces, KeepsWhere, IsLocated, Plan, Refuse, perform}
-use Rattle.segment_manager.proofs.Common.{with, IsHeadOf, StandsAt, Answers, IsReplyOfKind, IsStep, IsStepOfKind, State}
-use Rattle.segment_manager.proofs.Common.{StandsFor, effect, is_read_only, step, step_of_kind, HasEnough, command_of}
+use Rattle.segment_manager.proofs as own
+use own.Common.{◌≡◌, refl, sym, ap, subst, ◌∙◌, ℕ, ◌&&◌, Option, Some, None, Result, Ok, Err, if◌then◌else◌, is_some}
+use own.Common.{option_map, same_Some, Kind, Refusal, NotFound, ReadOnly, WrongKind, same_kind, Key, ByHandle, Command}
+use own.Common.{is_changing, Head, Change, Clear, Reserve, Shrink, Located, Answer, kind_at, sizes_at, sizes_at_kind}
+use own.Common.{sizes_of, sizes_of_kind, Object, Directory, kind_of, live, object_at, handle_at, HasPlaces, KeepsWhere}
+use own.Common.{IsLocated, Plan, Refuse, perform, with, IsHeadOf, StandsAt, Answers, IsReplyOfKind, IsStep}
+use own.Common.{IsStepOfKind, State, StandsFor, effect, is_read_only, step, step_of_kind, HasEnough, command_of}
+use own.containers.AnyStorage.{measures-kind, of_kind-steps}
+use own.{indexes.Bridge.by-handle, objects.Here.here, Steps.moves-same}
 use Rattle.segment_manager.specs.Laws.{HandlesMeanObjects, KeysMeanObjects, KeysOfKindMeanObjects, at_key}
 use Rattle.segment_manager.specs.objects.Located.{located}
 use Rattle.seg_types.specs.Commands as asked
-use Rattle.segment_manager.proofs.{containers.AnyStorage.measures-kind, containers.AnyStorage.of_kind-steps}
-use Rattle.segment_manager.proofs.{indexes.Bridge.by-handle, objects.Here.here, Steps.moves-same}
 
 -- ---- the object
 
@@ -22,8 +21,7 @@ pub locates : {s : State} {key : Key} {h : ℕ} {head : Head} → Answers s (λ 
 locates {s} {key} {h} {head} a says = record {
   at = record {
     answers = λ d k.
-        let o = here s.cut.bytes d key h k.denotes (a.answers d k) in
-        let said = says o.object o.stands in
+        let o = here s.cut.bytes d key h k.denotes (a.answers d k) in let said = says o.object o.stands in
         (λ i. Some (record { handle = o.stands.at i; kind = said.kind i; count = said.count i }))
         ∙ sym (ap (option_map located) o.is);
   };
@@ -85,9 +83,8 @@ changing-same key other c = refl
 
 pub keys-same : KeysMeanObjects
 unfolding step
-keys-same mode d key other c e =
-    λ i. perform d (live d) (if is_read_only mode && changing-same key other c i then Refuse ReadOnly else effect-same d
-    key other c e i)
+keys-same mode d key other c e = λ i. perform d (live d)
+    (if is_read_only mode && changing-same key other c i then Refuse ReadOnly else effect-same d key other c e i)
 
 pub keys_of_kind-same : KeysOfKindMeanObjects
 unfolding step_of_kind
@@ -127,21 +124,18 @@ module _ (old : State) (key : Key) (o : Located) (l : IsLocated old key o) where
 
   pub step-by_key : (new : State) (c : Command) (answer : Answer) → IsStep old new (at_key (ByHandle o.handle) c) answer
       → IsStep old new (at_key key c) answer
-  step-by_key new c answer m =
-      moves-same old new answer (λ d. step old.mode d (at_key (ByHandle o.handle) c))
+  step-by_key new c answer m = moves-same old new answer (λ d. step old.mode d (at_key (ByHandle o.handle) c))
       (λ d. step old.mode d (at_key key c)) (step-same c) m
 
   pub step_of_kind-by_key : (new : State) (kind : Kind) (c : Command) (answer : Answer)
       → IsStepOfKind old new (ByHandle o.handle) kind (at_key (ByHandle o.handle) c) answer
       → IsStepOfKind old new key kind (at_key key c) answer
-  step_of_kind-by_key new kind c answer m =
-      moves-same old new answer (λ d. step_of_kind old.mode d (ByHandle o.handle) kind (at_key (ByHandle o.handle) c))
-      (λ d. step_of_kind old.mode d key kind (at_key key c))
+  step_of_kind-by_key new kind c answer m = moves-same old new answer (λ d. step_of_kind old.mode d (ByHandle o.handle)
+      kind (at_key (ByHandle o.handle) c)) (λ d. step_of_kind old.mode d key kind (at_key key c))
       (λ d k. keys_of_kind-same old.mode d (ByHandle o.handle) key kind c (same d k)) m
 
-  pub reply_of_kind-by_key : (kind : Kind) (c : Command) (answer : Answer)
-      → IsReplyOfKind old (ByHandle o.handle) kind (at_key (ByHandle o.handle) c) answer
-      → IsReplyOfKind old key kind (at_key key c) answer
+  pub reply_of_kind-by_key : (kind : Kind) (c : Command) (answer : Answer) → IsReplyOfKind old (ByHandle o.handle) kind
+      (at_key (ByHandle o.handle) c) answer → IsReplyOfKind old key kind (at_key key c) answer
   reply_of_kind-by_key kind c answer a = record {
     answers = λ d k. a.answers d k ∙ ap (λ (n : Answer × Directory). n.0)
         (keys_of_kind-same old.mode d (ByHandle o.handle) key kind c (same d k));
@@ -149,20 +143,17 @@ module _ (old : State) (key : Key) (o : Located) (l : IsLocated old key o) where
 
   -- ---- it says of which kind it is
 
-  pub located-steps : (new : State) (kind : Kind) (c : Command) (answer : Answer) → o.kind ≡ kind
-      → IsStepOfKind old new (ByHandle o.handle) kind (at_key (ByHandle o.handle) c) answer
-      → IsStep old new (at_key key c) answer
-  located-steps new kind c answer is m =
-      of_kind-steps old new key kind (at_key key c) answer
+  pub located-steps : (new : State) (kind : Kind) (c : Command) (answer : Answer) → o.kind ≡ kind → IsStepOfKind old new
+      (ByHandle o.handle) kind (at_key (ByHandle o.handle) c) answer → IsStep old new (at_key key c) answer
+  located-steps new kind c answer is m = of_kind-steps old new key kind (at_key key c) answer
       (subst (λ (n : Kind). Answers old (λ d. kind_at d key) (Ok n)) is kind-by_key)
       (step_of_kind-by_key new kind c answer m)
 
   pub located-measures : (kind : Kind) (r : Result (ℕ × ℕ) Refusal) → o.kind ≡ kind
       → Answers old (λ d. sizes_at_kind d (ByHandle o.handle) kind) r → Answers old (λ d. sizes_at d key) r
-  located-measures kind r is m =
-      measures-kind old key kind r (subst (λ (n : Kind). Answers old (λ d. kind_at d key) (Ok n)) is kind-by_key)
-      (told-by_key (λ d q. elim q as (λ _. Result
-      (ℕ × ℕ) Refusal) [ None ↦ Err NotFound | Some p ↦ sizes_of_kind p kind ]) r m)
+  located-measures kind r is m = measures-kind old key kind r (subst (λ (n : Kind). Answers old (λ d. kind_at d key)
+      (Ok n)) is kind-by_key) (told-by_key (λ d q. elim q as (λ _. Result (ℕ × ℕ) Refusal)
+      [ None ↦ Err NotFound | Some p ↦ sizes_of_kind p kind ]) r m)
 
   -- what is left as it is where there are so many places
   places-by_key : {new : State} (n : ℕ) → KeepsWhere old new (HasPlaces (ByHandle o.handle) n)

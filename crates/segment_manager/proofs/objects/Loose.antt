@@ -1,12 +1,11 @@
 -- The blocks of an object that no entry leads to yet: what an index wants to lead there, and how they are given back.
-use Rattle.segment_manager.proofs.Common.{◌∙◌, sym, subst, ℕ, ◌+◌, ◌≤◌, Some, None, Option, List, [], arith, IfSome}
-use Rattle.segment_manager.proofs.Common.{IsTrue, Cut, current, ObjectRole, LiveSet, IsAllocated, IsHeap, IsReleased}
-use Rattle.segment_manager.proofs.Common.{has_room, is_live_in, live_of, allocated-is_live, allocated-room}
-use Rattle.segment_manager.proofs.Common.{changed-room, lay_out_one, Kind, Class, Key, GivesBack, place_of, NewEntry}
-use Rattle.segment_manager.proofs.Common.{IsBegun, IsHeaded, IsLoose, IsLooseAlone, IsLooseEntry, IsReadyFor, IsWanted}
-use Rattle.segment_manager.proofs.Common.{IsRestored, room_for, Role, IsGrowth}
-use Rattle.segment_manager.proofs.objects.Taking.{growth-held, ready, requested-aligned, restored-taken, written-taken}
-use Rattle.segment_manager.proofs.{objects.Pieces.changed-heap}
+use Rattle.segment_manager.proofs as own
+use own.Common.{◌∙◌, sym, subst, ◌+◌, ◌≤◌, Some, None, List, arith, IsTrue, Cut, IsHeap, Kind, Class, Key, Role}
+use own.Common.{ℕ, Option, IfSome, current, LiveSet, live_of, IsBegun, IsHeaded, IsLoose, IsWanted, room_for, IsGrowth}
+use own.Common.{[], ObjectRole, IsReleased, has_room, is_live_in, GivesBack, place_of, NewEntry, IsReadyFor, IsRestored}
+use own.Common.{IsAllocated, allocated-is_live, allocated-room, changed-room, lay_out_one, IsLooseAlone, IsLooseEntry}
+use own.objects.Taking.{growth-held, ready, requested-aligned, restored-taken, written-taken}
+use own.objects.Pieces.{changed-heap}
 use Rattle.best_fit.proofs.Laws.{taken-back}
 
 -- ---- begun: the value has room behind the head
@@ -14,14 +13,12 @@ use Rattle.best_fit.proofs.Laws.{taken-back}
 headed-room : {a b : Cut} {kind : Kind} {class : Class} {name : List ℕ} {count : ℕ} (body : ℕ) {h at : ℕ}
     → IsHeaded a b kind class name count h at → IsTrue (has_room (live_of a.bytes) h (room_for name body))
     → IsTrue (has_room (live_of b.bytes) h (at + body))
-headed-room {a} {b} {name} body {h} p room =
-    subst (λ n. IsTrue (has_room (live_of b.bytes) h (n + body))) (sym p.start)
+headed-room {a} {b} {name} body {h} p room = subst (λ n. IsTrue (has_room (live_of b.bytes) h (n + body))) (sym p.start)
     (changed-room current a b h _ h (room_for name body) p.change room)
 
 pub begun-room : (entry : Option NewEntry) (a m : Cut) (key : Key) (kind : Kind) (count body h at : ℕ)
     → IsBegun a m key kind count body h at entry → IsTrue (has_room (live_of m.bytes) h (at + body))
-begun-room None a m key kind count body h at g =
-    headed-room body g.headed
+begun-room None a m key kind count body h at g = headed-room body g.headed
     (allocated-room current a g.taken (room_for [] body) ObjectRole h (room_for [] body) g.takes (omega arith))
 begun-room (Some e) a m key kind count body h at g =
     headed-room body g.headed (allocated-room current g.requested.between g.taken (room_for g.name body) ObjectRole h
@@ -36,8 +33,7 @@ begun-heap (Some e) a m key kind count body h at g = changed-heap g.headed.chang
 
 pub loose-wanted : {old now : Cut} {h : ℕ} {e : NewEntry} → IsLooseEntry old now h e → IsWanted now h e
 loose-wanted {e} l =
-    let q = l.index in
-    let ok = ready e.index q.index l.requested l.change in
+    let q = l.index in let ok = ready e.index q.index l.requested l.change in
     record {
       index = record { table = q.table; handles = q.handles; index = ok.index };
       growth = ok.growth;

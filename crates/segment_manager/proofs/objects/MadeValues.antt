@@ -1,24 +1,21 @@
 -- A value made in the block of a new object, by the heap's contracts: its blocks are taken and written, and it stands
 -- there.
-use Rattle.segment_manager.proofs.Common.{◌≡◌, refl, sym, ap, subst, ◌∙◌, ℕ, zero, suc, ◌+◌, ◌*◌, ◌≤◌, inl, Some, None}
-use Rattle.segment_manager.proofs.Common.{Option, List, [], ◌∷◌, length, arith, if◌then◌else◌, option_map}
-use Rattle.segment_manager.proofs.Common.{AllByRecursion, lt-leb, ne_eqb, current, Cut, Memory, Has, Same, bytes_of}
-use Rattle.segment_manager.proofs.Common.{word_at, Has-same, Same-trans, Same-word, SameBut-Same, SamePlace-trans}
-use Rattle.segment_manager.proofs.Common.{ObjectRole, Storage, exchanged, SameBlockBut, IsExchanged, Extent, LiveSet}
-use Rattle.segment_manager.proofs.Common.{end_of, handle, holds, added, place, regrow, resized, IsAllocated, IsChanged}
-use Rattle.segment_manager.proofs.Common.{LaysOut, live_of, Table, no_table, same_role, allocated-live, blocks-trans}
-use Rattle.segment_manager.proofs.Common.{Class, Kind, NoSpace, class_code, code_of, grown_table, Answer, Refused}
-use Rattle.segment_manager.proofs.Common.{IsHeaded, IsObjectAt, IsValueAt, padded_name, two_halves, Value, Directory}
-use Rattle.segment_manager.proofs.Common.{count_of, kind_of, padded, Plan, New, Request, perform, with_storage}
-use Rattle.segment_manager.proofs.Common.{IsHeadAt, room_for, live-spaced, spaced-insert}
-use Rattle.raw_region.proofs.Laws.{SameBut-wider}
+use Rattle.segment_manager.proofs.Common.{◌≡◌, Has-same, IsChanged, no_table, same_role, IsHeaded, IsValueAt, Directory}
+use Rattle.segment_manager.proofs.Common.{refl, zero, Some, None, List, arith, holds, added, place, Table, Class, Value}
+use Rattle.segment_manager.proofs.Common.{sym, ◌∙◌, suc, ◌+◌, ◌*◌, ◌≤◌, inl, [], ◌∷◌, Cut, Has, Same, Kind, Plan, New}
+use Rattle.segment_manager.proofs.Common.{ap, word_at, Storage, LiveSet, resized, LaysOut, count_of, IsHeadAt, room_for}
+use Rattle.segment_manager.proofs.Common.{subst, lt-leb, ne_eqb, Memory, Extent, end_of, handle, regrow, Answer, padded}
+use Rattle.segment_manager.proofs.Common.{ℕ, option_map, Same-trans, IsAllocated, grown_table, padded_name, live-spaced}
+use Rattle.segment_manager.proofs.Common.{Option, length, live_of, NoSpace, code_of, Refused, kind_of, Request, perform}
+use Rattle.segment_manager.proofs.Common.{if◌then◌else◌, AllByRecursion, SamePlace-trans, allocated-live, spaced-insert}
+use Rattle.segment_manager.proofs.Common.{current, Same-word, ObjectRole, exchanged, class_code, IsObjectAt, two_halves}
+use Rattle.segment_manager.proofs.Common.{bytes_of, SameBut-Same, SameBlockBut, IsExchanged, blocks-trans, with_storage}
+use Rattle.segment_manager.proofs.objects.Taking.{IsTaken, requested-taken, taken-live, written-taken}
+use Rattle.segment_manager.proofs.{objects.Exchanged.all-but-beside, blocks.NewBlocks.allocated-serves, Order.inserted}
+use Rattle.segment_manager.proofs.{objects.Exchanged.put-first, blocks.NewBlocks.changed-trans, Order.all_of-insert}
+use Rattle.segment_manager.proofs.{Order.live-rises, Order.resized-fresh, Order.rising-insert, Frame.padded_name-length}
+use Rattle.raw_region.proofs.{Facts.second, Facts.no_more, Laws.SameBut-wider}
 use Rattle.best_fit.specs.Fit.{insert}
-use Rattle.segment_manager.proofs.{objects.Exchanged.all-but-beside, objects.Exchanged.put-first}
-use Rattle.segment_manager.proofs.{Frame.padded_name-length, objects.Taking.IsTaken, objects.Taking.requested-taken}
-use Rattle.segment_manager.proofs.{objects.Taking.taken-live, blocks.NewBlocks.allocated-serves}
-use Rattle.segment_manager.proofs.{blocks.NewBlocks.changed-trans, objects.Taking.written-taken, Words.second}
-use Rattle.segment_manager.proofs.{Words.no_more}
-use Rattle.segment_manager.proofs.Order.{all_of-insert, inserted, live-rises, resized-fresh, rising-insert}
 
 -- ---- storage that is asked for
 
@@ -30,8 +27,7 @@ abbrev with_extent : ℕ → Extent → Table
 with_extent n x = record { capacity = n; extent = Some x }
 
 met-storage : (d : Directory) (l : LiveSet) (n : ℕ) {t : Table} (next : Table → Plan) (r : Option Extent)
-    → option_map (with_extent n) r ≡ Some t
-    → elim r as (λ _. Answer
+    → option_map (with_extent n) r ≡ Some t → elim r as (λ _. Answer
     × Directory) [ None ↦ (Refused NoSpace, d) | Some x ↦ perform d (resized l x) (next (with_extent n x)) ] ≡ perform d
     (stored l t) (next t)
 met-storage d l n next None e = absurd (cc)
@@ -42,32 +38,26 @@ met-storage d l n {t} next (Some x) e =
 more-places : (l : LiveSet) (each n : ℕ)
     → grown_table l each (suc n) no_table ≡ option_map (with_extent (suc n)) (place l (each * suc n) Storage)
 unfolding grown_table regrow
-more-places l each n =
-    ap (λ b. if b then Some no_table else option_map (with_extent (suc n)) (place l (each * suc n) Storage))
-    (lt-leb (suc n) 0 (omega arith))
+more-places l each n = ap (λ b. if b then Some no_table else option_map (with_extent (suc n)) (place l (each * suc n)
+    Storage)) (lt-leb (suc n) 0 (omega arith))
 
 more-asked : (each n : ℕ) (next : Table → Plan)
     → with_storage each (suc n) next ≡ Request (New Storage (each * suc n)) (λ x. next (with_extent (suc n) x))
-more-asked each n next =
-    ap (λ b. if b then next no_table else Request (New Storage (each * suc n)) (λ x. next (with_extent (suc n) x)))
-    (ne_eqb (suc n) 0 (λ e. omega (arith, e)))
+more-asked each n next = ap (λ b. if b then next no_table else Request (New Storage (each * suc n))
+    (λ x. next (with_extent (suc n) x))) (ne_eqb (suc n) 0 (λ e. omega (arith, e)))
 
 -- it is there
-pub storage-met : (d : Directory) (l : LiveSet) (each len : ℕ) (t : Table) (next : Table → Plan)
-    → grown_table l each len no_table ≡ Some t
-    → perform d l (with_storage each len next) ≡ perform d (stored l t) (next t)
+pub storage-met : (d : Directory) (l : LiveSet) (each len : ℕ) (t : Table) (next : Table → Plan) → grown_table l each
+    len no_table ≡ Some t → perform d l (with_storage each len next) ≡ perform d (stored l t) (next t)
 unfolding grown_table
 storage-met d l each zero t next e = let same : no_table ≡ t = cc in λ i. perform d (stored l (same i)) (next (same i))
-storage-met d l each (suc n) t next e =
-    ap (perform d l) (more-asked each n next)
+storage-met d l each (suc n) t next e = ap (perform d l) (more-asked each n next)
     ∙ met-storage d l (suc n) next (place l (each * suc n) Storage) (sym (more-places l each n) ∙ e)
 
 none-storage : (d : Directory) (l : LiveSet) (n : ℕ) (next : Table → Plan) (r : Option Extent)
-    → option_map (with_extent n) r ≡ None
-    → elim r as (λ _. Answer
+    → option_map (with_extent n) r ≡ None → elim r as (λ _. Answer
     × Directory) [ None ↦ (Refused NoSpace, d) | Some x ↦ perform d (resized l x) (next (with_extent n x)) ] ≡ (
-      Refused
-          NoSpace,
+      Refused NoSpace,
       d,
     )
 none-storage d l n next None e = refl
@@ -78,8 +68,7 @@ pub storage-none : (d : Directory) (l : LiveSet) (each len : ℕ) (next : Table 
     → grown_table l each len no_table ≡ None → perform d l (with_storage each len next) ≡ (Refused NoSpace, d)
 unfolding grown_table
 storage-none d l each zero next e = absurd (cc)
-storage-none d l each (suc n) next e =
-    ap (perform d l) (more-asked each n next)
+storage-none d l each (suc n) next e = ap (perform d l) (more-asked each n next)
     ∙ none-storage d l (suc n) next (place l (each * suc n) Storage) (sym (more-places l each n) ∙ e)
 
 -- ---- blocks
@@ -104,10 +93,8 @@ stays-but {a} {b} {c} {x} {from} {n} m r =
 pub taken-more : (a : Cut) {b c : Cut} (x : Extent) {from n : ℕ} {come : List Extent} → IsTaken a b (x ∷ [])
     → handle x ≤ from → from + n ≤ end_of x → IsExchanged current b c from n [] come → IsTaken a c (x ∷ come)
 taken-more a {b} {c} x {from} {n} {come} m low high r =
-    let A = bytes_of a.bytes in
-    let B = bytes_of b.bytes in
-    let C = bytes_of c.bytes in
-    let l = live_of a.bytes in
+    let A = bytes_of a.bytes in let B = bytes_of b.bytes in
+    let C = bytes_of c.bytes in let l = live_of a.bytes in
     let laid : LaysOut current c.bytes (with_live l (inserted come (insert x l.extents))) =
     subst (LaysOut current c.bytes) (ap (λ (s : LiveSet). exchanged s [] come) (taken-live a b (x ∷ []) m)) r.live in
     let up = live-rises (with_live l (inserted come (insert x l.extents))) laid.proper in
@@ -134,12 +121,11 @@ placed-next {a} {b} {n} {h} t =
 -- ---- the object
 
 changed-wider : {a b : Cut} {from m : ℕ} {n : ℕ} → m ≤ n → IsChanged current a b from m → IsChanged current a b from n
-changed-wider {a} {b} {from} {m} {n} l c =
-    record {
-      place = c.place;
-      live = c.live;
-      rest = SameBut-wider (bytes_of a.bytes) (bytes_of b.bytes) from m from n c.rest (omega arith) (omega arith);
-    }
+changed-wider {a} {b} {from} {m} {n} l c = record {
+  place = c.place;
+  live = c.live;
+  rest = SameBut-wider (bytes_of a.bytes) (bytes_of b.bytes) from m from n c.rest (omega arith) (omega arith);
+}
 
 -- what was written behind the head stands in the payload
 pub headed-change : {a b c : Cut} {kind : Kind} {class : Class} {name : List ℕ} {count : ℕ} (body : ℕ) {h at n : ℕ}
@@ -163,8 +149,7 @@ module _ {a e : Cut} (name : List ℕ) {n h at : ℕ} (t : IsAllocated current a
     (start : at ≡ 16 + padded (length name)) where
   pub inside : IsInside t.extent (h + at) n
   inside =
-      let long = room_for name n in
-      let x : Extent = t.extent in
+      let long = room_for name n in let x : Extent = t.extent in
       let is : h ≡ handle x = t.at in
       let fits = no_more (long + 16) x.len (second (same_role x.role ObjectRole) (holds x long) (allocated-serves t)) in
       record { low = omega arith; high = omega arith }
@@ -179,29 +164,24 @@ module _ {a e : Cut} (name : List ℕ) {n h at : ℕ} (t : IsAllocated current a
 headed-object : {m m' : Memory} {h at : ℕ} {class : Class} {name : List ℕ} (v : Value) (x : Extent) → h ≡ handle x
     → at ≡ 16 + padded (length name) → IsHeadAt m h (kind_of v) (count_of v) class name → Same m m' h (h + at)
     → IsValueAt m' (h + at) v → IsObjectAt m' (record { class = class; name = name; value = v; extent = x })
-headed-object {m} {m'} {h} {at} {class} {name} v x is start head s w =
-    record {
-      kind_count = subst (λ g. word_at m' g ≡ two_halves (code_of (kind_of v)) (count_of v)) is
-          (Same-word m m' h (h + at) h s (omega arith) (omega arith) ∙ head.kind_count);
-      name_class = subst (λ g. word_at m' (g + 8) ≡ two_halves (length name) (class_code class)) is
-          (Same-word m m' h (h + at) (h + 8) s (omega arith) (omega arith) ∙ head.name_class);
-      name = subst (λ g. Has m' (g + 16) (padded_name name)) is
-          (Has-same m m' h (h + at) (h + 16) (padded_name name) s (omega arith)
-          (omega (arith, (padded_name-length name))) head.name);
-      value = subst (λ p. IsValueAt m' p v) (omega arith) w;
-    }
+headed-object {m} {m'} {h} {at} {class} {name} v x is start head s w = record {
+  kind_count = subst (λ g. word_at m' g ≡ two_halves (code_of (kind_of v)) (count_of v)) is
+      (Same-word m m' h (h + at) h s (omega arith) (omega arith) ∙ head.kind_count);
+  name_class = subst (λ g. word_at m' (g + 8) ≡ two_halves (length name) (class_code class)) is
+      (Same-word m m' h (h + at) (h + 8) s (omega arith) (omega arith) ∙ head.name_class);
+  name = subst (λ g. Has m' (g + 16) (padded_name name)) is (Has-same m m' h (h + at) (h + 16) (padded_name name) s
+      (omega arith) (omega (arith, (padded_name-length name))) head.name);
+  value = subst (λ p. IsValueAt m' p v) (omega arith) w;
+}
 
 -- the object stands there with its value
 pub made-object : {a t m e w : Cut} {class : Class} {name : List ℕ} {n h at : ℕ} (v : Value) {come : List Extent}
-    → (took : IsAllocated current a e (room_for name n) ObjectRole h)
-    → IsHeaded t m (kind_of v) class name (count_of v) h at → IsChanged current m e (h + at) n
-    → IsExchanged current e w (h + at) n [] come → IsValueAt (bytes_of w.bytes) (h + at) v
-    → IsObjectAt (bytes_of w.bytes) (record { class = class; name = name; value = v; extent = took.extent })
+    → (took : IsAllocated current a e (room_for name n) ObjectRole h) → IsHeaded t m (kind_of v) class name (count_of v)
+    h at → IsChanged current m e (h + at) n → IsExchanged current e w (h + at) n [] come → IsValueAt (bytes_of w.bytes)
+    (h + at) v → IsObjectAt (bytes_of w.bytes) (record { class = class; name = name; value = v; extent = took.extent })
 made-object {a} {m} {e} {w} {name} {n} {h} {at} v took headed change storage says =
-    let M = bytes_of m.bytes in
-    let E = bytes_of e.bytes in
-    let W = bytes_of w.bytes in
-    let high = (inside name took headed.start).high in
+    let M = bytes_of m.bytes in let E = bytes_of e.bytes in
+    let W = bytes_of w.bytes in let high = (inside name took headed.start).high in
     let but = stays-but (requested-taken took) storage in
     let front = SameBut-Same M E (h + at) n h (h + at) change.rest (inl (omega arith)) in
     let back : Same E W h (h + at) = record { at = λ k f g. but.own.payload k (omega arith) (omega arith) (inl g) } in

@@ -1,14 +1,13 @@
 -- The key of a new object that gets an entry.
-use Rattle.segment_manager.proofs.Common.{◌≡◌, refl, sym, ap, subst, ◌∙◌, ℕ, zero, suc, ◌≤◌, ℤ, Bool, true, ◌&&◌, ◌==◌}
-use Rattle.segment_manager.proofs.Common.{None, List, length, replicate, arith, IsTrue, nat_le, list_all, and_from}
-use Rattle.segment_manager.proofs.Common.{eq-eqb, le-leb, length-replicate, current, Extent, ObjectRole, serves}
-use Rattle.segment_manager.proofs.Common.{ScalarKind, Kind, code_of, is_kind_of, is_value, is_name, is_text_name, Index}
-use Rattle.segment_manager.proofs.Common.{Named, Unique, Name, Code, Value, Numbers, Object, Directory, has_good_name}
-use Rattle.segment_manager.proofs.Common.{has_key, is_good_value, is_object, kind_of, object_at, object_len, same_bytes}
-use Rattle.segment_manager.proofs.Common.{Seeks, class_of_index, IsNewKeyOf, class_of, name_of}
-use Rattle.seg_types.specs.Names as names
+use Rattle.segment_manager.proofs as own
+use own.Common.{◌≡◌, sym, ◌∙◌, zero, suc, ◌≤◌, Bool, true, ◌&&◌, ◌==◌, None, List, Kind, Name, Code, Seeks}
+use own.Common.{refl, subst, arith, IsTrue, nat_le, eq-eqb, le-leb, Extent, serves, Index, Named, Unique, Value, Object}
+use own.Common.{ap, length, and_from, current, code_of, is_value, is_name, Numbers, has_key, kind_of, class_of, name_of}
+use own.Common.{ℕ, length-replicate, ObjectRole, ScalarKind, is_text_name, has_good_name, is_good_value, class_of_index}
+use own.Common.{ℤ, replicate, list_all, is_kind_of, Directory, is_object, object_at, object_len, same_bytes, IsNewKeyOf}
+use own.{indexes.Entered.key_in, indexes.KeyOrder.same-itself, objects.Heads.name-short}
 use Rattle.seg_index.specs.declared.keys.Key.{Key}
-use Rattle.segment_manager.proofs.{indexes.Entered.key_in, indexes.KeyOrder.same-itself, objects.Heads.name-short}
+use Rattle.seg_types.specs.Names as names
 
 -- ---- numbers
 
@@ -20,10 +19,9 @@ all-replicate t (suc n) z h = and_from (t z) (list_all t (replicate n z)) h (all
 -- as many numbers of the kind as an object may have
 pub numbers-value : (k : ScalarKind) (zs : List ℤ) → 1 ≤ length zs → length zs ≤ 1048576
     → IsTrue (list_all (is_value k) zs) → IsTrue (is_good_value (Numbers k zs))
-numbers-value k zs low high all =
-    and_from (nat_le 1 (length zs) && nat_le (length zs) 1048576) (list_all (is_value k) zs)
-    (and_from (nat_le 1 (length zs)) (nat_le (length zs) 1048576) (le-leb 1 (length zs) low)
-    (le-leb (length zs) 1048576 high)) all
+numbers-value k zs low high all = and_from (nat_le 1 (length zs) && nat_le (length zs) 1048576) (list_all (is_value k)
+    zs) (and_from (nat_le 1 (length zs)) (nat_le (length zs) 1048576) (le-leb 1 (length zs) low) (le-leb (length zs)
+    1048576 high)) all
 
 pub equal-good : (k : ScalarKind) (n : ℕ) (z : ℤ) → 1 ≤ n → n ≤ 1048576 → IsTrue (is_value k z)
     → IsTrue (is_good_value (Numbers k (replicate n z)))
@@ -96,8 +94,7 @@ pub key-object : (i : Index) (e : Key) (key : names.Key) (name : List ℕ) (v : 
     → IsTrue (serves x ObjectRole (object_len name v)) → IsTrue (is_object current (object_of i name v x))
 key-object i e key name v x h kind good s =
     let o = object_of i name v x in
-    and_from (has_good_name current o && is_kind_of current (kind_of v) && is_good_value v)
-    (serves x ObjectRole (object_len name v))
-    (and_from (has_good_name current o && is_kind_of current (kind_of v)) (is_good_value v)
-    (and_from (has_good_name current o) (is_kind_of current (kind_of v))
-    (key-good_name i e key name v x h) kind) good) s
+    and_from (has_good_name current o && is_kind_of current (kind_of v) && is_good_value v) (serves x ObjectRole
+    (object_len name v)) (and_from (has_good_name current o && is_kind_of current (kind_of v)) (is_good_value v)
+    (and_from (has_good_name current o) (is_kind_of current (kind_of v)) (key-good_name i e key name v x h) kind)
+    good) s

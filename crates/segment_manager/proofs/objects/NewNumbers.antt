@@ -4,12 +4,11 @@ use Rattle.segment_manager.proofs.Common.{[], length, replicate, IsTrue, AllByRe
 use Rattle.segment_manager.proofs.Common.{Has, Memory, bytes_of, Tree, fork, leaf, nodes_of, IsExchanged, SameBlockBut}
 use Rattle.segment_manager.proofs.Common.{Extent, cells_of, IsChanged, LaysOut, live_of, laid-heap, ScalarKind, Plain}
 use Rattle.segment_manager.proofs.Common.{is_value, size_of, spelling, MapPlace, Place, place_at, spelled, Numbers}
-use Rattle.segment_manager.proofs.Common.{Pairs, is_good_value, IsMadeValue, repeated}
+use Rattle.segment_manager.proofs.{Common.Pairs, Common.IsMadeValue, Common.repeated, objects.NewKeys.equal-good}
+use Rattle.segment_manager.proofs.{Common.is_good_value, blocks.Blocks.spelling-length, objects.Rows.repeated-spelled}
 use Rattle.link_tree.specs.Tree.{IsTree}
-use Rattle.seg_types.specs.Commands as asked
 use Rattle.seg_map.specs.Changing.{IsNew}
-use Rattle.segment_manager.proofs.{blocks.Blocks.spelling-length, objects.NewKeys.equal-good}
-use Rattle.segment_manager.proofs.{objects.Rows.repeated-spelled}
+use Rattle.seg_types.specs.Commands as asked
 
 all-stay : (m : Memory) (from n : ℕ) (xs : List Extent) → AllByRecursion (SameBlockBut m m from n) xs
 all-stay m from n [] = tt
@@ -48,9 +47,8 @@ numbers-made k zs {old} {new} good change says = record {
 
 -- the spelling of one number, so many times
 pub equal-made : (k : ScalarKind) (count : ℕ) (z : ℤ) (old new : Cut) (p : Place) (bytes : List ℕ) → 1 ≤ count
-    → count ≤ 1048576 → IsTrue (is_value k z) → bytes ≡ spelling k z
-    → IsChanged current old new (place_at p) (length bytes * count)
-    → Has (bytes_of new.bytes) (place_at p) (repeated count bytes)
+    → count ≤ 1048576 → IsTrue (is_value k z) → bytes ≡ spelling k z → IsChanged current old new (place_at p)
+    (length bytes * count) → Has (bytes_of new.bytes) (place_at p) (repeated count bytes)
     → IsMadeValue (asked.Numbers k (replicate count z)) old new p
 equal-made k count z old new p bytes low high value spelt change says =
     let size : length bytes ≡ size_of k = ap (λ (bs : List ℕ). length bs) spelt ∙ spelling-length k z in

@@ -1,27 +1,25 @@
 -- An object made under a key whose value takes blocks of its own, whatever it is, as a step of the machine: its
 -- requests are met in order, or one is refused and all is given back.
-use Rattle.segment_manager.proofs.Common.{◌≡◌, refl, sym, ap, subst, ◌∙◌, ℕ, ◌+◌, ◌≤◌, true, ◌&&◌, Some, None, Option}
-use Rattle.segment_manager.proofs.Common.{List, [], ◌∷◌, length, IsTrue, find, and_from, current, Cut, SamePlace}
-use Rattle.segment_manager.proofs.Common.{bytes_of, SamePlace-trans, ObjectRole, Extent, LiveSet, added, place, resized}
-use Rattle.segment_manager.proofs.Common.{IsAllocated, IsChanged, Keeps, LaysOut, live_of, Table, serves, laid-heap}
-use Rattle.segment_manager.proofs.Common.{Class, Anonymous, Kind, Refusal, is_kind_of, Content, Index, Absent}
-use Rattle.segment_manager.proofs.Common.{IsIndexOf, place_of, AddKeeps, IsGrowth, IsPlace, prepared, NewEntry}
-use Rattle.segment_manager.proofs.Common.{IsAbsentAt, IsBegun, IsBegunAlone, IsBegunEntry, IsHeaded, IsLoose}
-use Rattle.segment_manager.proofs.Common.{IsReadyFor, IsWanted, LeadsThere, Denotes, Value, Object, Directory, count_of}
-use Rattle.segment_manager.proofs.Common.{extents_of, has_key, is_good_value, is_object, kind_of, live, object_at}
-use Rattle.segment_manager.proofs.Common.{object_len, padded, value_extents, value_len, with_object, IsDenied, IsGiven}
-use Rattle.segment_manager.proofs.Common.{IsMadeValue, IsNoValue, class_of_index, entries_of, table_of, head_len}
-use Rattle.segment_manager.proofs.Common.{IsNewKeyOf, IsRestored, Plan, bare, with_value, room_for, IsSegment}
-use Rattle.segment_manager.proofs.Common.{StandsFor}
+use Rattle.segment_manager.proofs.Common.{◌≡◌, sym, true, ◌&&◌, Some, None, List, find, Kind, Value, live, Plan, bare}
+use Rattle.segment_manager.proofs.Common.{refl, LiveSet, resized, LaysOut, live_of, Refusal, Content, IsPlace, room_for}
+use Rattle.segment_manager.proofs.Common.{ap, Extent, place, Keeps, Table, serves, Class, Index, Absent, Object, padded}
+use Rattle.segment_manager.proofs.Common.{subst, IsAbsentAt, IsReadyFor, LeadsThere, extents_of, object_len, entries_of}
+use Rattle.segment_manager.proofs.Common.{◌∙◌, ℕ, ◌+◌, ◌≤◌, [], ◌∷◌, Cut}
+use Rattle.segment_manager.proofs.Common.{Option, length, IsTrue, IsBegun, IsLoose, Denotes, has_key, kind_of, IsGiven}
+use Rattle.segment_manager.proofs.Common.{and_from, SamePlace, IsChanged, laid-heap, IsNewKeyOf, IsRestored, with_value}
+use Rattle.segment_manager.proofs.Common.{current, NewEntry, IsHeaded, IsWanted, count_of, IsDenied, table_of, head_len}
+use Rattle.segment_manager.proofs.Common.{bytes_of, added, place_of, AddKeeps, IsGrowth, prepared, IsSegment, StandsFor}
+use Rattle.segment_manager.proofs.Common.{SamePlace-trans, IsBegunAlone, is_good_value, value_extents, class_of_index}
+use Rattle.segment_manager.proofs.Common.{ObjectRole, IsAllocated, is_kind_of, IsBegunEntry, with_object, IsMadeValue}
+use Rattle.segment_manager.proofs.Common.{Anonymous, IsIndexOf, Directory, is_object, object_at, value_len, IsNoValue}
 use Rattle.segment_manager.proofs.objects.Taking.{IsMade, IsTaken, taken-growth, taken-index, growth-index}
 use Rattle.segment_manager.proofs.objects.Taking.{requested-aligned, restored-taken}
 use Rattle.segment_manager.proofs.objects.MadeValues.{empty-taken, made-object, made-taken, placed-next}
 use Rattle.segment_manager.proofs.objects.Constructed.{IsNewObject, IsNoObject, content-denied, content-entered}
-use Rattle.segment_manager.proofs.{Codes.known-kind, indexes.Bridge.lookup-absent, Calling.denotes-live}
-use Rattle.segment_manager.proofs.{Denoted.denotes-with, indexes.HeldIndexes.denotes-index}
+use Rattle.segment_manager.proofs.{objects.Constructed.restored-denotes, Codes.known-kind, indexes.Bridge.lookup-absent}
+use Rattle.segment_manager.proofs.{Calling.denotes-live, Denoted.denotes-with, indexes.HeldIndexes.denotes-index}
 use Rattle.segment_manager.proofs.{objects.KeyCalls.segment-index, Live.adding, blocks.NewBlocks.allocated-serves}
 use Rattle.segment_manager.proofs.{objects.NewKeys.key-object, objects.NewKeys.key-seeks, Steps.perform-new}
-use Rattle.segment_manager.proofs.{objects.Constructed.restored-denotes}
 use Rattle.seg_index.specs.declared.keys.Key.{Key}
 use Rattle.segment_manager.specs.objects.Begun.{GivesAllBack, IsEntryAdded}
 use Rattle.seg_index.proofs.Laws.{place_behind, place_small}
@@ -60,12 +58,11 @@ pub record IsMadeNever (a c : Cut) (key : names.Key) (content : Content) : Type 
   pub each : (d : Directory) → StandsFor a.bytes d → (object_at d key ≡ None) × IsNoObject c d key content
 
 unchanged : {w : Cut} (l : LiveSet) {from n : ℕ} → LaysOut current w.bytes l → IsChanged current w w from n
-unchanged {w} l laid =
-    record {
-      place = record { before = refl; after = refl };
-      live = laid-heap w.bytes l laid;
-      rest = record { at = λ k h. refl };
-    }
+unchanged {w} l laid = record {
+  place = record { before = refl; after = refl };
+  live = laid-heap w.bytes l laid;
+  rest = record { at = λ k h. refl };
+}
 
 module _ (content : Content) where
   abbrev kind : Kind
@@ -80,9 +77,8 @@ module _ (content : Content) where
   -- ---- the value in its object's block
 
   module _ (a t m w : Cut) (class : Class) (name : List ℕ) (h at : ℕ)
-      (take : IsAllocated current a t (room_for name long) ObjectRole h)
-      (headed : IsHeaded t m kind class name many h at)
-      (r : IsMadeValue content m w (record { handle = h; at = at })) where
+      (take : IsAllocated current a t (room_for name long) ObjectRole h) (headed : IsHeaded t m kind class name many h
+      at) (r : IsMadeValue content m w (record { handle = h; at = at })) where
     block : IsAllocated current a r.empty (room_for name long) ObjectRole h
     block = empty-taken take headed r.change
 
@@ -93,8 +89,7 @@ module _ (content : Content) where
     both-taken = made-taken name block headed.start r.storage
 
     serving : IsTrue (serves block.extent ObjectRole (object_len name r.value))
-    serving =
-        subst (λ n. IsTrue (serves block.extent ObjectRole n))
+    serving = subst (λ n. IsTrue (serves block.extent ObjectRole n))
         (ap (λ n. head_len + padded (length name) + n) (sym r.len)) (allocated-serves block)
 
     made-in : IsTrue (is_object current own) → IsMade a w own
@@ -119,24 +114,21 @@ module _ (content : Content) where
   module _ {a m : Cut} {key : names.Key} {h at : ℕ} {e : NewEntry} (g : IsBegunEntry a m key kind many long h at e)
       {d : Directory} (said : Denotes current a.bytes d) where
     absent : object_at d key ≡ None
-    absent =
-        (lookup-absent e.index a g.entry key said (key-seeks e.index g.entry key g.name kind g.is)
+    absent = (lookup-absent e.index a g.entry key said (key-seeks e.index g.entry key g.name kind g.is)
         (away-in e.index g.entry e.place said g.absent)).none
 
     entry-new : {w c : Cut} → IsMadeValue content m w (record { handle = h; at = at }) → IsEntryAdded w c h e
         → IsNewObject c d key content h
     entry-new {w} {c} r added =
-        let b : Cut = g.requested.between in
-        let class = class_of_index e.index in
+        let b : Cut = g.requested.between in let class = class_of_index e.index in
         let took = block b g.taken m w class g.name h at g.requested.takes g.headed r in
         content-entered e.index a d g.entry key g.name kind content said g.is b w e.place e.growth.block
         g.requested.grows (placed-at b g.taken m w class g.name h at g.requested.takes g.headed r)
-        (given-in b g.taken m w class g.name h at g.requested.takes g.headed r) r.is_kind r.count
-        (made-in b g.taken m w class g.name h at g.requested.takes g.headed r
-        (key-object e.index g.entry key g.name r.value took.extent
-        (subst (IsNewKeyOf e.index g.entry key g.name) (sym r.is_kind) g.is) (known-kind (kind_of r.value)) r.good
-        (serving b g.taken m w class g.name h at g.requested.takes g.headed r))) took.at
-        (away-in e.index g.entry e.place said g.absent)
+        (given-in b g.taken m w class g.name h at g.requested.takes g.headed r) r.is_kind r.count (made-in b g.taken
+        m w class g.name h at g.requested.takes g.headed r (key-object e.index g.entry key g.name r.value
+        took.extent (subst (IsNewKeyOf e.index g.entry key g.name) (sym r.is_kind) g.is)
+        (known-kind (kind_of r.value)) r.good (serving b g.taken m w class g.name h at g.requested.takes g.headed
+        r))) took.at (away-in e.index g.entry e.place said g.absent)
         (record { adds = added.adds; live = added.live; keeps = added.keeps })
 
     entry-denied : {w c : Cut} {why : Refusal} → IsNoValue content m w (record { handle = h; at = at }) why
@@ -162,52 +154,42 @@ module _ (content : Content) where
 
     alone-good : (x : Extent) (w : Value) → IsTrue (is_kind_of current (kind_of w)) → IsTrue (is_good_value w)
         → IsTrue (serves x ObjectRole (object_len [] w)) → IsTrue (is_object current (alone_in x w))
-    alone-good x w known good s =
-        and_from (true && is_kind_of current (kind_of w) && is_good_value w) (serves x ObjectRole (object_len [] w))
-        (and_from (true && is_kind_of current (kind_of w)) (is_good_value w)
+    alone-good x w known good s = and_from (true && is_kind_of current (kind_of w) && is_good_value w)
+        (serves x ObjectRole (object_len [] w)) (and_from (true && is_kind_of current (kind_of w)) (is_good_value w)
         (and_from true (is_kind_of current (kind_of w)) refl known) good) s
 
     alone-new : {w : Cut} → IsMadeValue content m w (record { handle = h; at = at })
         → IsNewObject w d names.NoKey content h
     alone-new {w} r =
-        let took = block a g.taken m w Anonymous [] h at g.takes g.headed r in
-        let x : Extent = took.extent in
-        let o = alone_in x r.value in
-        let same = denotes-live current a.bytes d said in
-        let made = made-in a g.taken m w Anonymous [] h at g.takes g.headed r
-        (alone-good x r.value (known-kind (kind_of r.value)) r.good
-        (serving a g.taken m w Anonymous [] h at g.takes g.headed r)) in
+        let took = block a g.taken m w Anonymous [] h at g.takes g.headed r in let x : Extent = took.extent in
+        let o = alone_in x r.value in let same = denotes-live current a.bytes d said in
+        let made = made-in a g.taken m w Anonymous [] h at g.takes g.headed r (alone-good x r.value
+        (known-kind (kind_of r.value)) r.good (serving a g.taken m w Anonymous [] h at g.takes g.headed r)) in
         record {
           object = o;
           after = with_object d o;
           left = r.left;
           at = took.at;
           count = r.count;
-          met = λ next.
-              perform-new d (live d) ObjectRole (object_len [] (bare content)) (alone_plan next) x
-              (ap (λ l. place l (object_len [] (bare content)) ObjectRole) (sym same)
-              ∙ placed-at a g.taken m w Anonymous [] h at g.takes g.headed r)
-              ∙ (subst (λ l. IsGiven d (resized l x) content r.value r.left) same
-              (given-in a g.taken m w Anonymous [] h at g.takes g.headed r)).met
-              (λ w. next (alone_in x w) (with_object d (alone_in x w)));
-          denotes = denotes-with a w said made.good refl
-              (subst (λ l. LaysOut current w.bytes (adding l (extents_of o))) same made.taken.live)
-              (subst (λ (l : LiveSet). Keeps a w l.extents) same made.taken.keeps) made.at;
+          met = λ next. perform-new d (live d) ObjectRole (object_len [] (bare content)) (alone_plan next) x
+              (ap (λ l. place l (object_len [] (bare content)) ObjectRole) (sym same) ∙ placed-at a g.taken m w
+              Anonymous [] h at g.takes g.headed r) ∙ (subst (λ l. IsGiven d (resized l x) content r.value r.left) same
+              (given-in a g.taken m w Anonymous [] h at g.takes g.headed r)).met (λ w. next (alone_in x w)
+              (with_object d (alone_in x w)));
+          denotes = denotes-with a w said made.good refl (subst (λ l. LaysOut current w.bytes (adding l (extents_of o)))
+              same made.taken.live) (subst (λ (l : LiveSet). Keeps a w l.extents) same made.taken.keeps) made.at;
         }
 
     alone-denied : {w c : Cut} {why : Refusal} → IsNoValue content m w (record { handle = h; at = at }) why
         → IsRestored a c → IsNoObject c d names.NoKey content
     alone-denied {w} {c} r back =
-        let took = empty-taken g.takes g.headed r.change in
-        let x : Extent = took.extent in
+        let took = empty-taken g.takes g.headed r.change in let x : Extent = took.extent in
         let same = denotes-live current a.bytes d said in
         record {
-          refused = λ next.
-              perform-new d (live d) ObjectRole (object_len [] (bare content)) (alone_plan next) x
+          refused = λ next. perform-new d (live d) ObjectRole (object_len [] (bare content)) (alone_plan next) x
               (ap (λ l. place l (object_len [] (bare content)) ObjectRole) (sym same) ∙ took.placed)
-              ∙ (subst (λ l. IsDenied d (resized l x) content) same
-              (subst (λ l. IsDenied d l content) (sym (placed-next took)) (r.denied d)))
-              (λ w. next (alone_in x w) (with_object d (alone_in x w)));
+              ∙ (subst (λ l. IsDenied d (resized l x) content) same (subst (λ l. IsDenied d l content)
+              (sym (placed-next took)) (r.denied d))) (λ w. next (alone_in x w) (with_object d (alone_in x w)));
           denotes = restored-denotes a c d said back;
         }
 
@@ -215,8 +197,7 @@ module _ (content : Content) where
 
   module _ (a : Cut) {m : Cut} (b : IsSegment a.bytes) (key : names.Key) (h at : ℕ) where
     entry-taken : {w : Cut} {e : NewEntry} → (g : IsBegunEntry a m key kind many long h at e)
-        → (r : IsMadeValue content m w (record { handle = h; at = at }))
-        → IsTaken g.requested.between w
+        → (r : IsMadeValue content m w (record { handle = h; at = at })) → IsTaken g.requested.between w
         ((block g.requested.between g.taken m w (class_of_index e.index) g.name h at g.requested.takes g.headed
         r).extent ∷ value_extents r.value)
     entry-taken {w} {e} g r =
@@ -226,12 +207,9 @@ module _ (content : Content) where
     entry-wanted : {w : Cut} {e : NewEntry} → IsBegunEntry a m key kind many long h at e
         → IsMadeValue content m w (record { handle = h; at = at }) → IsWanted w h e
     entry-wanted {w} {e} g r =
-        let i : Index = e.index in
-        let mid : Cut = g.requested.between in
-        let d : Directory = b.0 in
-        let t = table_of i d in
-        let hs = entries_of i d in
-        let x = denotes-index i a b.1.denotes in
+        let i : Index = e.index in let mid : Cut = g.requested.between in
+        let d : Directory = b.0 in let t = table_of i d in
+        let hs = entries_of i d in let x = denotes-index i a b.1.denotes in
         let took = block mid g.taken m w (class_of_index i) g.name h at g.requested.takes g.headed r in
         let taken = entry-taken g r in
         let grown =
@@ -280,8 +258,7 @@ module _ (content : Content) where
       entry-place : (r : IsMadeValue content m w (record { handle = h; at = at })) → IsEntryAdded w c h e
           → SamePlace a c
       entry-place r added =
-          let i : Index = e.index in
-          let mid : Cut = g.requested.between in
+          let i : Index = e.index in let mid : Cut = g.requested.between in
           let q = (entry-wanted g r).index in
           SamePlace-trans a mid c (growth-place (place_of i) e.growth.block g.requested.grows)
           (SamePlace-trans mid w c (entry-taken g r).keeps.place
@@ -323,8 +300,7 @@ module _ (content : Content) where
     pub value-built : (entry : Option NewEntry) {w : Cut} {c : Cut} → IsBegun a m key kind many long h at entry
         → IsMadeValue content m w (record { handle = h; at = at }) → LeadsThere w c h entry
         → IsMadeNow a c key content h
-    value-built None {c} g r same =
-        subst (λ (q : names.Key). IsMadeNow a c q content h) (sym g.is)
+    value-built None {c} g r same = subst (λ (q : names.Key). IsMadeNow a c q content h) (sym g.is)
         (subst (λ (s : Cut). IsMadeNow a s names.NoKey content h) (sym same)
         (alone-made h at (record { is = refl; taken = g.taken; takes = g.takes; headed = g.headed }) r))
     value-built (Some e) g r added = value-made a b key h at g r added

@@ -1,14 +1,12 @@
 -- An object that is not begun: why, and what the directory is then.
-use Rattle.segment_manager.proofs.Common.{◌≡◌, refl, sym, ap, subst, ◌∙◌, inl, inr, Some, [], current, Cut, SamePlace}
-use Rattle.segment_manager.proofs.Common.{ObjectRole, place, IsRefused, Anonymous, NoSpace, Content, IsNotBegun}
-use Rattle.segment_manager.proofs.Common.{IsTakenKey, Denotes, Object, Directory, kind_of, live, object_at, object_len}
-use Rattle.segment_manager.proofs.Common.{value_len, with_object, entries_of, table_of, bare, with_value, room_for}
-use Rattle.segment_manager.proofs.Common.{StandsFor}
-use Rattle.segment_manager.proofs.objects.Constructed.{content-none}
+use Rattle.segment_manager.proofs.Common.{◌≡◌, sym, ap, subst, ◌∙◌, inl, inr, Some, [], Cut, place, Object, live, bare}
+use Rattle.segment_manager.proofs.Common.{refl, ObjectRole, IsNotBegun, IsTakenKey, object_len, with_object, entries_of}
+use Rattle.segment_manager.proofs.Common.{current, NoSpace, Content, Denotes, kind_of, table_of, room_for, StandsFor}
+use Rattle.segment_manager.proofs.Common.{SamePlace, IsRefused, Anonymous, Directory, object_at, value_len, with_value}
+use Rattle.segment_manager.proofs.objects.Constructed.{content-none, restored-denotes}
+use Rattle.segment_manager.proofs.objects.NewValues.{no_key-none, away-in, IsMadeNever}
 use Rattle.segment_manager.proofs.{indexes.Bridge.lookup-absent, indexes.Bridge.lookup-found, Calling.denotes-live}
 use Rattle.segment_manager.proofs.{indexes.HeldIndexes.denotes-index, objects.NewKeys.key-seeks, Steps.perform-no_space}
-use Rattle.segment_manager.proofs.{objects.Constructed.restored-denotes}
-use Rattle.segment_manager.proofs.objects.NewValues.{no_key-none, away-in, IsMadeNever}
 use Rattle.seg_index.specs.declared.keys.Key.{Key}
 use Rattle.segment_manager.specs.objects.Begun.{IsUnmetEntry}
 use Rattle.seg_types.specs.Names as names
@@ -32,8 +30,7 @@ module _ {a : Cut} (key : names.Key) (content : Content) where
     each = λ d st. (
       no_key-none d.objects,
       record {
-        refused = λ next.
-            perform-no_space d (live d) ObjectRole (object_len [] (bare content)) (λ x. with_value content
+        refused = λ next. perform-no_space d (live d) ObjectRole (object_len [] (bare content)) (λ x. with_value content
             (λ w. let o : Object = record { class = Anonymous; name = []; value = w; extent = x } in
             next o (with_object d o))) (ap (λ l. place l (object_len [] (bare content)) ObjectRole)
             (sym (denotes-live current a.bytes d st.denotes)) ∙ r.none);
@@ -51,9 +48,8 @@ module _ {a : Cut} (key : names.Key) (content : Content) where
           (key-seeks u.index u.entry key u.name (kind_of (bare content)) u.is)
           (away-in u.index u.entry u.place st.denotes u.absent)).none,
       record {
-        refused =
-            λ next. content-none u.index a d u.entry key u.name (kind_of (bare content)) content st.denotes u.is next
-            (room_for u.name (value_len (bare content))) refl u.unmet.none;
+        refused = λ next. content-none u.index a d u.entry key u.name (kind_of (bare content)) content st.denotes u.is
+            next (room_for u.name (value_len (bare content))) refl u.unmet.none;
         denotes = restored-denotes a c d st.denotes u.unmet.restored;
       },
     );

@@ -1,16 +1,15 @@
 -- The object of a handle, and the entry that it has.
-use Rattle.segment_manager.proofs.Common.{◌≡◌, refl, sym, ap, subst, ◌∙◌, ℕ, true, false, ◌==◌, Some, None, Option}
-use Rattle.segment_manager.proofs.Common.{List, is_some, none-some, bytes_of, handle, Class, class_code, code_of, Index}
-use Rattle.segment_manager.proofs.Common.{Absent, IsPlace, Head, Object, Directory, is_class, kind_of, object_at}
-use Rattle.segment_manager.proofs.Common.{handle_at, is_object_at, HasEntries, HasEntry, IsAnonymousAt, Answers}
-use Rattle.segment_manager.proofs.Common.{IsSegment, State, StandsFor, HasObject, StandsAt}
-use Rattle.segment_manager.proofs.indexes.Bridge.{lookup-absent, own-kind, own-name}
-use Rattle.segment_manager.proofs.objects.Here.{IsHere, IsReadAt, has-object, here}
-use Rattle.segment_manager.proofs.objects.KeyCalls.{ForIndex, handle-answers, of-directory}
+use Rattle.segment_manager.proofs as own
+use own.Common.{◌≡◌, refl, sym, ap, subst, ◌∙◌, ℕ, true, false, ◌==◌, Some, None, Option, List, is_some, none-some}
+use own.Common.{bytes_of, handle, Class, class_code, code_of, Index, Absent, IsPlace, Head, Object, Directory, is_class}
+use own.Common.{kind_of, object_at, handle_at, is_object_at, HasEntries, HasEntry, IsAnonymousAt, Answers, IsSegment}
+use own.{Common.State, Common.HasObject, Common.StandsAt, objects.Here.IsHere, objects.Here.IsReadAt, objects.Here.here}
+use own.{Common.StandsFor, indexes.Bridge.lookup-absent, objects.KeyCalls.handle-answers, objects.KeyCalls.of-directory}
+use own.{indexes.Bridge.own-kind, indexes.Bridge.own-name, objects.Here.has-object, objects.KeyCalls.ForIndex}
+use Rattle.seg_index.specs.declared.keys.Key.{Key}
 use Rattle.seg_types.specs.declared.kinds.Class.TheVariants as class
 use Rattle.seg_types.specs.Names as names
 use Rattle.seg_index.specs.declared.index.Index.TheVariants as index
-use Rattle.seg_index.specs.declared.keys.Key.{Key}
 use Rattle.seg_index.specs.declared.keys.Key.TheVariants as entry
 
 -- ---- the object of a handle
@@ -63,16 +62,14 @@ module _ {s t : State} (view : s ≡ t) {h : ℕ} {head : Head} (a : Answers t (
 
   -- it has no key
   pub listed-none : head.class ≡ class.Anonymous → IsAnonymousAt t h
-  listed-none e =
-      subst (λ (u : State). IsAnonymousAt u h) view (λ d k.
+  listed-none e = subst (λ (u : State). IsAnonymousAt u h) view (λ d k.
       let o = here-in d k in
       (o.object, o.is, sym (r o.object o.stands).class ∙ e))
 
   -- it has a name
   pub listed-name : (e : Key) → head.class ≡ class.Named → ((o : Object) → StandsAt s.cut.bytes h o → IsNamed e o.name)
       → HasEntries t index.Named e h
-  listed-name (entry.Name bytes) e n =
-      subst (λ (u : State). HasEntries u index.Named (entry.Name bytes) h) view (λ d k.
+  listed-name (entry.Name bytes) e n = subst (λ (u : State). HasEntries u index.Named (entry.Name bytes) h) view (λ d k.
       let o = here-in d k in
       record {
         object = o.object;
@@ -82,17 +79,14 @@ module _ {s t : State} (view : s ≡ t) {h : ℕ} {head : Head} (a : Answers t (
         found = own-name k.denotes.directory (by-own_handle d o.stands.at o.is)
             (own-class o.object (sym (r o.object o.stands).class ∙ e) refl);
       })
-  listed-name (entry.Code n) e m =
-      subst (λ (u : State). HasEntries u index.Named (entry.Code n) h) view
+  listed-name (entry.Code n) e m = subst (λ (u : State). HasEntries u index.Named (entry.Code n) h) view
       (λ d k. absurd (m (here-in d k).object (here-in d k).stands))
 
   -- it is the only one of its kind
   pub listed-kind : {n : ℕ} → head.class ≡ class.Unique → n ≡ code_of head.kind
       → HasEntries t index.Unique (entry.Code n) h
-  listed-kind {n} e f =
-      subst (λ (u : State). HasEntries u index.Unique (entry.Code n) h) view (λ d k.
-      let o = here-in d k in
-      let said = r o.object o.stands in
+  listed-kind {n} e f = subst (λ (u : State). HasEntries u index.Unique (entry.Code n) h) view (λ d k.
+      let o = here-in d k in let said = r o.object o.stands in
       record {
         object = o.object;
         is = o.is;
@@ -105,8 +99,7 @@ module _ {s t : State} (view : s ≡ t) {h : ℕ} {head : Head} (a : Answers t (
 -- an entry that an object has is found
 pub listed-found : {s t : State} (view : s ≡ t) (i : Index) (e : Key) (h at : ℕ)
     → ForIndex s.cut i (λ hs. IsPlace (bytes_of s.cut.bytes) e hs (Absent at)) → HasEntries t i e h → IsAnonymousAt t h
-listed-found {s} view i e h at f each =
-    subst (λ (u : State). IsAnonymousAt u h) view (λ d k.
+listed-found {s} view i e h at f each = subst (λ (u : State). IsAnonymousAt u h) view (λ d k.
     let x : HasEntry i e d h = subst (λ (u : State). HasEntries u i e h) (sym view) each d k in
     absurd (none-some x.object (sym (lookup-absent i s.cut e x.key k.denotes x.seeks
     (of-directory s i (λ hs. IsPlace (bytes_of s.cut.bytes) e hs (Absent at)) k f)).none ∙ x.found)))

@@ -1,19 +1,16 @@
 -- The payload of a block, as it is lent and as contracts count its room, and an object written there piece by piece:
 -- the words of its head, its name, its elements.
-use Rattle.segment_manager.proofs.Common.{◌≡◌, sym, ap, subst, ◌∙◌, ℕ, ◌+◌, ◌-◌, ◌≤◌, inl, List, length, arith, IsTrue}
-use Rattle.segment_manager.proofs.Common.{Cut, Has, bytes_of, part, read, word_at, current, LiveSet, IsChanged, IsHeap}
-use Rattle.segment_manager.proofs.Common.{LaysOut, has_room, is_live_in, live_of, Has-same, Same-word, SameBut-Same}
-use Rattle.segment_manager.proofs.Common.{changed-live, room_block, ◌*◌, ◌<◌, ◌++◌, replicate, take, mul-le-mul_left}
-use Rattle.segment_manager.proofs.Common.{length-replicate, Kind, Class, class_code, code_of, padded, padded_name}
-use Rattle.segment_manager.proofs.Common.{two_halves, IsHeadAt, repeated, changed-room}
-use Rattle.segment_manager.proofs.{blocks.NewBlocks.changed-trans, objects.Rows.repeated-length}
-use Rattle.segment_manager.proofs.{objects.Rows.repeated-more}
+use Rattle.segment_manager.proofs as own
+use own.Common.{◌≡◌, sym, ap, subst, ◌∙◌, ℕ, ◌+◌, ◌-◌, ◌≤◌, inl, List, length, arith, IsTrue, Cut, Has, bytes_of, part}
+use own.Common.{read, word_at, current, LiveSet, IsChanged, IsHeap, LaysOut, has_room, is_live_in, live_of, Has-same}
+use own.Common.{Same-word, SameBut-Same, changed-live, room_block, ◌*◌, ◌<◌, ◌++◌, replicate, take, mul-le-mul_left}
+use own.Common.{length-replicate, Kind, Class, class_code, code_of, padded, padded_name, two_halves, IsHeadAt, repeated}
+use own.{Common.changed-room, blocks.NewBlocks.changed-trans, objects.Rows.repeated-length, objects.Rows.repeated-more}
 use Rattle.best_fit.specs.Heap.{payload_at}
-use Rattle.raw_region.proofs.Laws.{length-part, part-part, read-part}
+use Rattle.raw_region.proofs.{Laws.length-part, Laws.part-part, Laws.read-part, Bytes.Has-append}
 use Rattle.best_fit.proofs.Laws.{block_payload, room-less}
 use Rattle.seg_vector.proofs.Storage.{live-if}
 use Rattle.std.proofs.lemmas.List.{take-replicate}
-use Rattle.seg_vector.proofs.Bytes.{Has-append}
 
 -- ---- blocks with room are in use
 
@@ -38,9 +35,8 @@ lent c h n {p} heap has e =
     ap (λ (l : List ℕ). length l) is ∙ length-part c.bytes h (b.tile.len - 16) (omega arith) in
     record {
       long = omega arith;
-      content = λ at len l.
-          ap (λ (q : List ℕ). part q at len) is ∙ part-part c.bytes h (b.tile.len - 16) at len (omega arith)
-          ∙ sym (read-part c.bytes (h + at) len (omega arith));
+      content = λ at len l. ap (λ (q : List ℕ). part q at len) is ∙ part-part c.bytes h (b.tile.len - 16) at len
+          (omega arith) ∙ sym (read-part c.bytes (h + at) len (omega arith));
     }
 
 -- a heap has no more than 2 ^ 30 bytes
@@ -61,8 +57,7 @@ changed-heap {a} {b} {from} {n} c = subst (LaysOut current b.bytes) (sym (change
 -- a word stays where bytes behind it change
 pub word-stays : {a b : Cut} (at : ℕ) {from n : ℕ} → IsChanged current a b from n → at + 8 ≤ from
     → word_at (bytes_of b.bytes) at ≡ word_at (bytes_of a.bytes) at
-word-stays {a} {b} at c f =
-    Same-word (bytes_of a.bytes) (bytes_of b.bytes) at (at + 8) at
+word-stays {a} {b} at c f = Same-word (bytes_of a.bytes) (bytes_of b.bytes) at (at + 8) at
     (record { at = λ k l h. c.rest.at k (inl (omega arith)) }) (omega arith) (omega arith)
 
 -- bytes stay where others behind them change
@@ -99,17 +94,14 @@ pub repeats-more : {a b c : Cut} (h at : ℕ) {i : ℕ} {bytes : List ℕ} → R
     → IsChanged current b c (h + (at + length bytes * i)) (length bytes)
     → Has (bytes_of c.bytes) (h + (at + length bytes * i)) bytes → Repeats a c (h + at) (i + 1) bytes
 repeats-more {a} {b} {c} h at {i} {bytes} r s w =
-    let n = length bytes in
-    let long = repeated-length i bytes in
-    let to : h + (at + n * i) ≡ h + at + n * i = omega arith in
-    let sum : n * i + n ≡ n * (i + 1) = omega arith in
+    let n = length bytes in let long = repeated-length i bytes in
+    let to : h + (at + n * i) ≡ h + at + n * i = omega arith in let sum : n * i + n ≡ n * (i + 1) = omega arith in
     let s' : IsChanged current b c (h + at + n * i) n = subst (λ from. IsChanged current b c from n) to s in
     let front = bytes-stay (h + at) (repeated i bytes) s' (omega arith) r.content in
     record {
       change = subst (λ k. IsChanged current a c (h + at) k) sum (changed-trans r.change s');
-      content = subst (Has (bytes_of c.bytes) (h + at)) (repeated-more i bytes)
-          (Has-append (bytes_of c.bytes) (h + at) (repeated i bytes) bytes front
-          (subst (λ p. Has (bytes_of c.bytes) p bytes) (omega arith) w));
+      content = subst (Has (bytes_of c.bytes) (h + at)) (repeated-more i bytes) (Has-append (bytes_of c.bytes) (h + at)
+          (repeated i bytes) bytes front (subst (λ p. Has (bytes_of c.bytes) p bytes) (omega arith) w));
     }
 
 -- ---- a name
@@ -156,8 +148,7 @@ pub head-written : {a b c : Cut} {d : Cut} {h : ℕ} {kind : Kind} {count : ℕ}
     → IsChanged current b c (h + 8) 8 → word_at (bytes_of c.bytes) (h + 8) ≡ two_halves (length name) (class_code class)
     → HasName c d h name → HasHead a d h kind count class name
 head-written {a} {b} {c} {h} {name} p v q w n =
-    let at : h + 0 ≡ h = omega arith in
-    let two : h + 8 + 8 ≡ h + 16 = omega arith in
+    let at : h + 0 ≡ h = omega arith in let two : h + 8 + 8 ≡ h + 16 = omega arith in
     record {
       change = changed-trans (changed-trans (subst (λ from. IsChanged current a b from 8) at p) q) n.change;
       head = record {

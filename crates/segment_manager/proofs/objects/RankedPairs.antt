@@ -1,11 +1,11 @@
 -- What is ranked, each two: what rises, with one more or less.
-use Rattle.segment_manager.proofs.Common.{◌≡◌, refl, sym, ap, subst, ◌∙◌, ℕ, suc, Bool, true, false, ◌&&◌, List, []}
-use Rattle.segment_manager.proofs.Common.{◌∷◌, length, if◌then◌else◌, cond, IsTrue, filter, AllByRecursion, and_from}
-use Rattle.segment_manager.proofs.Common.{Class, Object, is_class, remove_object, insert_by, rises}
-use Rattle.segment_manager.proofs.Live.{IsFound, Place, here, behind, found-place, found-nothing, remove-here}
-use Rattle.segment_manager.proofs.{Words.first, Words.second, Faces.ordered, Live.remove-behind}
-use Rattle.segment_manager.proofs.objects.Ranks.{before, after, ranked-sym, AllRanked, put_all, all_of-insert_by}
-use Rattle.segment_manager.proofs.objects.Ranks.{IsStrict, IsRanked}
+use Rattle.segment_manager.proofs as own
+use own.Common.{◌≡◌, refl, sym, subst, ◌∙◌, ℕ, suc, Bool, true, false, ◌&&◌, List, [], ◌∷◌, cond, Class, Object, rises}
+use own.Common.{ap, length, if◌then◌else◌, IsTrue, filter, AllByRecursion, and_from, is_class, remove_object, insert_by}
+use own.Live.{IsFound, Place, here, behind, found-place, found-nothing, remove-here, remove-behind}
+use own.objects.Ranks.{before, after, ranked-sym, AllRanked, put_all, all_of-insert_by, IsStrict, IsRanked}
+use own.{Faces.ordered}
+use Rattle.raw_region.proofs.Facts.{first, second}
 
 -- ---- what rises is ranked, each two
 
@@ -43,9 +43,8 @@ pairwise-insert_by-if {lt} false {o} {p} ps qs f k h =
 pairwise-insert_by : (lt : Object → Object → Bool) (o : Object) (ps : List Object) → Pairwise lt (insert_by lt o ps)
     → AllRanked lt o ps × Pairwise lt ps
 pairwise-insert_by lt o [] h = (tt, tt)
-pairwise-insert_by lt o (p ∷ ps) h =
-    pairwise-insert_by-if (lt o p) ps (insert_by lt o ps) (all_of-insert_by (IsRanked lt p) lt o ps)
-    (pairwise-insert_by lt o ps) h
+pairwise-insert_by lt o (p ∷ ps) h = pairwise-insert_by-if (lt o p) ps (insert_by lt o ps)
+    (all_of-insert_by (IsRanked lt p) lt o ps) (pairwise-insert_by lt o ps) h
 
 -- two lists, each two of all of them
 pub record Across (lt : Object → Object → Bool) (acc os : List Object) : Type 0 where
@@ -53,21 +52,18 @@ pub record Across (lt : Object → Object → Bool) (acc os : List Object) : Typ
   pub rest : Pairwise lt os
   pub across : AllByRecursion (λ o. AllRanked lt o acc) os
 
-across-parts : (lt : Object → Object → Bool) (o : Object) (acc os : List Object)
-    → AllByRecursion (λ p. AllRanked lt p (insert_by lt o acc)) os
-    → AllRanked lt o os × AllByRecursion (λ p. AllRanked lt p acc) os
+across-parts : (lt : Object → Object → Bool) (o : Object) (acc os : List Object) → AllByRecursion (λ p. AllRanked lt p
+    (insert_by lt o acc)) os → AllRanked lt o os × AllByRecursion (λ p. AllRanked lt p acc) os
 across-parts lt o acc [] h = (tt, tt)
 across-parts lt o acc (p ∷ ps) h =
-    let both = all_of-insert_by (IsRanked lt p) lt o acc h.0 in
-    let below = across-parts lt o acc ps h.1 in
+    let both = all_of-insert_by (IsRanked lt p) lt o acc h.0 in let below = across-parts lt o acc ps h.1 in
     ((ranked-sym lt p o both.0, below.0), (both.1, below.1))
 
 pairwise-put_all : {lt : Object → Object → Bool} {acc : List Object} (os : List Object)
     → Pairwise lt (put_all lt acc os) → Across lt acc os
 pairwise-put_all [] h = record { front = h; rest = tt; across = tt }
 pairwise-put_all {lt} {acc} (o ∷ os) h =
-    let below = pairwise-put_all os h in
-    let front = pairwise-insert_by lt o acc below.front in
+    let below = pairwise-put_all os h in let front = pairwise-insert_by lt o acc below.front in
     let parts = across-parts lt o acc os below.across in
     record { front = front.1; rest = (parts.0, below.rest); across = (front.0, parts.1) }
 
@@ -109,19 +105,16 @@ pairwise-behind {lt} {o} true {p} ps qs f k h = (ranked-sym lt p o (f h.0), k h.
 pairwise-behind false ps qs f k h = k h
 
 pairwise-place : (lt : Object → Object → Bool) (c : Class) {h : ℕ} {p : Object} {ps : List Object} {o : Object}
-    → Place h p ps o → is_class c o ≡ true
-    → (IsFound h ps o → Pairwise lt (filter (is_class c) ps)
+    → Place h p ps o → is_class c o ≡ true → (IsFound h ps o → Pairwise lt (filter (is_class c) ps)
     → AllRanked lt o (filter (is_class c) (remove_object h ps))) → Pairwise lt (filter (is_class c) (p ∷ ps))
     → AllRanked lt o (filter (is_class c) (remove_object h (p ∷ ps)))
-pairwise-place lt c {h} {p} {ps} {o} (here e f) g k w =
-    subst (λ qs. AllRanked lt o (filter (is_class c) qs)) (sym (remove-here h p ps e))
-    (subst (λ q. AllRanked lt q (filter (is_class c) ps)) f
-    (subst (λ t. Pairwise lt (cond t (p ∷ filter (is_class c) ps) (filter (is_class c) ps)))
-    (ap (is_class c) f ∙ g) w).0)
-pairwise-place lt c {h} {p} {ps} {o} (behind e f) g k w =
-    subst (λ qs. AllRanked lt o (filter (is_class c) qs)) (sym (remove-behind h p ps e))
-    (pairwise-behind (is_class c p) (filter (is_class c) ps) (filter (is_class c) (remove_object h ps))
-    (found-filter (IsRanked lt p) c h ps o f g) (k f) w)
+pairwise-place lt c {h} {p} {ps} {o} (here e f) g k w = subst (λ qs. AllRanked lt o (filter (is_class c) qs))
+    (sym (remove-here h p ps e)) (subst (λ q. AllRanked lt q (filter (is_class c) ps)) f
+    (subst (λ t. Pairwise lt (cond t (p ∷ filter (is_class c) ps) (filter (is_class c) ps))) (ap (is_class c) f
+    ∙ g) w).0)
+pairwise-place lt c {h} {p} {ps} {o} (behind e f) g k w = subst (λ qs. AllRanked lt o (filter (is_class c) qs))
+    (sym (remove-behind h p ps e)) (pairwise-behind (is_class c p) (filter (is_class c) ps) (filter (is_class c)
+    (remove_object h ps)) (found-filter (IsRanked lt p) c h ps o f g) (k f) w)
 
 -- one that is found is ranked with each of the others
 pub pairwise-remove : (lt : Object → Object → Bool) (c : Class) (h : ℕ) (os : List Object) (o : Object) → IsFound h os o
@@ -136,8 +129,7 @@ pairwise-remove lt c h (p ∷ ps) o f g w =
 more-rises-if : {lt : Object → Object → Bool} (q : Object) {o p : Object} (ps qs : List Object) → lt q o ≡ true
     → IsRanked lt o p → IsTrue (rises lt (q ∷ p ∷ ps)) → (lt p o ≡ true → IsTrue (rises lt (p ∷ qs))) → (b : Bool)
     → lt o p ≡ b → IsTrue (rises lt (q ∷ (if b then o ∷ p ∷ ps else p ∷ qs)))
-more-rises-if {lt} q {o} {p} ps qs e r h k true f =
-    and_from (lt q o) (lt o p && rises lt (p ∷ ps)) e
+more-rises-if {lt} q {o} {p} ps qs e r h k true f = and_from (lt q o) (lt o p && rises lt (p ∷ ps)) e
     (and_from (lt o p) (rises lt (p ∷ ps)) f (second (lt q p) (rises lt (p ∷ ps)) h))
 more-rises-if q ps qs e (before g g') h k false f = cc
 more-rises-if {lt} q {p} ps qs e (after g g') h k false f =
@@ -146,8 +138,7 @@ more-rises-if {lt} q {p} ps qs e (after g g') h k false f =
 more-rises : (lt : Object → Object → Bool) (q o : Object) (os : List Object) → lt q o ≡ true → AllRanked lt o os
     → IsTrue (rises lt (q ∷ os)) → IsTrue (rises lt (q ∷ insert_by lt o os))
 more-rises lt q o [] e r h = and_from (lt q o) true e refl
-more-rises lt q o (p ∷ ps) e r h =
-    more-rises-if q ps (insert_by lt o ps) e r.0 h
+more-rises lt q o (p ∷ ps) e r h = more-rises-if q ps (insert_by lt o ps) e r.0 h
     (λ g. more-rises lt p o ps g r.1 (second (lt q p) (rises lt (p ∷ ps)) h)) (lt o p) refl
 
 rises-first-if : {lt : Object → Object → Bool} {o p : Object} (ps qs : List Object) → IsRanked lt o p
@@ -174,11 +165,9 @@ module _ (lt : Object → Object → Bool) where
       → IsTrue (rises lt (q ∷ (if b then o ∷ p ∷ ps else p ∷ qs))) → IsTrue (rises lt (q ∷ p ∷ ps))
   less-rises-if s q o p ps qs k true h =
       let back = second (lt q o) (lt o p && rises lt (p ∷ ps)) h in
-      and_from (lt q p) (rises lt (p ∷ ps))
-      (s.trans q o p (first (lt q o) (lt o p && rises lt (p ∷ ps)) h) (first (lt o p) (rises lt (p ∷ ps)) back))
-      (second (lt o p) (rises lt (p ∷ ps)) back)
-  less-rises-if s q o p ps qs k false h =
-      and_from (lt q p) (rises lt (p ∷ ps)) (first (lt q p) (rises lt (p ∷ qs)) h)
+      and_from (lt q p) (rises lt (p ∷ ps)) (s.trans q o p (first (lt q o) (lt o p && rises lt (p ∷ ps)) h)
+      (first (lt o p) (rises lt (p ∷ ps)) back)) (second (lt o p) (rises lt (p ∷ ps)) back)
+  less-rises-if s q o p ps qs k false h = and_from (lt q p) (rises lt (p ∷ ps)) (first (lt q p) (rises lt (p ∷ qs)) h)
       (k (second (lt q p) (rises lt (p ∷ qs)) h))
 
   less-rises : IsStrict lt → (q o : Object) (os : List Object) → IsTrue (rises lt (q ∷ insert_by lt o os))

@@ -41,17 +41,14 @@ Commute lt a b zs = insert_by lt a (insert_by lt b zs) ≡ insert_by lt b (inser
 comm-step : (lt : Object → Object → Bool) → IsStrict lt → (a b : Object) → lt a b ≡ true → lt b a ≡ false
     → (z : Object) (zs : List Object) → Commute lt a b zs → (x : Bool) → lt b z ≡ x → (y : Bool) → lt a z ≡ y
     → Commute lt a b (z ∷ zs)
-comm-step lt s a b ab ba z zs ih true e y f =
-    ap (insert_by lt a) (insert_by-front lt b z zs e) ∙ insert_by-front lt a b (z ∷ zs) ab
-    ∙ ap (λ ws. a ∷ ws) (sym (insert_by-front lt b z zs e)) ∙ sym (insert_by-behind lt b a (z ∷ zs) ba)
+comm-step lt s a b ab ba z zs ih true e y f = ap (insert_by lt a) (insert_by-front lt b z zs e) ∙ insert_by-front lt a b
+    (z ∷ zs) ab ∙ ap (λ ws. a ∷ ws) (sym (insert_by-front lt b z zs e)) ∙ sym (insert_by-behind lt b a (z ∷ zs) ba)
     ∙ ap (insert_by lt b) (sym (insert_by-front lt a z zs (s.trans a b z ab e)))
-comm-step lt s a b ab ba z zs ih false e true f =
-    ap (insert_by lt a) (insert_by-behind lt b z zs e) ∙ insert_by-front lt a z (insert_by lt b zs) f
-    ∙ ap (λ ws. a ∷ ws) (sym (insert_by-behind lt b z zs e))
+comm-step lt s a b ab ba z zs ih false e true f = ap (insert_by lt a) (insert_by-behind lt b z zs e)
+    ∙ insert_by-front lt a z (insert_by lt b zs) f ∙ ap (λ ws. a ∷ ws) (sym (insert_by-behind lt b z zs e))
     ∙ sym (insert_by-behind lt b a (z ∷ zs) ba) ∙ ap (insert_by lt b) (sym (insert_by-front lt a z zs f))
-comm-step lt s a b ab ba z zs ih false e false f =
-    ap (insert_by lt a) (insert_by-behind lt b z zs e) ∙ insert_by-behind lt a z (insert_by lt b zs) f
-    ∙ ap (λ ws. z ∷ ws) ih
+comm-step lt s a b ab ba z zs ih false e false f = ap (insert_by lt a) (insert_by-behind lt b z zs e)
+    ∙ insert_by-behind lt a z (insert_by lt b zs) f ∙ ap (λ ws. z ∷ ws) ih
     ∙ sym (insert_by-behind lt b z (insert_by lt a zs) e) ∙ ap (insert_by lt b) (sym (insert_by-behind lt a z zs f))
 
 comm-before : (lt : Object → Object → Bool) → IsStrict lt → (a b : Object) → lt a b ≡ true → lt b a ≡ false
@@ -107,9 +104,8 @@ put-more : (lt : Object → Object → Bool) → IsStrict lt → (c : Class) (o 
     → is_class c o ≡ true → AllRanked lt o (filter (is_class c) os)
     → HasMore lt o (filter (is_class c) (put_object o os)) (filter (is_class c) os)
 put-more lt s c o [] e r = more-here lt s o [] e tt
-put-more lt s c o (p ∷ ps) e r =
-    put-more-if lt s c o p ps (put_object o ps) e r (nat_lt o.extent.offset p.extent.offset)
-    (put-more lt s c o ps e (ranked-rest lt o (is_class c p) p (filter (is_class c) ps) r))
+put-more lt s c o (p ∷ ps) e r = put-more-if lt s c o p ps (put_object o ps) e r (nat_lt o.extent.offset
+    p.extent.offset) (put-more lt s c o ps e (ranked-rest lt o (is_class c p) p (filter (is_class c) ps) r))
 
 -- an object that is put among the others stands in the order of its class
 pub ordered-put : (c : Class) (lt : Object → Object → Bool) → IsStrict lt → (o : Object) (os : List Object)
@@ -117,10 +113,9 @@ pub ordered-put : (c : Class) (lt : Object → Object → Bool) → IsStrict lt 
     → ordered c lt (put_object o os) ≡ insert_by lt o (ordered c lt os)
 ordered-put c lt s o os e r = put-more lt s c o os e r []
 
-remove-more-place : (lt : Object → Object → Bool) → IsStrict lt
-    → (c : Class) {h : ℕ} {p : Object} {ps : List Object} {o : Object} → Place h p ps o → is_class c o ≡ true
-    → AllRanked lt o (filter (is_class c) (remove_object h (p ∷ ps)))
-    → (IsFound h ps o → AllRanked lt o (filter (is_class c) (remove_object h ps))
+remove-more-place : (lt : Object → Object → Bool) → IsStrict lt → (c : Class) {h : ℕ} {p : Object} {ps : List Object}
+    {o : Object} → Place h p ps o → is_class c o ≡ true → AllRanked lt o (filter (is_class c) (remove_object h
+    (p ∷ ps))) → (IsFound h ps o → AllRanked lt o (filter (is_class c) (remove_object h ps))
     → HasMore lt o (filter (is_class c) ps) (filter (is_class c) (remove_object h ps)))
     → HasMore lt o (filter (is_class c) (p ∷ ps)) (filter (is_class c) (remove_object h (p ∷ ps)))
 remove-more-place lt s c {h} {p} {ps} {o} (here e f) g r k =
@@ -151,9 +146,8 @@ pub all-insert_by : (P : Object → Type 0) (lt : Object → Object → Bool) (o
 all-insert_by P lt o [] h a = (h, tt)
 all-insert_by P lt o (p ∷ ps) h a = put-if P (lt o p) o p ps (insert_by lt o ps) h a (all-insert_by P lt o ps h a.1)
 
-all_of-insert_by-if : (P : Object → Type 0) (b : Bool) (o p : Object) (ps qs : List Object)
-    → (AllByRecursion P qs → P o × AllByRecursion P ps) → AllByRecursion P (if b then o ∷ p ∷ ps else p ∷ qs)
-    → P o × AllByRecursion P (p ∷ ps)
+all_of-insert_by-if : (P : Object → Type 0) (b : Bool) (o p : Object) (ps qs : List Object) → (AllByRecursion P qs → P o
+    × AllByRecursion P ps) → AllByRecursion P (if b then o ∷ p ∷ ps else p ∷ qs) → P o × AllByRecursion P (p ∷ ps)
 all_of-insert_by-if P true o p ps qs k a = (a.0, a.1)
 all_of-insert_by-if P false o p ps qs k a = ((k a.1).0, (a.0, (k a.1).1))
 

@@ -4,10 +4,9 @@ use Rattle.segment_manager.proofs.Common.{IsTrue, lt-ltb, le-ltb, Role, IndexRol
 use Rattle.segment_manager.proofs.Common.{place, resized, placed_is_proper, NoSpace, Index, grown_capacity, Refused}
 use Rattle.segment_manager.proofs.Common.{Directory, live, class_of_index, objects_of, table_of, with_table_of, Plan}
 use Rattle.segment_manager.proofs.Common.{perform, with_entry, with_new_index, with_place}
+use Rattle.segment_manager.proofs.{indexes.Tabled.grown_into, Steps.perform-no_space, indexes.Tables.same-table}
+use Rattle.segment_manager.proofs.{Steps.perform-new, Order.live-rises, Order.resized-fresh, Order.rising-insert}
 use Rattle.seg_index.specs.declared.index.Index.TheVariants as index
-use Rattle.segment_manager.proofs.{indexes.Tabled.grown_into, Steps.perform-new, Steps.perform-no_space}
-use Rattle.segment_manager.proofs.{indexes.Tables.same-table}
-use Rattle.segment_manager.proofs.Order.{live-rises, resized-fresh, rising-insert}
 
 -- ---- a place in an index
 
@@ -26,15 +25,13 @@ grows i d next = with_new_index (grown_capacity (table_of i d).capacity) (λ t. 
 -- there is a place left
 pub entry-room : (i : Index) (d : Directory) (next : Directory → Plan)
     → length (objects_of i d) < (table_of i d).capacity → with_entry d (class_of_index i) next ≡ next d
-entry-room i d next h =
-    entry-of i d next ∙ ap (λ b. if b then next (with_table_of i d (table_of i d)) else grows i d next)
-    (lt-ltb (length (objects_of i d)) (table_of i d).capacity h) ∙ ap next (same-table i)
+entry-room i d next h = entry-of i d next ∙ ap (λ b. if b then next (with_table_of i d (table_of i d)) else grows i d
+    next) (lt-ltb (length (objects_of i d)) (table_of i d).capacity h) ∙ ap next (same-table i)
 
 entry-full : (i : Index) (d : Directory) (next : Directory → Plan) → (table_of i d).capacity ≤ length (objects_of i d)
     → with_entry d (class_of_index i) next ≡ grows i d next
-entry-full i d next h =
-    entry-of i d next ∙ ap (λ b. if b then next (with_table_of i d (table_of i d)) else grows i d next)
-    (le-ltb (length (objects_of i d)) (table_of i d).capacity h)
+entry-full i d next h = entry-of i d next ∙ ap (λ b. if b then next (with_table_of i d (table_of i d)) else grows i d
+    next) (le-ltb (length (objects_of i d)) (table_of i d).capacity h)
 
 -- a new block adds to the live set
 pub placed-added : (l : LiveSet) (n : ℕ) (role : Role) {x : Extent} → IsTrue (is_proper l) → place l n role ≡ Some x
@@ -51,8 +48,7 @@ pub entry-grows : (i : Index) (d : Directory) (next : Directory → Plan) {x : E
     → (table_of i d).capacity ≤ length (objects_of i d) → place (live d) (growth_bytes i d) IndexRole ≡ Some x
     → perform d (live d) (with_entry d (class_of_index i) next) ≡ perform d (added (live d) x)
     (next (with_table_of i d (grown_into i d x)))
-entry-grows i d next {x} h full e =
-    ap (perform d (live d)) (entry-full i d next full)
+entry-grows i d next {x} h full e = ap (perform d (live d)) (entry-full i d next full)
     ∙ perform-new d (live d) IndexRole (growth_bytes i d) (λ x. next (with_table_of i d (grown_into i d x))) x e
     ∙ ap (λ l. perform d l (next (with_table_of i d (grown_into i d x))))
     (placed-added (live d) (growth_bytes i d) IndexRole h e)
@@ -61,6 +57,5 @@ entry-grows i d next {x} h full e =
 pub entry-refused : (i : Index) (d : Directory) (next : Directory → Plan)
     → (table_of i d).capacity ≤ length (objects_of i d) → place (live d) (growth_bytes i d) IndexRole ≡ None
     → perform d (live d) (with_entry d (class_of_index i) next) ≡ (Refused NoSpace, d)
-entry-refused i d next full e =
-    ap (perform d (live d)) (entry-full i d next full)
+entry-refused i d next full e = ap (perform d (live d)) (entry-full i d next full)
     ∙ perform-no_space d (live d) IndexRole (growth_bytes i d) (λ x. next (with_table_of i d (grown_into i d x))) e

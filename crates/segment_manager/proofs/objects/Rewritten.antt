@@ -18,9 +18,8 @@ pub object-held : (m m' : Memory) (o : Object) (v : Value) → IsObjectAt m o �
     → count_of v ≡ count_of o.value → Same m m' (handle o.extent) (value_start o) → IsValueAt m' (value_start o) v
     → IsObjectAt m' (with_value o v)
 object-held m m' o v h kind count s w = record {
-  kind_count =
-      Same-word m m' (handle o.extent) (value_start o) (handle o.extent) s (omega arith) (omega arith) ∙ h.kind_count
-      ∙ (λ i. two_halves (code_of (sym kind i)) (sym count i));
+  kind_count = Same-word m m' (handle o.extent) (value_start o) (handle o.extent) s (omega arith) (omega arith)
+      ∙ h.kind_count ∙ (λ i. two_halves (code_of (sym kind i)) (sym count i));
   name_class = Same-word m m' (handle o.extent) (value_start o) (handle o.extent + 8) s (omega arith) (omega arith)
       ∙ h.name_class;
   name = Has-same m m' (handle o.extent) (value_start o) (handle o.extent + 16) (padded_name o.name) s (omega arith)

@@ -4,16 +4,15 @@ use Rattle.segment_manager.proofs.Common.{[], ◌∷◌, ◌++◌, length, repli
 use Rattle.segment_manager.proofs.Common.{flat_map, flat_map_more, Memory, Has, SameBut, ScalarKind, spelling, spelled}
 use Rattle.segment_manager.proofs.Common.{repeated, ◌≤◌, true, IsTrue, list_all, mul-le-mul_left}
 use Rattle.segment_manager.proofs.objects.Heads.{Has-front}
-use Rattle.std.proofs.lemmas.List.{replicate_more}
-use Rattle.seg_vector.proofs.{Bytes.Has-patched, Bytes.Has-drop, Typed.flat-set}
-use Rattle.std.proofs.Math.Seq.{drop-append_seam}
+use Rattle.std.proofs.{lemmas.List.replicate_more, Math.Seq.drop-append_seam}
+use Rattle.seg_vector.proofs.{Typed.flat-set}
+use Rattle.raw_region.proofs.Bytes.{Has-patched, Has-drop}
 
 -- ---- two rows
 
 -- the second of two
 pub Has-behind : (m : Memory) (at : ℕ) (xs ys : List ℕ) → Has m at (xs ++ ys) → Has m (at + length xs) ys
-Has-behind m at xs ys h =
-    subst (Has m (at + length xs)) (drop-append_seam xs ys)
+Has-behind m at xs ys h = subst (Has m (at + length xs)) (drop-append_seam xs ys)
     (Has-drop m at (length xs) (xs ++ ys) (omega (arith, length-append xs ys)) h)
 
 -- ---- elements of n bytes each
@@ -61,8 +60,7 @@ repeated-length (suc n) bytes = omega (arith, length-append bytes (repeated n by
 
 -- once more
 pub repeated-more : (n : ℕ) (bytes : List ℕ) → repeated n bytes ++ bytes ≡ repeated (n + 1) bytes
-repeated-more n bytes =
-    flat_map_more (λ (each : List ℕ). each) [] (replicate n bytes) bytes
+repeated-more n bytes = flat_map_more (λ (each : List ℕ). each) [] (replicate n bytes) bytes
     ∙ ap (flat_map (λ (each : List ℕ). each)) (replicate_more n bytes)
 
 -- they spell equal numbers

@@ -1,10 +1,9 @@
 -- What is known of an object that stands in its block.
-use Rattle.segment_manager.proofs.Common.{◌≡◌, ap, ◌∙◌, ℕ, ◌+◌, ◌-◌, ◌*◌, ◌/◌, ◌%◌, ◌≤◌, List, length, replicate, arith}
-use Rattle.segment_manager.proofs.Common.{IsTrue, current, bytes_of, word_at, read, handle, live_of, has_room}
-use Rattle.segment_manager.proofs.Common.{class_code, code_of, Object, count_of, kind_of, object_len, padded, value_len}
-use Rattle.segment_manager.proofs.Common.{StandsAt}
-use Rattle.best_fit.proofs.Laws.{room-less}
+use Rattle.segment_manager.proofs.Common.{◌≡◌, ap, ◌∙◌, ◌+◌, ◌-◌, ◌*◌, ◌/◌, ◌%◌, ◌≤◌, List, arith, read, Object, padded}
+use Rattle.segment_manager.proofs.Common.{ℕ, replicate, bytes_of, has_room, class_code, count_of, object_len, value_len}
+use Rattle.segment_manager.proofs.Common.{length, IsTrue, current, word_at, handle, live_of, code_of, kind_of, StandsAt}
 use Rattle.segment_manager.proofs.objects.Heads.{Has-front, good-name, good_name-short, object-entry}
+use Rattle.best_fit.proofs.Laws.{room-less}
 
 -- its name is short
 pub standing-short : (b : List ℕ) (h : ℕ) (o : Object) → StandsAt b h o → length o.name ≤ 255

@@ -1,12 +1,11 @@
 -- What destroys no object leaves each where it is.
-use Rattle.segment_manager.proofs.Common.{◌≡◌, refl, sym, ap, not, subst, ◌∙◌, ℕ, ◌==◌, Bool, true, false, Option, Some}
-use Rattle.segment_manager.proofs.Common.{None, List, [], ◌∷◌, if◌then◌else◌, is_some, find, cond, eqb-true, false≢true}
-use Rattle.segment_manager.proofs.Common.{Extent, LiveSet, handle, resized, Refusal, NoSpace, Kind, Key, ByHandle}
-use Rattle.segment_manager.proofs.Common.{Command, Mode, Object, Directory, has_key, live, replace_object, Answer}
-use Rattle.segment_manager.proofs.Common.{Refused, is_object_at, Plan, met, perform, is_elementwise, IsSegment, Moves}
-use Rattle.segment_manager.proofs.Common.{State, plan, step, step_of_kind, LeadsOnOfKind}
-use Rattle.segment_manager.proofs.Refusals.{Leaves, by_change, by_other, by_refusal, by_request, by_same, plan-leaves}
-use Rattle.segment_manager.proofs.{objects.KeyCalls.object-passes, Refusals.plan_of_kind-leaves}
+use Rattle.segment_manager.proofs as own
+use own.Common.{◌≡◌, refl, sym, ap, not, subst, ◌∙◌, ℕ, ◌==◌, Bool, true, false, Option, Some, None, List, [], ◌∷◌}
+use own.Common.{if◌then◌else◌, is_some, find, cond, eqb-true, false≢true, Extent, LiveSet, handle, resized, Refusal}
+use own.Common.{NoSpace, Kind, Key, ByHandle, Command, Mode, Object, Directory, has_key, live, replace_object, Answer}
+use own.Common.{Refused, is_object_at, Plan, met, perform, is_elementwise, IsSegment, Moves, State, plan, step}
+use own.Refusals.{Leaves, by_change, by_other, by_refusal, by_request, by_same, plan-leaves, plan_of_kind-leaves}
+use own.{Common.step_of_kind, Common.LeadsOnOfKind, objects.KeyCalls.object-passes}
 use Rattle.segment_manager.specs.Staying.{KeepsObjects, ObjectsStay}
 
 -- ---- an object of another value
@@ -22,10 +21,9 @@ first-as true p o rest e = refl
 first-as false p o rest e = e
 
 replaced : (h : ℕ) (o p : Object) (ps : List Object) (b : Bool) → (handle o.extent == handle p.extent) ≡ b
-    → (is_some (find (has_key (ByHandle h)) ps) ≡ true
-    → is_some (find (has_key (ByHandle h)) (replace_object o ps)) ≡ true)
-    → is_some (find (has_key (ByHandle h)) (p ∷ ps)) ≡ true
-    → is_some (find (has_key (ByHandle h)) (if b then o ∷ ps else p ∷ replace_object o ps)) ≡ true
+    → (is_some (find (has_key (ByHandle h)) ps) ≡ true → is_some (find (has_key (ByHandle h)) (replace_object o ps))
+    ≡ true) → is_some (find (has_key (ByHandle h)) (p ∷ ps)) ≡ true → is_some (find (has_key (ByHandle h))
+    (if b then o ∷ ps else p ∷ replace_object o ps)) ≡ true
 replaced h o p ps true e k f =
     let same = eqb-true (handle o.extent) (handle p.extent) e in
     subst (λ n. is_some (cond (h == n) (Some o) (find (has_key (ByHandle h)) ps)) ≡ true) (sym same)
@@ -53,9 +51,8 @@ module _ (d : Directory) (h : ℕ) (here : is_object_at d h ≡ true) where
   perform-keeps changing e l p by_same = here
   perform-keeps changing e l p (by_change o k) = replace-keeps h o d.objects here
   perform-keeps changing e l p (by_other k) = absurd (false≢true (sym e))
-  perform-keeps changing e l p (by_request {need = need} {next = next} k) =
-      asked-keeps d h (met l need) (λ x. perform d (resized l x) (next x)) here
-      (λ x. perform-keeps changing e (resized l x) (next x) (k x))
+  perform-keeps changing e l p (by_request {need = need} {next = next} k) = asked-keeps d h (met l need)
+      (λ x. perform d (resized l x) (next x)) here (λ x. perform-keeps changing e (resized l x) (next x) (k x))
 
   step-keeps : (mode : Mode) (c : Command) → is_elementwise c ≡ true → is_object_at (step mode d c).1 h ≡ true
   unfolding step
@@ -72,12 +69,10 @@ module _ (d : Directory) (h : ℕ) (here : is_object_at d h ≡ true) where
 moved-keeps : {A : Type 0} {old new : State} {answer : A} {next : Directory → A × Directory} → IsSegment old.cut.bytes
     → Moves old new answer next → ((d : Directory) (h : ℕ) → is_object_at d h ≡ true → is_object_at (next d).1 h ≡ true)
     → KeepsObjects old new
-moved-keeps g m keeps o is =
-    record {
-      answers = λ e k.
-          sym (object-passes o.handle k.denotes ∙ sym (object-passes o.handle (m.denotes g.0 g.1).denotes)
-          ∙ keeps g.0 o.handle (sym (is.answers g.0 g.1)));
-    }
+moved-keeps g m keeps o is = record {
+  answers = λ e k. sym (object-passes o.handle k.denotes ∙ sym (object-passes o.handle (m.denotes g.0 g.1).denotes)
+      ∙ keeps g.0 o.handle (sym (is.answers g.0 g.1)));
+}
 
 pub objects_stay : ObjectsStay
 objects_stay = record {

@@ -1,31 +1,27 @@
 -- The elements of the object of a key: where each stands and its number, what reading one answers, and writing one.
-use Rattle.segment_manager.proofs.Common.{◌≡◌, refl, sym, ap, subst, ◌∙◌, ℕ, zero, suc, ◌+◌, ◌*◌, ◌<◌, ◌≤◌, ℤ, pos}
-use Rattle.segment_manager.proofs.Common.{get_or, Bool, true, false, Option, Some, None, Result, Ok, Err, List, [], ◌∷◌}
-use Rattle.segment_manager.proofs.Common.{length, if◌then◌else◌, arith, IsTrue, nat_lt, slice_get, list_all}
-use Rattle.segment_manager.proofs.Common.{mul-le-mul_left, ltb-true, slice_get-get_or, slice_get_within, current, Has}
-use Rattle.segment_manager.proofs.Common.{bytes_of, read, handle, has_room, live_of, ScalarKind, Scalar, Refusal}
-use Rattle.segment_manager.proofs.Common.{NotFound, WrongKind, OutOfRange, is_value, same_kind, size_of, spelling, Key}
-use Rattle.segment_manager.proofs.Common.{spelled, Numbers, Object, Directory, count_of, is_good_value, is_object}
-use Rattle.segment_manager.proofs.Common.{kind_of, object_at, padded, value_len, Denotes, IsValueAt, handle_at}
-use Rattle.segment_manager.proofs.Common.{StandsAt, Answers, State, MatchOption, slice_set, eq-eqb, false≢true}
-use Rattle.segment_manager.proofs.Common.{ltb-false, slice_get_past, code_of, Literal, value_of_literal, Mode, Answer}
-use Rattle.segment_manager.proofs.Common.{Element, Refused, Done, live, perform, Refuse, Reply, with, IsReplyOfKind}
-use Rattle.segment_manager.proofs.Common.{IsSegment, answer_of, step_of_kind, effect, get, set as set_element, changed}
-use Rattle.segment_manager.proofs.Common.{Command, BoolKind, literal_of, and_then, map, values_of}
-use Rattle.segment_manager.proofs.objects.Here.{here, standing}
-use Rattle.segment_manager.proofs.Steps.{open-reading, step_of_kind-found, step_of_kind-not_found, step_of_kind-other}
-use Rattle.segment_manager.proofs.Steps.{with-found, IsOpenFor}
-use Rattle.segment_manager.proofs.{blocks.Blocks.spelling-length, Codes.numbers-only, Frame.object-roomy}
-use Rattle.segment_manager.proofs.{objects.Rows.Has-element, objects.Standings.standing-room, Words.first, Words.second}
-use Rattle.segment_manager.proofs.{containers.ContentPlans.of_slice}
+use Rattle.segment_manager.proofs as own
+use own.Common.{◌≡◌, refl, sym, ap, subst, ◌∙◌, ℕ, zero, suc, ◌+◌, ◌*◌, ◌<◌, ◌≤◌, ℤ, pos, get_or, Bool, true, false}
+use own.Common.{Option, Some, None, Result, Ok, Err, List, [], ◌∷◌, length, if◌then◌else◌, arith, IsTrue, nat_lt}
+use own.Common.{slice_get, list_all, mul-le-mul_left, ltb-true, slice_get-get_or, slice_get_within, current, Has}
+use own.Common.{bytes_of, read, handle, has_room, live_of, ScalarKind, Scalar, Refusal, NotFound, WrongKind, OutOfRange}
+use own.Common.{is_value, same_kind, size_of, spelling, Key, spelled, Numbers, Object, Directory, count_of}
+use own.Common.{is_good_value, is_object, kind_of, object_at, padded, value_len, Denotes, IsValueAt, handle_at}
+use own.Common.{StandsAt, Answers, State, MatchOption, slice_set, eq-eqb, false≢true, ltb-false, slice_get_past}
+use own.Common.{code_of, Literal, value_of_literal, Mode, Answer, Element, Refused, Done, live, perform, Refuse, Reply}
+use own.Common.{with, IsReplyOfKind, IsSegment, answer_of, step_of_kind, effect, get, set as set_element, changed}
+use own.Common.{Command, BoolKind, and_then, map, values_of, literal_of}
+use own.Steps.{open-reading, step_of_kind-found, step_of_kind-not_found, step_of_kind-other, with-found, IsOpenFor}
+use own.{objects.Here.here, objects.Here.standing, Codes.numbers-only, Frame.object-roomy, objects.Rows.Has-element}
+use own.{blocks.Blocks.spelling-length, objects.Standings.standing-room, containers.ContentPlans.of_slice}
+use Rattle.raw_region.proofs.Facts.{first, second}
 use Rattle.seg_vector.specs.declared.places.Place.{Place}
 use Rattle.segment_manager.specs.objects.Standing.{element_at, place_at, place_in}
 use Rattle.std.specs.Option.{ok_or}
 use Rattle.byteorder.specs.Endian.{little_number}
 use Rattle.seg_types.specs.Kinds.{is_spelling, value_of}
 use Rattle.seg_types.proofs.Laws.{all_spell_one}
-use Rattle.seg_types.specs.Commands as asked
 use Rattle.std.proofs.Common.{negsuc}
+use Rattle.seg_types.specs.Commands as asked
 
 -- ---- an element
 
@@ -88,8 +84,7 @@ module _ {b : List ℕ} {d : Directory} {key : Key} {k : ScalarKind} {i : ℕ} {
   element-of {o} e s f =
       let parts =
       placed-if (same_kind (Scalar k) (kind_of o.value)) (nat_lt i (count_of o.value)) (element_at k o.name i) f in
-      let n = numbers-only k o.value parts.0 in
-      let many : count_of o.value ≡ length n.0 = ap count_of n.1 in
+      let n = numbers-only k o.value parts.0 in let many : count_of o.value ≡ length n.0 = ap count_of n.1 in
       let below : i < length n.0 = let l = ltb-true i (count_of o.value) parts.1 in omega arith in
       let there = slice_get-get_or n.0 i (pos 0) below in
       record {
@@ -156,9 +151,8 @@ module _ (b : List ℕ) (d : Directory) (key : Key) (k : ScalarKind) (i : ℕ) (
       (length e.object.name) ≡ p.handle + (16 + padded (length e.object.name)) =
       let s = e.stands.at in
       omega arith in
-      subst (λ a. Has (bytes_of b) a (spelled k e.numbers)) at
-      (subst (λ v. IsValueAt (bytes_of b) (handle e.object.extent + 16 + padded (length e.object.name)) v) e.value
-      e.stands.said.value)
+      subst (λ a. Has (bytes_of b) a (spelled k e.numbers)) at (subst (λ v. IsValueAt (bytes_of b)
+      (handle e.object.extent + 16 + padded (length e.object.name)) v) e.value e.stands.said.value)
 
   -- an element stands in its place
   pub element-read : read (bytes_of b) (p.handle + p.at) (size_of k) ≡ spelling k e.number
@@ -197,8 +191,7 @@ places {s} key {h} k i {r} a each = record {
 get-effect : (d : Directory) (key : Key) {o : Object} (k : ScalarKind) (zs : List ℤ) (i : ℕ) (r : Option ℤ)
     → object_at d key ≡ Some o → o.value ≡ Numbers k zs → slice_get zs i ≡ r
     → effect d (asked.Get key i) ≡ with (of_slice r) (λ z. Reply (Element k z) d)
-get-effect d key {o} k zs i r e f g =
-    with-found d key o (λ o. get d o.value i) e ∙ ap (λ v. get d v i) f
+get-effect d key {o} k zs i r e f g = with-found d key o (λ o. get d o.value i) e ∙ ap (λ v. get d v i) f
     ∙ ap (λ (r : Option ℤ). with (of_slice r) (λ z. Reply (Element k z) d)) g
 
 pub set-effect : (d : Directory) (key : Key) {o : Object} (k : ScalarKind) (zs : List ℤ) (i : ℕ) (l : Literal) {z : ℤ}
@@ -226,14 +219,12 @@ got mode b d key k i p e =
 
 -- or it is refused, for the reason why there is none
 lacking : (mode : Mode) (d : Directory) (key : Key) (k : ScalarKind) (i : ℕ) (r : Refusal) (c : Command) {o : Object}
-    → IsOpenFor mode c → ((zs : List ℤ) → o.value ≡ Numbers k zs → slice_get zs i ≡ None
-    → effect d c ≡ Refuse OutOfRange) → object_at d key ≡ Some o → Lacks o k i r
-    → step_of_kind mode d key (Scalar k) c ≡ (Refused r, d)
+    → IsOpenFor mode c → ((zs : List ℤ) → o.value ≡ Numbers k zs → slice_get zs i ≡ None → effect d c ≡ Refuse
+    OutOfRange) → object_at d key ≡ Some o → Lacks o k i r → step_of_kind mode d key (Scalar k) c ≡ (Refused r, d)
 lacking mode d key k i r c {o} may past e (Other s f) =
     step_of_kind-other mode d key (Scalar k) c o may e s ∙ (λ j. (Refused (sym f j), d))
 lacking mode d key k i r c {o} may past e (Past s t f) =
-    let n = numbers-only k o.value s in
-    let many : count_of o.value ≡ length n.0 = ap count_of n.1 in
+    let n = numbers-only k o.value s in let many : count_of o.value ≡ length n.0 = ap count_of n.1 in
     let behind : length n.0 ≤ i = let l = ltb-false i (count_of o.value) t in omega arith in
     step_of_kind-found mode d key (Scalar k) c o may e s
     ∙ ap (perform d (live d)) (past n.0 n.1 (slice_get_past n.0 i behind)) ∙ (λ j. (Refused (sym f j), d))
@@ -254,26 +245,21 @@ module _ {t : State} (key : Key) {l k : ScalarKind} (kinds : l ≡ k) (i : ℕ) 
   pub replies-missing : {r : Refusal} → Answers t (λ d. place_at d key l i) (Err r)
       → IsReplyOfKind t key (Scalar k) (asked.Get key i) (Refused r)
   replies-missing {r} a = record {
-    answers = λ d l.
-        sym (ap (λ (n : Answer × Directory). n.0)
-        (missing-steps t.mode (asked.Get key i) (open-reading t.mode (asked.Get key i) refl)
-        (λ o zs e f. get-effect d key k zs i None e f)
-        (element-missing ((subst (λ (m : ScalarKind). Answers t (λ d. place_at d key m i) (Err r)) kinds a).answers
-        d l))));
+    answers = λ d l. sym (ap (λ (n : Answer × Directory). n.0) (missing-steps t.mode (asked.Get key i) (open-reading
+        t.mode (asked.Get key i) refl) (λ o zs e f. get-effect d key k zs i None e f) (element-missing
+        ((subst (λ (m : ScalarKind). Answers t (λ d. place_at d key m i) (Err r)) kinds a).answers d l))));
   }
 
   -- one is found, as the view before the call names the segment
   module _ {s : State} (view : s ≡ t) {p : Place} {n : ℕ} (long : n ≡ size_of k)
       (there : Answers t (λ d. place_at d key l i) (Ok p)) where
     pub seen-place : Answers s (λ d. place_at d key k i) (Ok p)
-    seen-place =
-        subst (λ (m : ScalarKind). Answers s (λ d. place_at d key m i) (Ok p)) kinds
+    seen-place = subst (λ (m : ScalarKind). Answers s (λ d. place_at d key m i) (Ok p)) kinds
         (subst (λ (u : State). Answers u (λ d. place_at d key l i) (Ok p)) (sym view) there)
 
     -- the block has the room of the element
     pub place-room : IsSegment s.cut.bytes → IsTrue (has_room (live_of s.cut.bytes) p.handle (p.at + n))
-    place-room b =
-        subst (λ m. IsTrue (has_room (live_of s.cut.bytes) p.handle (p.at + m))) (sym long)
+    place-room b = subst (λ m. IsTrue (has_room (live_of s.cut.bytes) p.handle (p.at + m))) (sym long)
         (element-room s.cut.bytes b.0 key k i p (element-found b.1.denotes (seen-place.answers b.0 b.1)))
 
     -- what its bytes are read as is the step's answer
@@ -297,10 +283,8 @@ pub number-answer : {T : Type 0} (k : ScalarKind) (z : ℤ) (whole : T
     → bytes ≡ spelling k z → MatchOption q (is_spelling k bytes ≡ false) (λ x. (is_spelling k bytes ≡ true)
     × (whole x ≡ value_of k (little_number (size_of k) bytes))) → answer_of (λ x. Element k (whole x)) r ≡ Element k z
 number-answer k z whole None f v e h = absurd (false≢true (sym h ∙ ap (is_spelling k) e ∙ (all_spell_one k z v).is_one))
-number-answer k z whole (Some x) f v e h =
-    ap (answer_of (λ x. Element k (whole x))) f
-    ∙ ap (Element k) (h.1 ∙ ap (λ (bs : List ℕ). value_of k (little_number (size_of k) bs)) e
-    ∙ (all_spell_one k z v).reads)
+number-answer k z whole (Some x) f v e h = ap (answer_of (λ x. Element k (whole x))) f ∙ ap (Element k) (h.1
+    ∙ ap (λ (bs : List ℕ). value_of k (little_number (size_of k) bs)) e ∙ (all_spell_one k z v).reads)
 
 -- ---- the literal of a value
 

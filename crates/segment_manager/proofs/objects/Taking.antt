@@ -1,16 +1,14 @@
 -- The blocks of a new object: they are taken, and written whatever its value, so that the indexes stay; or given back
 -- where one of them is refused.
-use Rattle.segment_manager.proofs.Common.{◌≡◌, sym, ap, subst, ◌∙◌, ℕ, ◌+◌, ◌-◌, ◌/◌, ◌%◌, ◌==◌, inr, Some, None}
-use Rattle.segment_manager.proofs.Common.{Option, List, arith, Role, LiveSet, SameBlock, allocated-live, bytes_of}
-use Rattle.segment_manager.proofs.Common.{keeps-trans, word_at, IfSome, IsTrue, Cut, current, ObjectRole, IndexRole}
-use Rattle.segment_manager.proofs.Common.{IsAllocated, IsChanged, IsHeap, IsRefused, Keeps, LaysOut, is_live_in}
-use Rattle.segment_manager.proofs.Common.{live_of, Table, added, allocated-is_live, allocated-room, keeps-refl}
-use Rattle.segment_manager.proofs.Common.{laid-heap, room_block, Index, CanGrow, GivesBack, IsGrowth, grown_bytes}
-use Rattle.segment_manager.proofs.Common.{IsIndexOf, place_of, prepared, IsRequested, IsRestored, IsUnmet, ◌≤◌, Bool}
-use Rattle.segment_manager.proofs.Common.{[], ◌∷◌, find, Same-part, Same-word, Same-link, Extent, handle, extent_at}
-use Rattle.segment_manager.proofs.Common.{lay_out_one, grown_capacity, Object, extents_of, is_object, IsObjectAt}
-use Rattle.segment_manager.proofs.Order.{all_of-insert, live-rises, rising-insert}
-use Rattle.segment_manager.proofs.{Live.adding}
+use Rattle.segment_manager.proofs as own
+use own.Common.{◌≡◌, sym, ap, subst, ◌∙◌, ℕ, ◌+◌, ◌-◌, ◌/◌, ◌%◌, ◌==◌, inr, Some, None, Option, List, arith, Role}
+use own.Common.{LiveSet, SameBlock, allocated-live, bytes_of, keeps-trans, word_at, IfSome, IsTrue, Cut, current}
+use own.Common.{ObjectRole, IndexRole, IsAllocated, IsChanged, IsHeap, IsRefused, Keeps, LaysOut, is_live_in, live_of}
+use own.Common.{Table, added, allocated-is_live, allocated-room, keeps-refl, laid-heap, room_block, Index, CanGrow}
+use own.Common.{GivesBack, IsGrowth, grown_bytes, IsIndexOf, place_of, prepared, IsRequested, IsRestored, IsUnmet, ◌≤◌}
+use own.Common.{Bool, [], ◌∷◌, find, Same-part, Same-word, Same-link, Extent, handle, extent_at, lay_out_one}
+use own.Common.{grown_capacity, Object, extents_of, is_object, IsObjectAt}
+use own.{Order.all_of-insert, Order.live-rises, Order.rising-insert, Live.adding}
 use Rattle.best_fit.proofs.Laws.{block_aligned, still_allocated-block, found-inserted, found-new, found-none}
 use Rattle.seg_index.proofs.Laws.{place_behind, place_small, Around-kept, stays}
 use Rattle.best_fit.specs.Fit.{insert}
@@ -36,12 +34,10 @@ has_handle h x = handle x == h
 -- the block that a request took is found
 pub allocated-found : {old new : Cut} {n : ℕ} {role : Role} {h : ℕ} → (a : IsAllocated current old new n role h)
     → extent_at (live_of new.bytes) h ≡ Some a.extent
-allocated-found {old} {new} {h} a =
-    ap (λ (l : LiveSet). find (has_handle h) l.extents)
-    (lay_out_one current new.bytes (added (live_of old.bytes) a.extent) a.live)
-    ∙ ap (λ g. find (has_handle g) (insert a.extent (live_of old.bytes).extents)) a.at
-    ∙ found-new a.extent (live_of old.bytes).extents (rising-insert 128 a.extent (live_of old.bytes).extents
-    (live-rises (added (live_of old.bytes) a.extent) a.live.proper)).differs
+allocated-found {old} {new} {h} a = ap (λ (l : LiveSet). find (has_handle h) l.extents) (lay_out_one current new.bytes
+    (added (live_of old.bytes) a.extent) a.live) ∙ ap (λ g. find (has_handle g) (insert a.extent
+    (live_of old.bytes).extents)) a.at ∙ found-new a.extent (live_of old.bytes).extents (rising-insert 128 a.extent
+    (live_of old.bytes).extents (live-rises (added (live_of old.bytes) a.extent) a.live.proper)).differs
 
 -- ---- after blocks are taken
 
@@ -59,8 +55,7 @@ taken-found old new xs h {x} m e =
 -- an index stays
 pub taken-index : {old : Cut} {new : Cut} (xs : List Extent) {at : ℕ} {t : Table} {hs : List ℕ} → IsTaken old new xs
     → 32 ≤ at → at + 24 ≤ 128 → IsIndexOf old at t hs → IsIndexOf new at t hs
-taken-index {old} {new} xs {at} {t} {hs} m low high i =
-    stays old new at t hs i
+taken-index {old} {new} xs {at} {t} {hs} m low high i = stays old new at t hs i
     (Around-kept old new at t (live_of old.bytes).extents (laid-heap new.bytes (adding (live_of old.bytes) xs) m.live)
     (Same-part (bytes_of old.bytes) (bytes_of new.bytes) 32 128 at (at + 24) m.keeps.behind low high) m.keeps.blocks
     (λ x e.
@@ -71,14 +66,12 @@ taken-index {old} {new} xs {at} {t} {hs} m low high i =
 -- so does what it grows into
 pub taken-growth : (old new : Cut) (xs : List Extent) (at : ℕ) (g : Option ℕ) → IsTaken old new xs → 32 ≤ at
     → at + 24 ≤ 128 → CanGrow old at g → CanGrow new at g
-taken-growth old new xs at None m low high c =
-    omega (
-      arith,
-      (Same-word (bytes_of old.bytes) (bytes_of new.bytes) 32 128 (at + 8) m.keeps.behind (omega arith)
-          (omega arith)),
-      (Same-word (bytes_of old.bytes) (bytes_of new.bytes) 32 128 (at + 16) m.keeps.behind (omega arith) (omega arith)),
-      c,
-    )
+taken-growth old new xs at None m low high c = omega (
+  arith,
+  (Same-word (bytes_of old.bytes) (bytes_of new.bytes) 32 128 (at + 8) m.keeps.behind (omega arith) (omega arith)),
+  (Same-word (bytes_of old.bytes) (bytes_of new.bytes) 32 128 (at + 16) m.keeps.behind (omega arith) (omega arith)),
+  c,
+)
 taken-growth old new xs at (Some h) m low high c =
     let cap =
     Same-word (bytes_of old.bytes) (bytes_of new.bytes) 32 128 (at + 16) m.keeps.behind (omega arith) (omega arith) in
@@ -129,8 +122,7 @@ growth-index i (Some h) g x = taken-index _ (requested-taken g.1) (place_behind 
 -- the block is requested, and written where it was asked for
 pub written-taken : {a m b : Cut} {n h : ℕ} → IsAllocated current a m n ObjectRole h → IsChanged current m b h n
     → IsAllocated current a b n ObjectRole h
-written-taken {a} {m} {b} {n} {h} take change =
-    still_allocated-block current a m b n ObjectRole h h n n take change
+written-taken {a} {m} {b} {n} {h} take change = still_allocated-block current a m b n ObjectRole h h n n take change
     (allocated-room current a m n ObjectRole h n take (omega arith)) (omega arith) (omega arith)
 
 -- the same number of bytes
@@ -155,9 +147,8 @@ ready i {a} {b} {n} {h} {g} {t} {hs} x r change =
 
 -- the block of a request begins at a multiple of 16
 pub requested-aligned : {a b : Cut} {n h : ℕ} → IsAllocated current a b n ObjectRole h → h % 16 ≡ 0
-requested-aligned {a} {b} {n} {h} take =
-    block_aligned b h (room_block b h 0 (laid-heap b.bytes (added (live_of a.bytes) take.extent) take.live)
-    (allocated-room current a b n ObjectRole h 0 take (omega arith))).block
+requested-aligned {a} {b} {n} {h} take = block_aligned b h (room_block b h 0 (laid-heap b.bytes (added (live_of a.bytes)
+    take.extent) take.live) (allocated-room current a b n ObjectRole h 0 take (omega arith))).block
 
 -- ---- blocks as they were
 
@@ -170,8 +161,7 @@ restored-taken {a} {m} {w} {n} {role} {h} t r =
     subst (λ (l : LiveSet). Keeps m w l.extents) is r.keeps in
     let each =
     all_of-insert (SameBlock (bytes_of m.bytes) (bytes_of w.bytes)) t.extent (live_of a.bytes).extents kept.blocks in
-    let colour = each.0.colour in
-    let at = t.at in
+    let colour = each.0.colour in let at = t.at in
     let tag : h - 8 ≡ t.extent.offset + 8 = omega arith in
     let same : word_at (bytes_of w.bytes) (h - 8) / 2 % 2 ≡ word_at (bytes_of m.bytes) (h - 8) / 2 % 2 =
     subst (λ k. word_at (bytes_of w.bytes) k / 2 % 2 ≡ word_at (bytes_of m.bytes) k / 2 % 2) (sym tag) (omega arith) in

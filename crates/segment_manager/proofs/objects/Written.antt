@@ -1,26 +1,23 @@
 -- A number of the object of a key is written: what the bytes denote then, and that it is the step.
-use Rattle.segment_manager.proofs.Common.{◌≡◌, refl, sym, ap, subst, ◌∙◌, ℕ, zero, suc, ◌+◌, ◌*◌, ◌<◌, ◌≤◌, ℤ, Bool}
-use Rattle.segment_manager.proofs.Common.{true, false, Some, None, Ok, Err, List, [], ◌∷◌, length, arith, IsTrue}
-use Rattle.segment_manager.proofs.Common.{list_all, mul-le-mul_left, slice_get_within, current, Has, bytes_of, handle}
-use Rattle.segment_manager.proofs.Common.{ScalarKind, Scalar, Refusal, is_value, size_of, spelling, Key, spelled}
-use Rattle.segment_manager.proofs.Common.{Numbers, Object, Directory, count_of, is_object, kind_of, padded, value_len}
-use Rattle.segment_manager.proofs.Common.{Denotes, IsValueAt, Answers, State, Literal, value_of_literal, Mode, Refused}
-use Rattle.segment_manager.proofs.Common.{Done, live, perform, IsSegment, step_of_kind, done_answer, ◌&&◌, nat_le}
-use Rattle.segment_manager.proofs.Common.{and_from, Cut, SameBut, ObjectRole, IsChanged, serves, literal_of}
-use Rattle.segment_manager.proofs.Common.{has_good_name, value_extents, with_changed, IsStepOfKind, is_read_only}
-use Rattle.segment_manager.proofs.Steps.{step_of_kind-found, by_no_change_of_kind, by_step_of_kind, lands}
-use Rattle.segment_manager.proofs.containers.Safely.{Answered, answered, done-so}
-use Rattle.segment_manager.proofs.{blocks.Blocks.spelling-length, Frame.object-roomy, objects.Rows.Has-set, Words.first}
-use Rattle.segment_manager.proofs.{Words.second, Steps.open-writing, objects.ObjectLists.key-found}
-use Rattle.segment_manager.proofs.{objects.Exchanged.denotes-rewritten, objects.Rewritten.value_start}
-use Rattle.segment_manager.proofs.{objects.Rewritten.with_value}
-use Rattle.segment_manager.proofs.objects.Stored.{ElementAt, numbers-good, element-found, element-missing}
-use Rattle.segment_manager.proofs.objects.Stored.{numbers-stand, set-effect, element-kind, missing-steps, literal-read}
+use Rattle.segment_manager.proofs as own
+use own.Common.{◌≡◌, refl, sym, ap, subst, ◌∙◌, ℕ, zero, suc, ◌+◌, ◌*◌, ◌<◌, ◌≤◌, ℤ, Bool, true, false, Some, None, Ok}
+use own.Common.{Err, List, [], ◌∷◌, length, arith, IsTrue, list_all, mul-le-mul_left, slice_get_within, current, Has}
+use own.Common.{bytes_of, handle, ScalarKind, Scalar, Refusal, is_value, size_of, spelling, Key, spelled, Numbers}
+use own.Common.{Object, Directory, count_of, is_object, kind_of, padded, value_len, Denotes, IsValueAt, Answers, State}
+use own.Common.{Literal, value_of_literal, Mode, Refused, Done, live, perform, IsSegment, step_of_kind, done_answer}
+use own.Common.{◌&&◌, nat_le, and_from, Cut, SameBut, ObjectRole, IsChanged, serves, literal_of, has_good_name}
+use own.Common.{value_extents, with_changed, IsStepOfKind, is_read_only}
+use own.Steps.{step_of_kind-found, by_no_change_of_kind, by_step_of_kind, lands, open-writing}
+use own.objects.Stored.{ElementAt, numbers-good, element-found, element-missing, numbers-stand, set-effect}
+use own.objects.Stored.{element-kind, missing-steps, literal-read}
+use own.containers.Safely.{Answered, answered, done-so}
+use own.{objects.Rows.Has-set, objects.Rewritten.value_start, objects.Rewritten.with_value, Frame.object-roomy}
+use own.{blocks.Blocks.spelling-length, objects.ObjectLists.key-found, objects.Exchanged.denotes-rewritten}
+use Rattle.raw_region.proofs.Facts.{second, first}
 use Rattle.seg_vector.specs.declared.places.Place.{Place}
 use Rattle.segment_manager.specs.objects.Standing.{place_at}
+use Rattle.std.proofs.{Common.set, lemmas.List.length-set}
 use Rattle.seg_types.specs.Commands as asked
-use Rattle.std.proofs.Common.{set}
-use Rattle.std.proofs.lemmas.List.{length-set}
 
 -- ---- the numbers with another among them
 
@@ -28,8 +25,7 @@ list_all-set : (t : ℤ → Bool) (zs : List ℤ) (i : ℕ) (z : ℤ) → IsTrue
     → IsTrue (list_all t (set zs i z))
 list_all-set t [] i z h v = h
 list_all-set t (y ∷ ys) zero z h v = and_from (t z) (list_all t ys) v (second (t y) (list_all t ys) h)
-list_all-set t (y ∷ ys) (suc i) z h v =
-    and_from (t y) (list_all t (set ys i z)) (first (t y) (list_all t ys) h)
+list_all-set t (y ∷ ys) (suc i) z h v = and_from (t y) (list_all t (set ys i z)) (first (t y) (list_all t ys) h)
     (list_all-set t ys i z (second (t y) (list_all t ys) h) v)
 
 -- as many values make the object another
@@ -71,8 +67,7 @@ module _ (old new : Cut) (d : Directory) (key : Key) (k : ScalarKind) (i : ℕ) 
   below = slice_get_within e.numbers i e.number e.there
 
   good : (z : ℤ) → IsTrue (is_value k z) → IsTrue (is_object current (with_number z))
-  good z v =
-      numbers-object e.object k e.numbers (set e.numbers i z) e.stands.good e.value (length-set e.numbers i z)
+  good z v = numbers-object e.object k e.numbers (set e.numbers i z) e.stands.good e.value (length-set e.numbers i z)
       (list_all-set (is_value k) e.numbers i z (numbers-good e.object k e.numbers e.stands.good e.value) v)
 
   -- the numbers stand there
@@ -80,24 +75,20 @@ module _ (old new : Cut) (d : Directory) (key : Key) (k : ScalarKind) (i : ℕ) 
       → Has (bytes_of new.bytes) (p.handle + p.at) (spelling k z)
       → IsValueAt (bytes_of new.bytes) (value_start e.object) (Numbers k (set e.numbers i z))
   written z s w =
-      let m = bytes_of old.bytes in
-      let m' = bytes_of new.bytes in
+      let m = bytes_of old.bytes in let m' = bytes_of new.bytes in
       Has-set (spelling k) (spelling-length k) (value_start e.object) e.numbers i z
       (subst (λ a. Has m a (spelled k e.numbers)) (sym start) (numbers-stand old.bytes d key k i p e)) below
       (subst (λ a. SameBut m m' a (size_of k)) spot s) (subst (λ a. Has m' a (spelling k z)) spot w)
 
   -- the bytes denote the directory with the new number
   pub denotes-number : (z : ℤ) → Denotes current old.bytes d → IsTrue (is_value k z)
-      → IsChanged current old new (p.handle + p.at) (size_of k)
-      → Has (bytes_of new.bytes) (p.handle + p.at) (spelling k z)
-      → Denotes current new.bytes (with_changed d (with_number z))
+      → IsChanged current old new (p.handle + p.at) (size_of k) → Has (bytes_of new.bytes) (p.handle + p.at)
+      (spelling k z) → Denotes current new.bytes (with_changed d (with_number z))
   denotes-number z h v c w =
-      let o : Object = e.object in
-      let f = key-found current d key o h.directory e.is in
+      let o : Object = e.object in let f = key-found current d key o h.directory e.is in
       let roomy = object-roomy current o e.stands.good in
       let room : 16 + padded (length o.name) + value_len o.value + 16 ≤ o.extent.len = roomy.room in
-      let long : value_len o.value ≡ size_of k * length e.numbers = ap value_len e.value in
-      let l = below in
+      let long : value_len o.value ≡ size_of k * length e.numbers = ap value_len e.value in let l = below in
       let fits : size_of k * (i + 1) ≤ size_of k * length e.numbers = mul-le-mul_left (size_of k) (omega arith) in
       let at = spot in
       denotes-rewritten o (Numbers k (set e.numbers i z)) h f (ap kind_of (sym e.value))
@@ -111,8 +102,7 @@ stored : (mode : Mode) {b : List ℕ} {d : Directory} {key : Key} {k : ScalarKin
     {z : ℤ} → (e : ElementAt b d key k i p) → is_read_only mode ≡ false → value_of_literal k l ≡ Ok z
     → step_of_kind mode d key (Scalar k)
     (asked.Set key i l) ≡ (Done, with_changed d (with_value e.object (Numbers k (set e.numbers i z))))
-stored mode {d} {key} {k} {i} l e writing f =
-    step_of_kind-found mode d key (Scalar k) (asked.Set key i l) e.object
+stored mode {d} {key} {k} {i} l e writing f = step_of_kind-found mode d key (Scalar k) (asked.Set key i l) e.object
     (open-writing mode (asked.Set key i l) writing) e.is (element-kind e)
     ∙ ap (perform d (live d)) (set-effect d key k e.numbers i l (Some e.number) e.is e.value f e.there)
 
@@ -122,11 +112,9 @@ stored mode {d} {key} {k} {i} l e writing f =
 pub stores-nothing : {s : State} (key : Key) (k : ScalarKind) (i : ℕ) (z : ℤ) {r : Refusal}
     → is_read_only s.mode ≡ false → is_value k z ≡ true → Answers s (λ d. place_at d key k i) (Err r)
     → IsStepOfKind s s key (Scalar k) (asked.Set key i (literal_of k z)) (Refused r)
-stores-nothing {s} key k i z {r} writing v a =
-    by_no_change_of_kind s key (Scalar k) (asked.Set key i (literal_of k z)) (Refused r) (λ d l.
-    missing-steps s.mode (asked.Set key i (literal_of k z))
-    (open-writing s.mode (asked.Set key i (literal_of k z)) writing)
-    (λ o zs e f. set-effect d key k zs i (literal_of k z) None e f (literal-read k z v))
+stores-nothing {s} key k i z {r} writing v a = by_no_change_of_kind s key (Scalar k) (asked.Set key i (literal_of k z))
+    (Refused r) (λ d l. missing-steps s.mode (asked.Set key i (literal_of k z)) (open-writing s.mode (asked.Set key i
+    (literal_of k z)) writing) (λ o zs e f. set-effect d key k zs i (literal_of k z) None e f (literal-read k z v))
     (element-missing (a.answers d l)))
 
 -- a spelling was written at the place: the call is the step
@@ -135,17 +123,15 @@ pub stores-number : {s t : State} (view : s ≡ t) (b : IsSegment s.cut.bytes) {
     → bytes ≡ spelling k z → Answers t (λ d. place_at d key k i) (Ok p)
     → IsChanged current s.cut new (p.handle + p.at) (length bytes) → Has (bytes_of new.bytes) (p.handle + p.at) bytes
     → Answered done_answer s t new key (Scalar k) (asked.Set key i (literal_of k z)) (Ok tt)
-stores-number {s} {t} view b {new} {key} k i {p} z may v f there c w =
-    answered s t view b new key (Scalar k) (asked.Set key i (literal_of k z)) (Ok tt)
-    (done-so (by_step_of_kind s (record s { cut = new }) key (Scalar k) (asked.Set key i (literal_of k z)) Done
-    (record { mode = refl; place = c.place }) (λ d l.
+stores-number {s} {t} view b {new} {key} k i {p} z may v f there c w = answered s t view b new key (Scalar k)
+    (asked.Set key i (literal_of k z)) (Ok tt) (done-so (by_step_of_kind s (record s { cut = new }) key (Scalar k)
+    (asked.Set key i (literal_of k z)) Done (record { mode = refl; place = c.place }) (λ d l.
     let e = element-found l.denotes ((subst (λ (u : State). Answers u (λ d. place_at d key k i) (Ok p))
     (sym view) there).answers d l) in
     lands (with_changed d (with_value e.object (Numbers k (set e.numbers i z)))) (record {
       is = stored s.mode (literal_of k z) e (subst (λ (u : State). is_read_only u.mode ≡ false) (sym view) may)
           (literal-read k z v);
-      denotes = denotes-number s.cut new d key k i p e z l.denotes v
-          (subst (λ n. IsChanged current s.cut new (p.handle + p.at) n)
-          (ap (λ (bs : List ℕ). length bs) f ∙ spelling-length k z) c)
+      denotes = denotes-number s.cut new d key k i p e z l.denotes v (subst (λ n. IsChanged current s.cut new
+          (p.handle + p.at) n) (ap (λ (bs : List ℕ). length bs) f ∙ spelling-length k z) c)
           (subst (Has (bytes_of new.bytes) (p.handle + p.at)) f w);
     }))))

@@ -19,9 +19,8 @@ compare-requires c =
 -- how the compared key stands, and what is known of the comparisons then
 stands : (c : After-compare) → order_at (bytes_of c.args.comparisons.now.heap.now.bytes) c.args.comparisons.now.key
     c.args.comparisons.now.block (middle c.halves.low c.halves.high) ≡ c.compare.result
-stands c =
-    subst (λ (s : Comparisons). order_at (bytes_of s.heap.now.bytes) s.key s.block (middle c.halves.low c.halves.high)
-    ≡ c.compare.result) c.halves.invariant.same (sym c.compare.ensures.order)
+stands c = subst (λ (s : Comparisons). order_at (bytes_of s.heap.now.bytes) s.key s.block
+    (middle c.halves.low c.halves.high) ≡ c.compare.result) c.halves.invariant.same (sym c.compare.ensures.order)
 
 still : (c : After-compare) → c.compare.new.self ≡ record c.args.comparisons.now { count = c.compare.new.self.count }
 still c =

@@ -7,6 +7,5 @@ returns c =
     let at = c.args.place.handle + c.args.place.at in
     let second : c.args.place.handle + (c.args.place.at + 8) ≡ at + 8 = omega arith in
     let third : c.args.place.handle + (c.args.place.at + 16) ≡ at + 16 = omega arith in
-    headed c.set_link.ensures.change c.set_link.ensures.leads (rw second at c.set_word.ensures.change)
-    (rw second at c.set_word.ensures.word) (rw third at c.set_word-2.ensures.change)
-    (rw third at c.set_word-2.ensures.word)
+    headed c.set_link.ensures.change c.set_link.ensures.leads (rw second at c.set_word.ensures.change) (rw second at
+    c.set_word.ensures.word) (rw third at c.set_word-2.ensures.change) (rw third at c.set_word-2.ensures.word)

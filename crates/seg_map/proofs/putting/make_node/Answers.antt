@@ -13,7 +13,5 @@ returns-clause-made g c =
     let left = c.set_link.ensures in let right = c.set_link-2.ensures in let key = c.write_value.ensures in
     let value = c.write_value-2.ensures in
     made (laws g.met.K.Plain) g.V.Plain (new g (goal.at.returns-clause-made g c).In_ok-node) left.change left.leads
-    right.change
-    right.leads
-    key.value key.change key.content c.args.value value.value (rw c.SIZE-3.ensures at value.change)
-    (rw c.SIZE-3.ensures at value.content)
+    right.change right.leads key.value key.change key.content c.args.value value.value
+    (rw c.SIZE-3.ensures at value.change) (rw c.SIZE-3.ensures at value.content)

@@ -1,7 +1,6 @@
 -- The elements lie in the storage, and the length in the container's own block.
-use Rattle.seg_vector.proofs.{◌≡◌, sym, ap, subst, ◌∙◌, ◌+◌, ◌*◌, ◌≤◌, ℕ, arith, length, current, Has, bytes_of}
-use Rattle.seg_vector.proofs.{IsChanged, at-least, none-left, capacity-bytes, extended, extended-not, more-times}
-use Rattle.seg_vector.proofs.{some-room}
+use Rattle.seg_vector.proofs.{◌≡◌, bytes_of, IsChanged, none-left, capacity-bytes, extended-not, more-times, some-room}
+use Rattle.seg_vector.proofs.{sym, ap, subst, ◌∙◌, ◌+◌, ◌*◌, ◌≤◌, ℕ, arith, length, current, Has, at-least, extended}
 use Rattle.seg_vector.proofs.elements.extend.Goals as goal
 
 pub overflow_mul-each : goal.overflow_mul-each
@@ -33,12 +32,11 @@ pub returns-in-Some : goal.returns-in-Some
 returns-in-Some c len t bytes s =
     let is = c.len_of-len.ensures ∙ s.words.len_word in
     extended {old = c.args.heap.now} {s1 = c.write.new.self} {new = c.set_word.new.self} c.args.n c.args.bytes.now s
-    (omega (arith, c.requires.space, s.words.len_word, s.words.capacity)) c.requires.long
-    (sym c.link_of.ensures ∙ c.in-Some.is)
-    (subst (λ k. IsChanged current c.args.heap.now c.write.new.self (c.in-Some.storage + c.args.each * k)
-    (length c.args.bytes.now)) is c.write.ensures.change)
-    (subst (λ k. Has (bytes_of c.write.new.self.bytes) (c.in-Some.storage + c.args.each * k) c.args.bytes.now) is
-    c.write.ensures.content) c.set_word.ensures.change (c.set_word.ensures.word ∙ ap (λ k. k + c.args.n) is)
+    (omega (arith, c.requires.space, s.words.len_word, s.words.capacity)) c.requires.long (sym c.link_of.ensures
+    ∙ c.in-Some.is) (subst (λ k. IsChanged current c.args.heap.now c.write.new.self (c.in-Some.storage + c.args.each
+    * k) (length c.args.bytes.now)) is c.write.ensures.change) (subst (λ k. Has (bytes_of c.write.new.self.bytes)
+    (c.in-Some.storage + c.args.each * k) c.args.bytes.now) is c.write.ensures.content) c.set_word.ensures.change
+    (c.set_word.ensures.word ∙ ap (λ k. k + c.args.n) is)
 
 pub returns-in_default : goal.returns-in_default
 returns-in_default c len t bytes s = extended-not c.args.heap.now c.args.n c.args.bytes.now s

@@ -23,9 +23,8 @@ overflow_mul-each c =
     omega (arith, small)
 
 pub write-requires : goal.write-requires
-write-requires c =
-    subst (λ k. IsTrue (has_room (live_of c.args.heap.now.bytes) c.in-Some.storage (c.args.each * c.in-Over.index + k)))
-    (sym c.requires.long) (over (goal.at.write-requires c).In-Some)
+write-requires c = subst (λ k. IsTrue (has_room (live_of c.args.heap.now.bytes) c.in-Some.storage
+    (c.args.each * c.in-Over.index + k))) (sym c.requires.long) (over (goal.at.write-requires c).In-Some)
 
 pub returns-in-Some : goal.returns-in-Some
 returns-in-Some c =
@@ -85,12 +84,10 @@ returns-in-Some-link_of c =
     subst (λ spot. PutsAt A D p k spot more) (sym c.in-Before.is) (λ len t bytes s.
     let is = c.len_of-len.ensures ∙ s.words.len_word in let at : ℕ = k * c.in-Before.index in
     let now = subst (λ n. Stands A.bytes p k n t bytes) (sym is) s in
-    subst (λ n. IsRewritten A D p k (n + 1) t (take at bytes ++ (more ++ drop at bytes))) is
-    (put_in {old = A} {s1 = c.copy.new.self} {s2 = c.write-in-Some-link_of.new.self} {new = D} c.in-Before.index more
-    now
+    subst (λ n. IsRewritten A D p k (n + 1) t (take at bytes ++ (more ++ drop at bytes))) is (put_in {old = A}
+    {s1 = c.copy.new.self} {s2 = c.write-in-Some-link_of.new.self} {new = D} c.in-Before.index more now
     (omega (arith, h.1, now.words.len_word)) (omega (arith, h.0, now.words.len_word, now.words.capacity))
     c.requires.long (sym c.link_of-in-Before.ensures ∙ c.in-Some-link_of.is) c.copy.ensures.change
-    c.copy.ensures.content
-    (subst (λ n. IsChanged current c.copy.new.self c.write-in-Some-link_of.new.self (c.in-Some-link_of.storage + at) n)
-    c.requires.long c.write-in-Some-link_of.ensures.change) c.write-in-Some-link_of.ensures.content
-    c.set_word.ensures.change c.set_word.ensures.word))
+    c.copy.ensures.content (subst (λ n. IsChanged current c.copy.new.self c.write-in-Some-link_of.new.self
+    (c.in-Some-link_of.storage + at) n) c.requires.long c.write-in-Some-link_of.ensures.change)
+    c.write-in-Some-link_of.ensures.content c.set_word.ensures.change c.set_word.ensures.word))

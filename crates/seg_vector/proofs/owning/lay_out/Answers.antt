@@ -4,9 +4,8 @@ use Rattle.seg_vector.proofs.{laid-out, no-space, out-of-reach, taken-off}
 use Rattle.seg_vector.proofs.owning.lay_out.Goals as goal
 
 pub returns-then-n-gt-LIMIT : goal.returns-then-n-gt-LIMIT
-returns-then-n-gt-LIMIT c =
-    out-of-reach c.args.heap.now (length c.args.texts.now) (map (λ text. text.now) c.args.texts.now) c.requires.heap
-    (sym (length-map c.args.texts.now (λ text. text.now))) c.if-n-gt-LIMIT.true
+returns-then-n-gt-LIMIT c = out-of-reach c.args.heap.now (length c.args.texts.now) (map (λ text. text.now)
+    c.args.texts.now) c.requires.heap (sym (length-map c.args.texts.now (λ text. text.now))) c.if-n-gt-LIMIT.true
 
 pub place_texts-placed-requires : goal.place_texts-placed-requires
 place_texts-placed-requires c =
@@ -34,9 +33,8 @@ deallocate-requires c =
 pub returns-in_err-array : goal.returns-in_err-array
 returns-in_err-array c =
     let p = err_from_is_err_and c.from_residual.result c.from_residual.ensures.1 in
-    rw (p.1, p.2)
-    (no-space (length c.args.texts.now) (map (λ text. text.now) c.args.texts.now) c.requires.heap c.requires.some
-    (sym (length-map c.args.texts.now (λ text. text.now))) c.in_err-array.ensures)
+    rw (p.1, p.2) (no-space (length c.args.texts.now) (map (λ text. text.now) c.args.texts.now) c.requires.heap
+    c.requires.some (sym (length-map c.args.texts.now (λ text. text.now))) c.in_err-array.ensures)
 
 pub returns : goal.returns
 returns c =

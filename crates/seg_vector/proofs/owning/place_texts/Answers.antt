@@ -1,7 +1,6 @@
 -- The next text is placed, and its element is written.
-use Rattle.seg_vector.proofs.{◌≡◌, sym, ap, ◌∙◌, ◌*◌, arith, length, map, length-map, extent_at, live_of, roomy}
-use Rattle.seg_vector.proofs.{drop-next, found-big, laid-all, laid-begin, laid-put, laid-room, laid-stops, text-even}
-use Rattle.seg_vector.proofs.{laid-heap}
+use Rattle.seg_vector.proofs.{◌≡◌, sym, ap, ◌∙◌, ◌*◌, arith, length, map, live_of, roomy, laid-all, laid-put, laid-heap}
+use Rattle.seg_vector.proofs.{length-map, extent_at, drop-next, found-big, laid-begin, laid-room, laid-stops, text-even}
 use Rattle.seg_vector.proofs.owning.place_texts.Goals as goal
 
 pub loop-i-init : goal.loop-i-init
@@ -30,8 +29,7 @@ put_element-requires c =
     }
 
 pub loop-i-preserved : goal.loop-i-preserved
-loop-i-preserved c y at found =
-    laid-put (length c.args.texts.now) c.args.array at (c.loop-i.invariant y at found)
+loop-i-preserved c y at found = laid-put (length c.args.texts.now) c.args.array at (c.loop-i.invariant y at found)
     (drop-next c.args.texts.now c.loop-i.i _ c.loop-i-test.true) c.loop-i-test.true
     (found-big c.args.heap.now c.args.array (16 * length c.args.texts.now) c.requires.heap c.requires.room found)
     c.in-Ok.ensures c.put_element.ensures.change c.put_element.ensures.link c.put_element.ensures.len_word

@@ -15,15 +15,13 @@ overflow_mul-each c =
     let small = capacity-bytes c.args.heap.now s.heap s in omega (arith, few, small)
 
 pub shrink_in_place-requires : goal.shrink_in_place-requires
-shrink_in_place-requires c =
-    subst (λ l. IsTrue (is_live_in l c.in-Some.storage)) (sym (changed-live _ _ _ _ 8 c.set_word.ensures.change))
-    (storage-live c.requires.stands.1.1.1 (sym c.link_of.ensures ∙ c.in-Some.is))
+shrink_in_place-requires c = subst (λ l. IsTrue (is_live_in l c.in-Some.storage)) (sym (changed-live _ _ _ _ 8
+    c.set_word.ensures.change)) (storage-live c.requires.stands.1.1.1 (sym c.link_of.ensures ∙ c.in-Some.is))
 
 pub returns-in-Some : goal.returns-in-Some
 returns-in-Some c len t bytes s =
     let is = c.len_of-len.ensures ∙ s.words.len_word in
     fitted {old = c.args.heap.now} {mid = c.set_word.new.self} {new = c.shrink_in_place.new.self}
-    (omega (arith, is, c.if-len-eq0.false)) s (sym c.link_of.ensures ∙ c.in-Some.is)
-    c.set_word.ensures.change (c.set_word.ensures.word ∙ is)
-    (subst (λ k. IsShortened current c.set_word.new.self c.shrink_in_place.new.self c.in-Some.storage
-    (c.args.each * k)) is c.shrink_in_place.ensures.shortened)
+    (omega (arith, is, c.if-len-eq0.false)) s (sym c.link_of.ensures ∙ c.in-Some.is) c.set_word.ensures.change
+    (c.set_word.ensures.word ∙ is) (subst (λ k. IsShortened current c.set_word.new.self c.shrink_in_place.new.self
+    c.in-Some.storage (c.args.each * k)) is c.shrink_in_place.ensures.shortened)

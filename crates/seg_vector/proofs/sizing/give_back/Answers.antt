@@ -4,15 +4,13 @@ use Rattle.seg_vector.proofs.{storage-live}
 use Rattle.seg_vector.proofs.sizing.give_back.Goals as goal
 
 pub deallocate-requires : goal.deallocate-requires
-deallocate-requires c =
-    subst (λ l. IsTrue (is_live_in l c.in-Some.storage)) (sym (changed-live _ _ _ _ 24 c.start.ensures.change))
-    (storage-live c.requires.1.1.1 (sym c.link_of-storage.ensures ∙ c.in-Some.is))
+deallocate-requires c = subst (λ l. IsTrue (is_live_in l c.in-Some.storage)) (sym (changed-live _ _ _ _ 24
+    c.start.ensures.change)) (storage-live c.requires.1.1.1 (sym c.link_of-storage.ensures ∙ c.in-Some.is))
 
 pub returns-in-Some : goal.returns-in-Some
 returns-in-Some c len t bytes s = given-back s (sym c.link_of-storage.ensures ∙ c.in-Some.is) c.start.ensures.change
     (c.start.ensures.stands c.args.each) c.deallocate.ensures.released
 
 pub returns-in_default : goal.returns-in_default
-returns-in_default c len t bytes s =
-    given-nothing s (sym c.link_of-storage.ensures ∙ none-left c.link_of-storage.result c.in_default.not-Some)
-    c.start.ensures.change (c.start.ensures.stands c.args.each)
+returns-in_default c len t bytes s = given-nothing s (sym c.link_of-storage.ensures ∙ none-left c.link_of-storage.result
+    c.in_default.not-Some) c.start.ensures.change (c.start.ensures.stands c.args.each)

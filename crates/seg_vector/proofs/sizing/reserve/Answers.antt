@@ -4,8 +4,7 @@ use Rattle.seg_vector.proofs.{head-room, not_given-of, storage-read, too-many}
 use Rattle.seg_vector.proofs.sizing.reserve.Goals as goal
 
 pub regrow-requires-clause-room : goal.regrow-requires-clause-room
-regrow-requires-clause-room c =
-    storage-read c.len_of.result c.link_of-storage.result c.requires.stands.1.1.1
+regrow-requires-clause-room c = storage-read c.len_of.result c.link_of-storage.result c.requires.stands.1.1.1
     c.link_of-storage.ensures c.len_of.ensures
 
 pub point_to-requires : goal.point_to-requires
@@ -29,9 +28,8 @@ returns-in-Err c len t bytes s =
 pub returns-in-Ok : goal.returns-in-Ok
 returns-in-Ok c len t bytes s =
     let capacity = c.capacity_of.ensures ∙ s.words.capacity in
-    grows-more c.args.n (omega (arith, capacity, c.if-n-capacity_of.false)) s
-    (given-of c.args.n c.len_of.result c.link_of-storage.result s c.link_of-storage.ensures c.len_of.ensures
-    c.in-Ok.ensures) c.point_to.ensures
+    grows-more c.args.n (omega (arith, capacity, c.if-n-capacity_of.false)) s (given-of c.args.n c.len_of.result
+    c.link_of-storage.result s c.link_of-storage.ensures c.len_of.ensures c.in-Ok.ensures) c.point_to.ensures
 
 pub returns-then-n-gt-LIMIT : goal.returns-then-n-gt-LIMIT
 returns-then-n-gt-LIMIT c len t bytes s = too-many c.args.heap.now c.args.n s c.requires.some c.if-n-gt-LIMIT.true

@@ -49,20 +49,16 @@ deallocate-requires c =
 pub returns-then-old-array : goal.returns-then-old-array
 returns-then-old-array c r =
     let n = c.len_of-len.ensures ∙ (ready r).run.words.len_word in
-    adopt-other c.args.n r.texts r.more r.asked r.since
-    (sym (ready-link r) ∙ sym c.link_of.ensures ∙ c.in-Some.is) c.if-old-array.true
-    (subst (λ k. IsChanged current c.args.heap.now c.carry_down.new.heap (c.args.array + 0) (16 * k)) n
-    c.carry_down.ensures.change)
-    (subst (AreSameElements (bytes_of c.args.heap.now.bytes) (bytes_of c.carry_down.new.heap.bytes)
-    (c.in-Some.old + 0) (c.args.array + 0)) n c.carry_down.ensures.carried)
+    adopt-other c.args.n r.texts r.more r.asked r.since (sym (ready-link r) ∙ sym c.link_of.ensures ∙ c.in-Some.is)
+    c.if-old-array.true (subst (λ k. IsChanged current c.args.heap.now c.carry_down.new.heap (c.args.array + 0)
+    (16 * k)) n c.carry_down.ensures.change) (subst (AreSameElements (bytes_of c.args.heap.now.bytes)
+    (bytes_of c.carry_down.new.heap.bytes) (c.in-Some.old + 0) (c.args.array + 0)) n c.carry_down.ensures.carried)
     c.point_to.ensures c.deallocate.ensures.released
 
 pub returns : goal.returns
 returns c r = elim c.match-link_of.branch [
-  | in-Some+else-old-array w ↦ adopt-same c.args.n r.texts r.more r.asked r.since
-      (sym (ready-link r) ∙ sym c.link_of.ensures ∙ w.in-Some.is ∙ ap (λ k. Some k) w.if-old-array.false)
-      c.point_to-2.ensures
-  | in_default w ↦ adopt-none c.args.n r.texts r.more r.asked r.since
-      (sym (ready-link r) ∙ sym c.link_of.ensures ∙ none-left c.link_of.result w.in_default.not-Some)
-      c.point_to-2.ensures
+  | in-Some+else-old-array w ↦ adopt-same c.args.n r.texts r.more r.asked r.since (sym (ready-link r)
+      ∙ sym c.link_of.ensures ∙ w.in-Some.is ∙ ap (λ k. Some k) w.if-old-array.false) c.point_to-2.ensures
+  | in_default w ↦ adopt-none c.args.n r.texts r.more r.asked r.since (sym (ready-link r) ∙ sym c.link_of.ensures
+      ∙ none-left c.link_of.result w.in_default.not-Some) c.point_to-2.ensures
 ]

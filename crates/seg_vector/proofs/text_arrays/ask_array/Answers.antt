@@ -1,7 +1,6 @@
 -- The old array has the room, or is lengthened, or a new block is asked for.
-use Rattle.seg_vector.proofs.{sym, subst, ◌∙◌, ◌*◌, Cut, current, IsHeap, TakesStorage, none-left}
-use Rattle.seg_vector.proofs.{asked-beside, asked-none, asked-wide, not-wide, storage-live, texts-stand, wide-longer}
-use Rattle.seg_vector.proofs.{wide-same}
+use Rattle.seg_vector.proofs.{sym, subst, ◌∙◌, ◌*◌, Cut, current, IsHeap, TakesStorage, none-left, asked-beside}
+use Rattle.seg_vector.proofs.{asked-none, asked-wide, not-wide, storage-live, texts-stand, wide-longer, wide-same}
 use Rattle.seg_vector.proofs.text_arrays.ask_array.Goals.{in-Some+else-room-n+else-try_extend, in_default}
 use Rattle.seg_vector.proofs.text_arrays.ask_array.Goals as goal
 
@@ -17,8 +16,7 @@ returns-then-room-n c ps t s = asked-wide s (sym c.link_of.ensures ∙ c.in-Some
 
 pub returns-then-try_extend : goal.returns-then-try_extend
 returns-then-try_extend c ps t s = asked-wide s (sym c.link_of.ensures ∙ c.in-Some.is)
-    (wide-longer _ _ _ _ _ _ s.heap c.room.ensures c.if-room-n.false c.try_extend.ensures.extended
-    c.if-try_extend.true)
+    (wide-longer _ _ _ _ _ _ s.heap c.room.ensures c.if-room-n.false c.try_extend.ensures.extended c.if-try_extend.true)
 
 pub take-requires : goal.take-requires
 take-requires c =

@@ -12,16 +12,14 @@ carry_element-requires c =
     record {
       element = record {
         whole = omega (arith, c.requires.from_whole);
-        room = changed-room _ _ _ _ _ c.args.from (from_at + 16) v.change
-            (room-less l c.args.from (c.args.from_at + 16 * c.args.n) (from_at + 16) (omega (arith, c.loop-i-test.true))
-            c.requires.source);
+        room = changed-room _ _ _ _ _ c.args.from (from_at + 16) v.change (room-less l c.args.from (c.args.from_at + 16
+            * c.args.n) (from_at + 16) (omega (arith, c.loop-i-test.true)) c.requires.source);
       };
       room = record {
         heap = laid-heap _ _ v.change.live;
         whole = omega (arith, c.requires.to_whole);
-        room = changed-room _ _ _ _ _ c.args.to (to_at + 16) v.change
-            (room-less l c.args.to (c.args.to_at + 16 * c.args.n) (to_at + 16) (omega (arith, c.loop-i-test.true))
-            c.requires.target);
+        room = changed-room _ _ _ _ _ c.args.to (to_at + 16) v.change (room-less l c.args.to (c.args.to_at + 16
+            * c.args.n) (to_at + 16) (omega (arith, c.loop-i-test.true)) c.requires.target);
         target = subst (λ k. IfSome (link_at (bytes_of c.loop-i.heap.bytes) k) (λ target. target % 16 ≡ 0)) at
             (even-now a c.args.n i c.requires.even c.loop-i-test.true
             (source-stays a i c.args.n v.change c.requires.apart c.loop-i-test.true));

@@ -12,19 +12,16 @@ carry_element-requires c =
     record {
       element = record {
         whole = omega (arith, c.requires.whole);
-        room = changed-room _ _ _ _ _ c.args.array (place + 16) v.change
-            (room-less l c.args.array (c.args.at + 16 * c.args.n + 16) (place + 16)
-            (omega (arith, is)) c.requires.room);
+        room = changed-room _ _ _ _ _ c.args.array (place + 16) v.change (room-less l c.args.array (c.args.at + 16
+            * c.args.n + 16) (place + 16) (omega (arith, is)) c.requires.room);
       };
       room = record {
         heap = laid-heap _ _ v.change.live;
         whole = omega (arith, c.requires.whole);
-        room = changed-room _ _ _ _ _ c.args.array (place + 16 + 16) v.change
-            (room-less l c.args.array (c.args.at + 16 * c.args.n + 16) (place + 16 + 16) (omega (arith, is))
-            c.requires.room);
+        room = changed-room _ _ _ _ _ c.args.array (place + 16 + 16) v.change (room-less l c.args.array (c.args.at + 16
+            * c.args.n + 16) (place + 16 + 16) (omega (arith, is)) c.requires.room);
         target = subst (λ w. IfSome (link_at (bytes_of c.loop-i.heap.bytes) w) (λ target. target % 16 ≡ 0)) at
-            (even-now a c.args.n k c.requires.even (omega (arith, is))
-            (up-source a k c.loop-i.i c.args.n is v.change));
+            (even-now a c.args.n k c.requires.even (omega (arith, is)) (up-source a k c.loop-i.i c.args.n is v.change));
       };
     }
 

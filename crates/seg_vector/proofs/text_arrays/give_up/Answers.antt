@@ -14,9 +14,8 @@ pub shrink_in_place-requires : goal.shrink_in_place-requires
 shrink_in_place-requires c = asked-live c.requires.n c.requires.texts c.requires.asked
 
 pub returns-then-old-array : goal.returns-then-old-array
-returns-then-old-array c first ps t n s a e =
-    undone-same s a (asked-link n s a ∙ sym c.link_of.ensures ∙ c.in-Some.is ∙ ap (λ k. Some k) c.if-old-array.true) e
-    c.shrink_in_place.ensures.shortened
+returns-then-old-array c first ps t n s a e = undone-same s a (asked-link n s a ∙ sym c.link_of.ensures ∙ c.in-Some.is
+    ∙ ap (λ k. Some k) c.if-old-array.true) e c.shrink_in_place.ensures.shortened
 
 pub returns : goal.returns
 returns c first ps t n s a e = elim c.match-link_of.branch [

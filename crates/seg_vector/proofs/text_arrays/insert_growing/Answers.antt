@@ -50,8 +50,7 @@ put_in-requires c =
 pub returns-in_err-array : goal.returns-in_err-array
 returns-in_err-array c ps t s inside full wanted =
     let p = err_from_is_err_and c.from_residual.result c.from_residual.ensures.1 in
-    rw (p.1, p.2)
-    (growing-none c.args.n c.args.text.now s (more-places c.args.heap.now c.args.n s full wanted).0 wanted
+    rw (p.1, p.2) (growing-none c.args.n c.args.text.now s (more-places c.args.heap.now c.args.n s full wanted).0 wanted
     (c.in_err-array.ensures ps t s))
 
 pub returns-in-Err : goal.returns-in-Err

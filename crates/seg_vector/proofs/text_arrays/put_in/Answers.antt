@@ -52,8 +52,7 @@ set_word-requires c = changed-room _ _ _ _ 16 c.args.place.handle (c.args.place.
     (len-room c.args.heap.now.bytes c.args.place (head-room (put-run c.requires.ready).head)))
 
 pub returns-in-Some : goal.returns-in-Some
-returns-in-Some c first ps t y m z r inside at len =
-    put-by c.args.index c.len_of-len.result c.args.text_len c.args.text r inside at len
-    (sym c.link_of.ensures ∙ c.in-Some.is) c.len_of-len.ensures c.carry_up.ensures.change c.carry_up.ensures.carried
-    c.put_element.ensures.change c.put_element.ensures.link c.put_element.ensures.len_word
+returns-in-Some c first ps t y m z r inside at len = put-by c.args.index c.len_of-len.result c.args.text_len c.args.text
+    r inside at len (sym c.link_of.ensures ∙ c.in-Some.is) c.len_of-len.ensures c.carry_up.ensures.change
+    c.carry_up.ensures.carried c.put_element.ensures.change c.put_element.ensures.link c.put_element.ensures.len_word
     c.set_word.ensures.change c.set_word.ensures.word

@@ -17,8 +17,7 @@ pub put_value-requires-clause-spot : goal.put_value-requires-clause-spot
 put_value-requires-clause-spot g c =
     let w = c.loop-value.invariant c.requires.0 c.requires.1.0 c.requires.1.1.0 c.requires.1.1.1 in
     let front = take c.loop-value.value-index c.args.values.now in
-    let few : length (c.requires.0 ++ front) < c.requires.1.0.capacity =
-    omega (
+    let few : length (c.requires.0 ++ front) < c.requires.1.0.capacity = omega (
       arith,
       length-append c.requires.0 front,
       length-take c.loop-value.value-index c.args.values.now,
@@ -37,9 +36,8 @@ loop-value-preserved g c xs t v f =
     let whole : (xs ++ front) ++ y ∷ [] ≡ xs ++ take (i + 1) c.args.values.now = append_assoc xs front (y ∷ [])
     ∙ ap (λ zs. xs ++ zs) (sym next ∙ ap (λ k. take k c.args.values.now) count) in
     subst (λ zs. IsVectorNow g.T.Plain.SIZE g.T.Plain.is_value g.T.Plain.spelling c.args.heap.now c.put_value.new.heap
-    c.args.place t zs t) whole (now-then v w
-    (appended-now c.loop-value.heap c.put_value.new.heap refl w.vector y c.put_value.ensures.value
-    c.put_value.ensures.put))
+    c.args.place t zs t) whole (now-then v w (appended-now c.loop-value.heap c.put_value.new.heap refl w.vector y
+    c.put_value.ensures.value c.put_value.ensures.put))
 
 pub returns : goal.returns
 returns g c xs t v f =

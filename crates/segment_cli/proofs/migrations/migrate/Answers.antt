@@ -12,9 +12,8 @@ returns-in_err-segment-clause-migrates g c =
     (not_written (g.W.Sink.history c.args.image_out.now)))
 
 pub returns-in-Ok-clause-migrates : goal.returns-in-Ok-clause-migrates
-returns-in-Ok-clause-migrates g c =
-    migrated _ _ _ _ _ c.in_ok-segment.segment c.in_ok-segment.ensures.opens c.save.ensures.accepted
-    (added _ _ _ c.in-Ok.ensures.writes.ok)
+returns-in-Ok-clause-migrates g c = migrated _ _ _ _ _ c.in_ok-segment.segment c.in_ok-segment.ensures.opens
+    c.save.ensures.accepted (added _ _ _ c.in-Ok.ensures.writes.ok)
     (none_failed _ _ (let counted = c.in-Ok.ensures.writes.counted in omega arith))
 
 pub returns-clause-migrates : goal.returns-clause-migrates

@@ -7,10 +7,7 @@ pub returns-in_err-save-clause-err : goal.returns-in_err-save-clause-err
 returns-in_err-save-clause-err g c =
     let p = err_from_is_err_and c.from_residual.result c.from_residual.ensures.1 in
     let writes : c.mode.result ≡ Write = search rules in
-    rw p.1 (
-      sym c.mode.ensures ∙ writes,
-      front_added _ _ _ c.in_err-save.ensures.writes.err,
-    )
+    rw p.1 (sym c.mode.ensures ∙ writes, front_added _ _ _ c.in_err-save.ensures.writes.err)
 
 pub returns-in_ok-save-clause-ok : goal.returns-in_ok-save-clause-ok
 returns-in_ok-save-clause-ok g c d stands =

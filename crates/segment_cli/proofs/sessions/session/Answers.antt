@@ -16,9 +16,8 @@ pub returns-in_err-ran-clause-session : goal.returns-in_err-ran-clause-session
 returns-in_err-ran-clause-session g c =
     let p = err_from_is_err_and c.from_residual-in_err-ran.result c.from_residual-in_err-ran.ensures.1 in
     rw (p.1, p.2) (stopped_session _ _ _ _ _ c.in_ok-segment.segment c.run-ran.new.machine c.in_err-ran.field-0.0
-    c.in_ok-segment.ensures.starts
-    (stopped_by c.in_ok-segment.segment c.run-ran.new.machine _ _ _ c.run-ran.ensures.leaves _ c.in_err-ran.was)
-    (not_written (g.W.Sink.history c.args.image_out.now)))
+    c.in_ok-segment.ensures.starts (stopped_by c.in_ok-segment.segment c.run-ran.new.machine _ _ _
+    c.run-ran.ensures.leaves _ c.in_err-ran.was) (not_written (g.W.Sink.history c.args.image_out.now)))
 
 pub returns-in_err-ran-clause-out_grows : goal.returns-in_err-ran-clause-out_grows
 returns-in_err-ran-clause-out_grows g c =
@@ -27,11 +26,10 @@ returns-in_err-ran-clause-out_grows g c =
     (at_first c.args.mode begun.from c.in_ok-segment.segment begun.mode begun.stands)
 
 pub returns-in-Ok-clause-session : goal.returns-in-Ok-clause-session
-returns-in-Ok-clause-session g c =
-    done_session _ _ _ _ _ c.in_ok-segment.segment c.run-ran.new.machine tt c.in_ok-segment.ensures.starts
-    (whole_by c.in_ok-segment.segment c.run-ran.new.machine _ _ _ c.run-ran.ensures.leaves _ c.in_ok-ran.was)
-    c.in-Ok.ensures.ok (λ writes. added _ _ _ (c.in-Ok.ensures.bytes writes))
-    (none_failed _ _ (omega (arith, c.in-Ok.ensures.counted)))
+returns-in-Ok-clause-session g c = done_session _ _ _ _ _ c.in_ok-segment.segment c.run-ran.new.machine tt
+    c.in_ok-segment.ensures.starts (whole_by c.in_ok-segment.segment c.run-ran.new.machine _ _ _
+    c.run-ran.ensures.leaves _ c.in_ok-ran.was) c.in-Ok.ensures.ok (λ writes. added _ _ _ (c.in-Ok.ensures.bytes
+    writes)) (none_failed _ _ (omega (arith, c.in-Ok.ensures.counted)))
 
 pub returns-in-Ok-clause-out_grows : goal.returns-in-Ok-clause-out_grows
 returns-in-Ok-clause-out_grows g c =

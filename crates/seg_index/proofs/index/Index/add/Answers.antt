@@ -76,8 +76,7 @@ given c i =
 -- all that is written in it
 all : (c : After-spread-in-Some) → IsChanged current c.args.heap.now c.spread-in-Some.new.heap (c.in-Some.block + 0)
     (8 * c.len-count.result + 8)
-all c =
-    written_both c.in-Some.block c.shift_non_null_links.ensures.change c.spread-in-Some.ensures.change (omega arith)
+all c = written_both c.in-Some.block c.shift_non_null_links.ensures.change c.spread-in-Some.ensures.change (omega arith)
 
 pub shift_non_null_links-requires : goal.shift_non_null_links-requires
 shift_non_null_links-requires c =

@@ -4,9 +4,8 @@ use Rattle.seg_index.proofs.{shrunk_empty, shrunk_short}
 use Rattle.seg_index.proofs.index.Index.shrink.Goals as goal
 
 pub returns-in_default-clause-shrunk : goal.returns-in_default-clause-shrunk
-returns-in_default-clause-shrunk c = λ t hs i.
-    shrunk_bare i (leads_from c.args.heap.now c.place-place.ensures c.header_link.ensures c.in_default.is)
-    (in_header c.args.self)
+returns-in_default-clause-shrunk c = λ t hs i. shrunk_bare i
+    (leads_from c.args.heap.now c.place-place.ensures c.header_link.ensures c.in_default.is) (in_header c.args.self)
 
 pub returns-then-count-eq0-clause-shrunk : goal.returns-then-count-eq0-clause-shrunk
 returns-then-count-eq0-clause-shrunk c = λ t hs i.

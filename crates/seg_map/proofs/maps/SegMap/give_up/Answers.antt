@@ -1,11 +1,10 @@
 -- The node leaves the tree, the three words say so, and its block is given back.
 use Rattle.seg_map.proofs.{refl, ap, ℕ, ◌+◌, ◌-◌, ◌*◌, ◌≤◌, None, arith, laws, can_unlink, erased, few_steps, gone_live}
 use Rattle.seg_map.proofs.{kept_proper, kept_room, lent_tree, live_laid, own_nodes, relinked, removed_length, taken}
-use Rattle.seg_map.proofs.{rules, top_whole, Relinked}
+use Rattle.seg_map.proofs.{rules, top_whole, Relinked, maps.SegMap.give_up.Goals.After-add}
 use Rattle.link_tree.specs.Nodes.{without}
 use Rattle.best_fit.specs.Heap.{heap_touches}
 use Rattle.seg_map.proofs.maps.SegMap.give_up.Goals as goal
-use Rattle.seg_map.proofs.maps.SegMap.give_up.Goals.{After-add}
 
 fewer : (n b : ℕ) → n ≤ 30 * b + 32 → n ≤ 32 * b + 32
 fewer n b h = omega arith
@@ -44,8 +43,7 @@ deallocate-requires g c =
     (live_laid (cut g (goal.at.deallocate-requires g c).After-add) c.write_head.ensures)
 
 pub returns-clause-dropped : goal.returns-clause-dropped
-returns-clause-dropped g c = λ ps key p s has is.
-    erased (laws g.met.K.Plain) (laws g.met.V.Plain) s key has is
+returns-clause-dropped g c = λ ps key p s has is. erased (laws g.met.K.Plain) (laws g.met.V.Plain) s key has is
     (taken (laws g.met.K.Plain) c.args.heap.now s c.link-root.ensures key has is
     (cut g (goal.at.returns-clause-dropped g c).After-add)
     (laws g.met.V.Plain) (omega (arith, c.len-count.ensures ps s, removed_length g.K.Plain.order ps key p has))

@@ -5,8 +5,7 @@ use Rattle.seg_map.proofs.maps.SegMap.put.Goals as goal
 
 pub write_value-requires : goal.write_value-requires
 write_value-requires g c =
-    let s = c.requires.1 in
-    let k = key_at_node c.find_in-trace.ensures.found s c.in-Some.is in
+    let s = c.requires.1 in let k = key_at_node c.find_in-trace.ensures.found s c.in-Some.is in
     rw (← k.at, c.SIZE.ensures) (value_room c.args.heap.now s c.args.key k.holds)
 
 pub returns-in-Some-clause-put : goal.returns-in-Some-clause-put

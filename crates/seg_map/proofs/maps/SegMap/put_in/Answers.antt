@@ -1,11 +1,10 @@
 -- The node enters the tree, and the three words say so.
-use Rattle.seg_map.proofs.Entering.{few_in_map}
 use Rattle.seg_map.proofs.{sym, ap, ◌∙◌, ◌+◌, ◌-◌, Some, arith, bits, laws, can_link, few_steps, fewer, kept_proper}
 use Rattle.seg_map.proofs.{kept_room, own_nodes, planted, planted_tree, relinked, rules, top_whole, Relinked}
+use Rattle.seg_map.proofs.{Entering.few_in_map, maps.SegMap.put_in.Goals.After-add}
 use Rattle.link_tree.specs.Nodes.{put}
 use Rattle.seg_map.specs.{Linking.keys_in, PairNodes.comes_before}
 use Rattle.seg_map.proofs.maps.SegMap.put_in.Goals as goal
-use Rattle.seg_map.proofs.maps.SegMap.put_in.Goals.{After-add}
 
 pub insert_at-changed-requires : goal.insert_at-changed-requires
 insert_at-changed-requires g c =
@@ -43,9 +42,8 @@ write_head-requires g c =
     }
 
 pub returns-clause-planted : goal.returns-clause-planted
-returns-clause-planted g c = λ ps p s loose is.
-    planted (laws g.met.K.Plain) c.args.heap.now s c.link-root.ensures loose is
-    (entered g (goal.at.returns-clause-planted g c).After-add) (laws g.met.V.Plain)
+returns-clause-planted g c = λ ps p s loose is. planted (laws g.met.K.Plain) c.args.heap.now s c.link-root.ensures loose
+    is (entered g (goal.at.returns-clause-planted g c).After-add) (laws g.met.V.Plain)
     (omega (arith, c.len-count.ensures ps s)) c.write_head.ensures
 
 pub returns-clause-steps : goal.returns-clause-steps

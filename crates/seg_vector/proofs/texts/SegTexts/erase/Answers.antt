@@ -41,9 +41,8 @@ carry_down-requires c =
     }
 
 pub set_word-requires : goal.set_word-requires
-set_word-requires c =
-    changed-room _ _ _ _ _ c.args.self.place.handle (c.args.self.place.at + 8 + 8) c.carry_down.ensures.change
-    (len-room c.release_text.new.heap.bytes c.args.self.place
+set_word-requires c = changed-room _ _ _ _ _ c.args.self.place.handle (c.args.self.place.at + 8 + 8)
+    c.carry_down.ensures.change (len-room c.release_text.new.heap.bytes c.args.self.place
     (head-room (left-at (goal.at.set_word-requires c).After-release_text).1))
 
 pub returns-in-Some : goal.returns-in-Some

@@ -28,8 +28,7 @@ pub word-len-requires : goal.word-len-requires
 word-len-requires c = room (goal.at.word-len-requires c).In-Some _ (omega arith)
 
 pub block-requires : goal.block-requires
-block-requires c =
-    block-live (text-block (there (goal.at.block-requires c).In-Some c.requires.1.1).1.1
+block-requires c = block-live (text-block (there (goal.at.block-requires c).In-Some c.requires.1.1).1.1
     (sym c.link.ensures ∙ c.in-Some-link.is))
 
 long : (c : After-word-len) {q : OwnedText}

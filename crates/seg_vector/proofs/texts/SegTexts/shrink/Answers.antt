@@ -9,8 +9,7 @@ fit-requires-clause-stands c = (
     c.requires.1.0,
     (
       raw (bytes_of c.args.heap.now.bytes) (length c.requires.0) c.requires.1.0.extent,
-      texts-stand
-          c.requires.1.1,
+      texts-stand c.requires.1.1,
     ),
   ),
 )

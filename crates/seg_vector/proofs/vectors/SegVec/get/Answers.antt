@@ -27,6 +27,5 @@ returns g c xs t v =
     let some = has-element xs c.args.index inside in
     let is = element-spells c.args.heap.now c.args.heap.now c.SIZE.ensures v c.args.index c.element.result.now
     g.met.T.Plain.spells some.1 c.element.ensures in
-    some.1 ∙ ap (λ x. Some x)
-    (g.met.T.Plain.differs some.0 c.in-Some.value (all-at g.T.Plain.is_value xs c.args.index v.values some.1)
-    c.in-Some.ensures.0 (sym is ∙ sym c.in-Some.ensures.1))
+    some.1 ∙ ap (λ x. Some x) (g.met.T.Plain.differs some.0 c.in-Some.value (all-at g.T.Plain.is_value xs c.args.index
+    v.values some.1) c.in-Some.ensures.0 (sym is ∙ sym c.in-Some.ensures.1))

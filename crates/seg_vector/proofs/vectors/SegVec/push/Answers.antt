@@ -8,8 +8,7 @@ put_value-requires g c =
     record {
       stands = stands-for-one A B c.SIZE.ensures c.requires.1.1
           (λ n u bytes s. c.in_ok-grow_for_one.ensures n u bytes s);
-      spot = space-for-one A B c.SIZE.ensures c.requires.1.1
-          (λ n u bytes s. c.in_ok-grow_for_one.ensures n u bytes s);
+      spot = space-for-one A B c.SIZE.ensures c.requires.1.1 (λ n u bytes s. c.in_ok-grow_for_one.ensures n u bytes s);
     }
 
 pub returns : goal.returns

@@ -11,7 +11,6 @@ give_back-requires c = record {
 }
 
 pub returns-in-Err : goal.returns-in-Err
-returns-in-Err c =
-    request-unmet c.args.heap.now c.prepare.new.heap c.allocate.new.self c.give_back.new.heap
+returns-in-Err c = request-unmet c.args.heap.now c.prepare.new.heap c.allocate.new.self c.give_back.new.heap
     (place_of c.args.index) c.args.len c.in_ok-growth.growth.block c.requires.index.heap
     c.in_ok-growth.ensures.growth c.in-Err.ensures.answer c.give_back.ensures.change c.give_back.ensures.restored

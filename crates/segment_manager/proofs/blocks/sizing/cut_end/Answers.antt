@@ -12,8 +12,7 @@ abbrev after : After-set_header_word → State
 after c = record { cut = c.set_header_word.new.self; mode = c.segment.inside.mode }
 
 cut : (c : After-set_header_word) → Resizes (before c) (after c) (λ d. shrunk d)
-cut c =
-    shrinks refl c.cut_end.ensures.moved c.set_header_word.ensures.change
+cut c = shrinks refl c.cut_end.ensures.moved c.set_header_word.ensures.change
     (c.set_header_word.ensures.word ∙ c.size-size.ensures)
 
 pub invariant_of-segment : goal.invariant_of-segment

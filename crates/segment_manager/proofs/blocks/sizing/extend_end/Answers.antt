@@ -5,10 +5,8 @@ use Rattle.segment_manager.proofs.blocks.sizing.extend_end.Goals as goal
 use Rattle.segment_manager.proofs.blocks.sizing.extend_end.Goals.{After-set_header_word}
 
 pub extend_end-requires-clause-small : goal.extend_end-requires-clause-small
-extend_end-requires-clause-small c =
-    fits-small c.args.extra c.segment.invariant
-    (subst (λ (s : State). (d : Directory) → StandsFor s.cut.bytes d → d.size + c.args.extra ≤ 1073741824)
-    (sym c.segment.view_is) c.requires.small)
+extend_end-requires-clause-small c = fits-small c.args.extra c.segment.invariant (subst (λ (s : State). (d : Directory)
+    → StandsFor s.cut.bytes d → d.size + c.args.extra ≤ 1073741824) (sym c.segment.view_is) c.requires.small)
 
 -- the segment before and after
 abbrev before : After-set_header_word → State
@@ -18,8 +16,7 @@ abbrev after : After-set_header_word → State
 after c = record { cut = c.set_header_word.new.self; mode = c.segment.inside.mode }
 
 longer : (c : After-set_header_word) → Resizes (before c) (after c) (λ d. grown d c.args.extra)
-longer c =
-    grows c.args.extra refl c.extend_end.ensures.moved c.set_header_word.ensures.change
+longer c = grows c.args.extra refl c.extend_end.ensures.moved c.set_header_word.ensures.change
     (c.set_header_word.ensures.word ∙ c.size-size.ensures)
 
 pub invariant_of-segment : goal.invariant_of-segment

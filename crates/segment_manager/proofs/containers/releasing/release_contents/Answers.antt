@@ -10,41 +10,33 @@ pub read_head-head-requires : goal.read_head-head-requires
 read_head-head-requires c = held-object c.args.heap.now.bytes c.args.handle c.requires
 
 pub give_back-requires : goal.give_back-requires
-give_back-requires c =
-    subst (IsStanding c.args.heap.now.bytes _) (sym c.element_len.ensures)
-    (some-elements _ _ _ _ c.requires c.read_head-head.ensures
-    (c.value_at.ensures ∙ ap (λ (n : ℕ). head_len + padded n) c.from.ensures)
+give_back-requires c = subst (IsStanding c.args.heap.now.bytes _) (sym c.element_len.ensures) (some-elements _ _ _ _
+    c.requires c.read_head-head.ensures (c.value_at.ensures ∙ ap (λ (n : ℕ). head_len + padded n) c.from.ensures)
     (has_storage-left _ c.in_default.not-Scalar c.in_default.not-Map) c.in_default.not-Strings)
 
 pub release_pairs-requires : goal.release_pairs-requires
-release_pairs-requires c =
-    some-pairs _ _ _ _ c.requires c.read_head-head.ensures
+release_pairs-requires c = some-pairs _ _ _ _ c.requires c.read_head-head.ensures
     (c.value_at.ensures ∙ ap (λ (n : ℕ). head_len + padded n) c.from.ensures) _ _ _
     (as_map-place _ _ _ _ refl c.map_place.ensures.handle c.map_place.ensures.at) c.in-Map.is
 
 pub release-requires : goal.release-requires
-release-requires c =
-    some-texts _ _ _ _ c.requires c.read_head-head.ensures
+release-requires c = some-texts _ _ _ _ c.requires c.read_head-head.ensures
     (c.value_at.ensures ∙ ap (λ (n : ℕ). head_len + padded n) c.from.ensures) c.in-Strings.is
 
 pub returns-in-Scalar : goal.returns-in-Scalar
 returns-in-Scalar c = number-contents _ _ _ c.read_head-head.ensures _ c.in-Scalar.is
 
 pub returns-in_default : goal.returns-in_default
-returns-in_default c =
-    elements-contents _ _ _ _ _ c.read_head-head.ensures
+returns-in_default c = elements-contents _ _ _ _ _ c.read_head-head.ensures
     (c.value_at.ensures ∙ ap (λ (n : ℕ). head_len + padded n) c.from.ensures)
     (has_storage-left _ c.in_default.not-Scalar c.in_default.not-Map) c.in_default.not-Strings
     (subst (GivesBack c.args.heap.now c.give_back.new.heap _) c.element_len.ensures c.give_back.ensures)
 
 pub returns-in-Strings : goal.returns-in-Strings
-returns-in-Strings c =
-    texts-contents _ _ _ _ _ c.read_head-head.ensures
-    (c.value_at.ensures ∙ ap (λ (n : ℕ). head_len + padded n) c.from.ensures) c.in-Strings.is
-    c.release.ensures
+returns-in-Strings c = texts-contents _ _ _ _ _ c.read_head-head.ensures
+    (c.value_at.ensures ∙ ap (λ (n : ℕ). head_len + padded n) c.from.ensures) c.in-Strings.is c.release.ensures
 
 pub returns-in-Map : goal.returns-in-Map
-returns-in-Map c =
-    pairs-contents _ _ _ _ _ c.read_head-head.ensures
+returns-in-Map c = pairs-contents _ _ _ _ _ c.read_head-head.ensures
     (c.value_at.ensures ∙ ap (λ (n : ℕ). head_len + padded n) c.from.ensures) _ _ _
     (as_map-place _ _ _ _ refl c.map_place.ensures.handle c.map_place.ensures.at) c.in-Map.is c.release_pairs.ensures

@@ -4,7 +4,6 @@ use Rattle.std.proofs.lemmas.List.Folds.{list_all-map}
 use Rattle.segment_manager.proofs.containers.text_lists.judge_all.Goals as goal
 
 pub returns : goal.returns
-returns c =
-    list_all-map are_bytes (λ (text : Bor (List ℕ)). text.now) c.args.texts.now
+returns c = list_all-map are_bytes (λ (text : Bor (List ℕ)). text.now) c.args.texts.now
     ∙ subst (λ texts. IsTrue (list_all (λ (text : Bor (List ℕ)). are_bytes text.now) texts))
     (take_all _ _ c.loop-text-test.false) c.loop-text.invariant

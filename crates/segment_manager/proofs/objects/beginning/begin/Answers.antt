@@ -18,8 +18,7 @@ begin_entered-requires-in-Unique-clause-key c = (
   (
     c.code.ensures,
     refl,
-    subst
-        (λ (k : NewKey). IsOfKind (new_key_seen k) c.args.shape.kind) c.in-Unique.is c.requires.kind,
+    subst (λ (k : NewKey). IsOfKind (new_key_seen k) c.args.shape.kind) c.in-Unique.is c.requires.kind,
   ),
 )
 

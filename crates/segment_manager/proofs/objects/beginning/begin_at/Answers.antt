@@ -5,18 +5,16 @@ use Rattle.segment_manager.proofs.objects.Taking.{meant}
 use Rattle.segment_manager.proofs.objects.beginning.begin_at.Goals as goal
 
 pub returns-in_default : goal.returns-in_default
-returns-in_default c =
-    λ key entry n away.
-    inr (record {
-      index = c.args.index;
-      entry = entry;
-      name = c.args.name.now;
-      is = n;
-      place = c.args.place;
-      absent = away;
-      unmet = subst (λ (m : ℕ). IsUnmet c.args.heap.now c.request.new.heap (place_of c.args.index) m)
-          (ap (λ m. m + c.args.shape.len) c.value_at-at.ensures) c.in_default.ensures;
-    })
+returns-in_default c = λ key entry n away. inr (record {
+  index = c.args.index;
+  entry = entry;
+  name = c.args.name.now;
+  is = n;
+  place = c.args.place;
+  absent = away;
+  unmet = subst (λ (m : ℕ). IsUnmet c.args.heap.now c.request.new.heap (place_of c.args.index) m)
+      (ap (λ m. m + c.args.shape.len) c.value_at-at.ensures) c.in_default.ensures;
+})
 
 pub write_head-requires-clause-room : goal.write_head-requires-clause-room
 write_head-requires-clause-room c =

@@ -13,12 +13,9 @@ give_back-requires c =
     record { held = loose-held l c.deallocate.ensures.released }
 
 pub returns-in-Some : goal.returns-in-Some
-returns-in-Some c =
-    λ old loose.
-    entry-back (subst (IsLoose old c.args.heap.now c.args.handle) c.in-Some.is loose) c.deallocate.ensures.released
-    c.give_back.ensures.change
+returns-in-Some c = λ old loose. entry-back (subst (IsLoose old c.args.heap.now c.args.handle) c.in-Some.is loose)
+    c.deallocate.ensures.released c.give_back.ensures.change
 
 pub returns-in_default : goal.returns-in_default
-returns-in_default c =
-    λ old loose.
+returns-in_default c = λ old loose.
     alone-back (subst (IsLoose old c.args.heap.now c.args.handle) c.in_default.is loose) c.deallocate.ensures.released

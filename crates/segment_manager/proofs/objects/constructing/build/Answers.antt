@@ -6,24 +6,21 @@ use Rattle.segment_manager.proofs.objects.constructing.build.Goals as goal
 
 pub fill-filled-requires-clause-heap : goal.fill-filled-requires-clause-heap
 fill-filled-requires-clause-heap g c =
-    let b = c.args.begun in
-    let q = c.requires.begun in
+    let b = c.args.begun in let q = c.requires.begun in
     let content = g.F.Filling.content c.args.filling.now in
     begun-heap b.entry q.0 c.args.heap.now q.1.1.0 (kind_of (bare content)) (count_of (bare content))
     (value_len (bare content)) b.handle b.at q.1.1.1
 
 pub fill-filled-requires-clause-room : goal.fill-filled-requires-clause-room
 fill-filled-requires-clause-room g c =
-    let b = c.args.begun in
-    let q = c.requires.begun in
+    let b = c.args.begun in let q = c.requires.begun in
     let content = g.F.Filling.content c.args.filling.now in
     begun-room b.entry q.0 c.args.heap.now q.1.1.0 (kind_of (bare content)) (count_of (bare content))
     (value_len (bare content)) b.handle b.at q.1.1.1
 
 pub end-requires : goal.end-requires
 end-requires g c =
-    let b = c.args.begun in
-    let q = c.requires.begun in
+    let b = c.args.begun in let q = c.requires.begun in
     ending (g.F.Filling.content c.args.filling.now) q.0 c.args.heap.now q.1.0 q.1.1.0 b.handle b.at b.entry
     c.fill-filled.new.heap c.fill-filled.result q.1.1.1 c.fill-filled.ensures
 

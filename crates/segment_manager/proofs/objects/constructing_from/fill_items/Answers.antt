@@ -1,8 +1,7 @@
 -- Each turn takes one item more and writes it behind those before it.
 use Rattle.segment_manager.proofs.Common.{◌≡◌, sym, ap, subst, ◌+◌, ◌*◌, ◌<◌, IsTrue, Fits, w64, arith, has_room}
-use Rattle.segment_manager.proofs.Common.{live_of, size_of}
-use Rattle.segment_manager.proofs.{objects.Filling.filling-more, objects.Filling.last-holds, objects.Pieces.next-small}
-use Rattle.segment_manager.proofs.{objects.Pieces.room-once_more}
+use Rattle.segment_manager.proofs.{Common.live_of, Common.size_of, objects.Filling.filling-more}
+use Rattle.segment_manager.proofs.{objects.Filling.last-holds, objects.Pieces.next-small, objects.Pieces.room-once_more}
 use Rattle.segment_manager.proofs.objects.constructing_from.fill_items.Goals as goal
 
 pub overflow_add-at : goal.overflow_add-at
@@ -15,15 +14,12 @@ overflow_add-at g c =
 pub write_item-requires-clause-room : goal.write_item-requires-clause-room
 write_item-requires-clause-room g c =
     let below : c.loop-i.i < c.args.count = omega arith in
-    subst (λ n. IsTrue (has_room (live_of c.loop-i.heap.bytes) c.args.handle
-    (c.args.at + n * c.loop-i.i + size_of c.args.kind))) (sym c.size-size.ensures)
-    (room-once_more c.args.handle c.args.at
-    (size_of c.args.kind) c.loop-i.i c.args.count below c.requires.room c.loop-i.invariant.change)
+    subst (λ n. IsTrue (has_room (live_of c.loop-i.heap.bytes) c.args.handle (c.args.at + n * c.loop-i.i + size_of
+    c.args.kind))) (sym c.size-size.ensures) (room-once_more c.args.handle c.args.at (size_of c.args.kind)
+    c.loop-i.i c.args.count below c.requires.room c.loop-i.invariant.change)
 
 pub write_item-requires-clause-of_kind : goal.write_item-requires-clause-of_kind
-write_item-requires-clause-of_kind g c =
-    λ item after step.
-    last-holds g.I.Iterator.next_gives
+write_item-requires-clause-of_kind g c = λ item after step. last-holds g.I.Iterator.next_gives
     (λ item. g.S.Spelling.kind item ≡ c.args.kind) c.args.items.now c.loop-i.items after c.loop-i.invariant.items item
     c.requires.of_kind c.loop-i.invariant.ran step
 

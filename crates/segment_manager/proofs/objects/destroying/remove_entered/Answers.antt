@@ -23,7 +23,6 @@ deallocate-requires c =
     block-still c.at-handle.ensures c.release_contents.ensures c.requires c.remove.new.heap c.remove.ensures.live
 
 pub returns : goal.returns
-returns c =
-    removes-entry c.at-handle.ensures c.release_contents.ensures
+returns c = removes-entry c.at-handle.ensures c.release_contents.ensures
     (record { removes = c.remove.ensures.index; live = c.remove.ensures.live; keeps = c.remove.ensures.keeps })
     c.deallocate.ensures.released

@@ -1,6 +1,5 @@
 -- The entry of the index is that of the directory.
-use Rattle.segment_manager.proofs.objects.KeyCalls.{at-answers, segment-index}
-use Rattle.segment_manager.proofs.Common.{Named}
+use Rattle.segment_manager.proofs.{objects.KeyCalls.at-answers, objects.KeyCalls.segment-index, Common.Named}
 use Rattle.segment_manager.proofs.objects.finding.named_at.Goals as goal
 
 pub at-requires-clause-index : goal.at-requires-clause-index

@@ -1,6 +1,5 @@
 -- The entry of the index is that of the directory.
-use Rattle.segment_manager.proofs.objects.KeyCalls.{at-answers, segment-index}
-use Rattle.segment_manager.proofs.Common.{Unique}
+use Rattle.segment_manager.proofs.{objects.KeyCalls.at-answers, objects.KeyCalls.segment-index, Common.Unique}
 use Rattle.segment_manager.proofs.objects.finding.unique_at.Goals as goal
 
 pub at-requires-clause-index : goal.at-requires-clause-index

@@ -1,13 +1,11 @@
 -- An object is found under the entry, or made with one, or a block is refused.
-use Rattle.segment_manager.proofs.Common.{exit-is, ◌≡◌, sym, subst, Ok, Err, Write, Object, kind_of, Constructs}
-use Rattle.segment_manager.proofs.Common.{FindsOrConstructs, with_count, pair_answer, IsNewKeyOf, bare, StandsAt}
-use Rattle.segment_manager.proofs.Common.{pair_of_kind, State}
+use Rattle.segment_manager.proofs as own
+use own.Common.{exit-is, ◌≡◌, sym, subst, Ok, Err, Write, Object, kind_of, Constructs, FindsOrConstructs, with_count}
+use own.Common.{pair_answer, IsNewKeyOf, bare, StandsAt, pair_of_kind, State}
+use own.objects.FilledCalls.{begun-for, found-absent, found-all, found-built, found-not_begun, no-object}
+use own.{objects.Here.has-object, objects.NewKeys.key-seeks, objects.NewKeys.key-short, objects.KeyCalls.place-below}
+use own.{indexes.HeldIndexes.denotes-keys, objects.KeyCalls.found-answers, objects.KeyCalls.segment-index}
 use Rattle.seg_types.specs.Commands as asked
-use Rattle.segment_manager.proofs.objects.FilledCalls.{begun-for, found-absent, found-all, found-built, found-not_begun}
-use Rattle.segment_manager.proofs.objects.FilledCalls.{no-object}
-use Rattle.segment_manager.proofs.{objects.Here.has-object, indexes.HeldIndexes.denotes-keys, objects.NewKeys.key-seeks}
-use Rattle.segment_manager.proofs.{objects.NewKeys.key-short}
-use Rattle.segment_manager.proofs.objects.KeyCalls.{found-answers, place-below, segment-index}
 use Rattle.segment_manager.proofs.objects.finding_or_constructing.find_or_construct_entered.Goals as goal
 
 pub lookup-requires : goal.lookup-requires
@@ -22,16 +20,13 @@ at-requires-clause-below g c =
 
 pub found_of-requires : goal.found_of-requires
 found_of-requires g c =
-    let s : State = record { cut = c.args.heap.now; mode = Write } in
-    let key = c.requires.key in
-    has-object key.0 c.requires.segment
-    (found-answers s c.args.index c.args.entry c.in-Found.place c.in-Found.ensures.place c.at.ensures key.0
-    (key-seeks c.args.index c.args.entry key.0 c.args.name.now
+    let s : State = record { cut = c.args.heap.now; mode = Write } in let key = c.requires.key in
+    has-object key.0 c.requires.segment (found-answers s c.args.index c.args.entry c.in-Found.place
+    c.in-Found.ensures.place c.at.ensures key.0 (key-seeks c.args.index c.args.entry key.0 c.args.name.now
     (kind_of (bare (g.F.Filling.content c.args.filling.now))) key.1))
 
 pub returns-in-Found : goal.returns-in-Found
-returns-in-Found g c =
-    λ key n.
+returns-in-Found g c = λ key n.
     let content = g.F.Filling.content c.args.filling.now in
     found-all c.requires.segment key content (λ mode.
     let s : State = record { cut = c.args.heap.now; mode = mode } in
@@ -44,31 +39,23 @@ pub begin_at-requires-clause-index : goal.begin_at-requires-clause-index
 begin_at-requires-clause-index g c = segment-index c.args.index c.requires.segment
 
 pub begin_at-requires-clause-short : goal.begin_at-requires-clause-short
-begin_at-requires-clause-short g c =
-    key-short c.args.index c.args.entry c.requires.key.0 c.args.name.now
+begin_at-requires-clause-short g c = key-short c.args.index c.args.entry c.requires.key.0 c.args.name.now
     (kind_of (bare (g.F.Filling.content c.args.filling.now))) c.requires.key.1
 
 pub returns-in_err-begun : goal.returns-in_err-begun
-returns-in_err-begun g c =
-    rw (exit-is c.from_residual.result _ c.from_residual.ensures.1) (λ key n.
-    let content = g.F.Filling.content c.args.filling.now in
-    let is = c.shape-shape.ensures in
+returns-in_err-begun g c = rw (exit-is c.from_residual.result _ c.from_residual.ensures.1) (λ key n.
+    let content = g.F.Filling.content c.args.filling.now in let is = c.shape-shape.ensures in
     let away = c.in-Absent.ensures.place in
     found-absent c.args.index c.args.entry c.in-Absent.place c.args.name.now (kind_of (bare content)) n away
-    (found-not_begun c.requires.segment key content c.in_err-begun.field-0.0
-    (no-object c.requires.segment c.args.index c.args.entry c.in-Absent.place key c.args.name.now
-    (kind_of (bare content)) n away)
-    (begun-for c.args.heap.now c.begin_at.new.heap key (Err c.in_err-begun.field-0.0) is
-    (c.in_err-begun.ensures key c.args.entry
-    (subst (IsNewKeyOf c.args.index c.args.entry key c.args.name.now) (sym is.kind) n) away))))
+    (found-not_begun c.requires.segment key content c.in_err-begun.field-0.0 (no-object c.requires.segment
+    c.args.index c.args.entry c.in-Absent.place key c.args.name.now (kind_of (bare content)) n away)
+    (begun-for c.args.heap.now c.begin_at.new.heap key (Err c.in_err-begun.field-0.0) is (c.in_err-begun.ensures key
+    c.args.entry (subst (IsNewKeyOf c.args.index c.args.entry key c.args.name.now) (sym is.kind) n) away))))
 
 pub returns : goal.returns
-returns g c =
-    λ key n.
-    let content = g.F.Filling.content c.args.filling.now in
-    let is = c.shape-shape.ensures in
-    let away = c.in-Absent.ensures.place in
-    let b = c.in_ok-begun.begun in
+returns g c = λ key n.
+    let content = g.F.Filling.content c.args.filling.now in let is = c.shape-shape.ensures in
+    let away = c.in-Absent.ensures.place in let b = c.in_ok-begun.begun in
     subst (FindsOrConstructs c.args.heap.now c.build.new.heap key content) (sym c.counted.ensures)
     (found-absent c.args.index c.args.entry c.in-Absent.place c.args.name.now (kind_of (bare content)) n away
     (subst (λ m. Constructs c.args.heap.now c.build.new.heap (asked.FindOrConstruct key content) pair_answer

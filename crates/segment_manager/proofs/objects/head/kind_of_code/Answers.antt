@@ -5,6 +5,5 @@ use Rattle.segment_manager.proofs.Codes.{code-read}
 use Rattle.segment_manager.proofs.objects.head.kind_of_code.Goals as goal
 
 pub returns : goal.returns
-returns c =
-    λ k e. c.unwrap_or.ensures
+returns c = λ k e. c.unwrap_or.ensures
     ∙ ap (λ (o : Option Kind). unwrap_or o String) (c.from_code.ensures ∙ ap kind_of_code e ∙ code-read k)

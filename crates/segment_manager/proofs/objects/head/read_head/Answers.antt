@@ -11,8 +11,7 @@ word-second-requires c = standing-room c.args.heap.now.bytes c.args.handle 16 c.
 
 pub returns : goal.returns
 returns c = λ o s.
-    let w = head-words s in
-    let at : c.args.handle + 0 ≡ c.args.handle = omega arith in
+    let w = head-words s in let at : c.args.handle + 0 ≡ c.args.handle = omega arith in
     let first = c.word-first.ensures ∙ ap (word_at (bytes_of c.args.heap.now.bytes)) at in
     record {
       kind = c.kind_of_code.ensures (kind_of o.value) (ap (λ (x : ℕ). x % 4294967296) first ∙ w.code);

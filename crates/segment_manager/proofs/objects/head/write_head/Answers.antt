@@ -1,29 +1,24 @@
 -- Two words and the name, one after another.
 use Rattle.segment_manager.proofs.Common.{◌+◌, ◌∙◌, ap, arith, length, current, live_of, changed-room, padded}
-use Rattle.segment_manager.proofs.Common.{two_halves}
+use Rattle.segment_manager.proofs.{Common.two_halves, objects.Pieces.head-written}
 use Rattle.best_fit.proofs.Laws.{room-less}
-use Rattle.segment_manager.proofs.objects.Pieces.{head-written}
 use Rattle.segment_manager.proofs.objects.head.write_head.Goals as goal
 
 pub set_word-requires : goal.set_word-requires
-set_word-requires c =
-    room-less (live_of c.args.heap.now.bytes) c.args.handle (16 + padded (length c.args.name.now)) 8
+set_word-requires c = room-less (live_of c.args.heap.now.bytes) c.args.handle (16 + padded (length c.args.name.now)) 8
     (omega arith) c.requires.room
 
 pub set_word-requires-2 : goal.set_word-requires-2
-set_word-requires-2 c =
-    changed-room current c.args.heap.now c.set_word.new.self
-    (c.args.handle + 0) 8 c.args.handle 16 c.set_word.ensures.change
-    (room-less (live_of c.args.heap.now.bytes) c.args.handle (16 + padded (length c.args.name.now)) 16
-    (omega arith) c.requires.room)
+set_word-requires-2 c = changed-room current c.args.heap.now c.set_word.new.self (c.args.handle + 0) 8 c.args.handle 16
+    c.set_word.ensures.change (room-less (live_of c.args.heap.now.bytes) c.args.handle
+    (16 + padded (length c.args.name.now)) 16 (omega arith) c.requires.room)
 
 pub write_name-requires-clause-room : goal.write_name-requires-clause-room
 write_name-requires-clause-room c =
     let n = 16 + padded (length c.args.name.now) in
-    changed-room current c.set_word.new.self c.set_word-2.new.self
-    (c.args.handle + 8) 8 c.args.handle n c.set_word-2.ensures.change
-    (changed-room current c.args.heap.now c.set_word.new.self
-    (c.args.handle + 0) 8 c.args.handle n c.set_word.ensures.change c.requires.room)
+    changed-room current c.set_word.new.self c.set_word-2.new.self (c.args.handle + 8) 8 c.args.handle n
+    c.set_word-2.ensures.change (changed-room current c.args.heap.now c.set_word.new.self (c.args.handle + 0) 8
+    c.args.handle n c.set_word.ensures.change c.requires.room)
 
 pub returns : goal.returns
 returns c =

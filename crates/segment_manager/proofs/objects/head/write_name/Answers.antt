@@ -6,16 +6,14 @@ use Rattle.segment_manager.proofs.objects.Pieces.{name-written, zeros-taken}
 use Rattle.segment_manager.proofs.objects.head.write_name.Goals as goal
 
 pub write-requires : goal.write-requires
-write-requires c =
-    room-less (live_of c.args.heap.now.bytes) c.args.handle (16 + padded (length c.args.name.now))
+write-requires c = room-less (live_of c.args.heap.now.bytes) c.args.handle (16 + padded (length c.args.name.now))
     (16 + length c.args.name.now) (omega arith) c.requires.room
 
 pub write-requires-2 : goal.write-requires-2
 write-requires-2 c =
     let n = length c.args.name.now in
-    let long : length (take {A = ℕ} (c.padded.result - n) (replicate 8 0)) ≡ padded n - n =
-    ap (λ (l : List ℕ). length l) (zeros-taken n (ap (λ (k : ℕ). k - n) c.padded.ensures))
-    ∙ length-replicate (padded n - n) 0 in
+    let long : length (take {A = ℕ} (c.padded.result - n) (replicate 8 0)) ≡ padded n - n = ap (λ (l : List ℕ). length
+    l) (zeros-taken n (ap (λ (k : ℕ). k - n) c.padded.ensures)) ∙ length-replicate (padded n - n) 0 in
     let sum : 16 + padded n ≡ 16 + n + length (take {A = ℕ} (c.padded.result - n) (replicate 8 0)) = omega arith in
     let room = changed-room current c.args.heap.now c.write.new.self (c.args.handle + 16) n c.args.handle
     (16 + padded n) c.write.ensures.change c.requires.room in

@@ -4,16 +4,14 @@ use Rattle.segment_manager.proofs.{blocks.OwnWalks.own-past}
 use Rattle.segment_manager.proofs.objects.walking_objects.next_own.Goals as goal
 
 pub returns-then-is_object : goal.returns-then-is_object
-returns-then-is_object c =
-    own-found c.next.new.self c.spans.invariant.2 c.in-Some.ensures.steps
+returns-then-is_object c = own-found c.next.new.self c.spans.invariant.2 c.in-Some.ensures.steps
     (sym c.is_object.ensures ∙ c.if-is_object.true)
 
 pub spans-preserved : goal.spans-preserved
 spans-preserved c = (
   tt,
   tt,
-  own-past c.next.new.self c.spans.invariant.2 c.in-Some.ensures.steps
-      (sym c.is_object.ensures ∙ c.if-is_object.false),
+  own-past c.next.new.self c.spans.invariant.2 c.in-Some.ensures.steps (sym c.is_object.ensures ∙ c.if-is_object.false),
 )
 
 pub returns : goal.returns

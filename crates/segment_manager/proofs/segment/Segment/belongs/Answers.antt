@@ -4,11 +4,9 @@ use Rattle.segment_manager.proofs.objects.KeyCalls.{dead-answers, role-answers}
 use Rattle.segment_manager.proofs.segment.Segment.belongs.Goals as goal
 
 pub returns-then-is_live : goal.returns-then-is_live
-returns-then-is_live c =
-    subst (λ t. Answers t (λ d. is_object_at d c.args.handle) c.eq.result) c.self.view_is
+returns-then-is_live c = subst (λ t. Answers t (λ d. is_object_at d c.args.handle) c.eq.result) c.self.view_is
     (role-answers c.args.handle c.role.ensures c.eq.ensures)
 
 pub returns-else-is_live : goal.returns-else-is_live
-returns-else-is_live c =
-    subst (λ t. Answers t (λ d. is_object_at d c.args.handle) c.is_live.result) c.self.view_is
+returns-else-is_live c = subst (λ t. Answers t (λ d. is_object_at d c.args.handle) c.is_live.result) c.self.view_is
     (dead-answers c.args.handle c.is_live.ensures c.if-is_live.false)

@@ -1,28 +1,24 @@
 -- The container of the object of the key is changed as its kind says.
-use Rattle.segment_manager.proofs.Common.{exit-is, ◌≡◌, false, refl, subst, sym, ◌∙◌, Answers, ByHandle, Change, Err}
-use Rattle.segment_manager.proofs.Common.{IsStep, Key, Kind, Located, Refusal, Refused, State, StringsKind, command_of}
-use Rattle.segment_manager.proofs.Common.{container_at, ap, done_answer, has_storage, inl, inr, is_read_only}
-use Rattle.segment_manager.proofs.objects.Locating.{enough-by_key, kind-by_key, located-changes}
-use Rattle.segment_manager.proofs.containers.OneLength.{elements-changed, elements-kept, some-elements}
-use Rattle.segment_manager.proofs.{containers.AnyStorage.change-other, containers.AnyStorage.nowhere-steps}
-use Rattle.segment_manager.proofs.{containers.KeptContainers.texts-kept, containers.Refilled.finds-no_container}
-use Rattle.segment_manager.proofs.{containers.Released.has_storage-left, Steps.open-writing, containers.Safely.Answered}
-use Rattle.segment_manager.proofs.{containers.Safely.answered, Steps.refuses-read_only}
-use Rattle.segment_manager.proofs.{containers.StorageSteps.change-changes, containers.StorageSteps.change-nowhere}
-use Rattle.segment_manager.proofs.{containers.TextListCalls.texts-changed, containers.TextListCalls.texts-standing}
-use Rattle.segment_manager.specs.{objects.Located.IsLocated, containers.Stored.ChangesElements}
-use Rattle.segment_manager.specs.{containers.Stored.IsElements, containers.Stored.each_of}
-use Rattle.segment_manager.proofs.segment.Segment.change_storage.Goals.{After-change_elements, After-change_texts}
-use Rattle.segment_manager.proofs.segment.Segment.change_storage.Given.{Over}
+use Rattle.segment_manager.proofs as own
+use own.Common.{exit-is, ◌≡◌, false, refl, subst, sym, ◌∙◌, Answers, ByHandle, Change, Err, IsStep, Key, Kind, Located}
+use own.Common.{Refusal, Refused, State, StringsKind, command_of, container_at, ap, done_answer, has_storage, inl, inr}
+use own.objects.Locating.{enough-by_key, kind-by_key, located-changes}
+use own.containers.OneLength.{elements-changed, elements-kept, some-elements}
+use own.containers.TextListCalls.{texts-changed, texts-standing}
+use own.segment.Segment.change_storage.Goals.{After-change_elements, After-change_texts}
+use own.{Common.is_read_only, containers.AnyStorage.nowhere-steps, Steps.open-writing, Steps.refuses-read_only}
+use own.{containers.AnyStorage.change-other, containers.KeptContainers.texts-kept, containers.Released.has_storage-left}
+use own.{containers.Refilled.finds-no_container, containers.Safely.Answered, segment.Segment.change_storage.Given.Over}
+use own.{containers.Safely.answered, containers.StorageSteps.change-changes, containers.StorageSteps.change-nowhere}
+use Rattle.segment_manager.specs.objects.Located.{IsLocated}
+use Rattle.segment_manager.specs.containers.Stored.{ChangesElements, IsElements, each_of}
 use Rattle.segment_manager.proofs.segment.Segment.change_storage.Goals as goal
 
 -- there is no such container
 not-there : (s : State) (key : Key) (o : Located) (l : IsLocated s key o) (change : Change) (kind : Kind)
-    (why : Refusal)
-    → o.kind ≡ kind → is_read_only s.mode ≡ false → Answers s (λ d. container_at d (ByHandle o.handle) kind) (Err why)
-    → IsStep s s (command_of change key) (Refused why)
-not-there s key o l change kind why is may a =
-    located-changes s key o l change s kind (Refused why) is
+    (why : Refusal) → o.kind ≡ kind → is_read_only s.mode ≡ false → Answers s (λ d. container_at d (ByHandle o.handle)
+    kind) (Err why) → IsStep s s (command_of change key) (Refused why)
+not-there s key o l change kind why is may a = located-changes s key o l change s kind (Refused why) is
     (finds-no_container s (ByHandle o.handle) kind (command_of change (ByHandle o.handle)) why
     (open-writing s.mode (command_of change (ByHandle o.handle)) may) a)
 
@@ -40,29 +36,23 @@ texts-done g c =
 elements-said : (g : Over) (c : After-change_elements g)
     → ChangesElements c.args.change c.self.inside.heap c.change_elements.new.heap c.in_ok-place-in_default.place
     (each_of c.in_ok-object.object.kind) c.change_elements.result
-elements-said g c =
-    subst
-    (λ n.
-    ChangesElements c.args.change c.self.inside.heap c.change_elements.new.heap c.in_ok-place-in_default.place n
-    c.change_elements.result)
-    c.element_len.ensures c.change_elements.ensures
+elements-said g c = subst (λ n. ChangesElements c.args.change c.self.inside.heap c.change_elements.new.heap
+    c.in_ok-place-in_default.place n c.change_elements.result) c.element_len.ensures c.change_elements.ensures
 
 elements-done : (g : Over) (c : After-change_elements g)
     → Answered done_answer (record { cut = c.self.inside.heap; mode = c.self.inside.mode })
     c.args.self.now c.change_elements.new.heap (ByHandle c.in_ok-object.object.handle) c.in_ok-object.object.kind
     (command_of c.args.change (ByHandle c.in_ok-object.object.handle)) c.change_elements.result
-elements-done g c =
-    answered _ _ c.self.view_is c.self.invariant _ _ _ _ _ (elements-changed c.self.view_is _ _ _ c.self.invariant
-    c.in_ok-place-in_default.ensures
-    (has_storage-left _ c.in_default.not-Scalar c.in_default.not-Map) c.in_default.not-Strings
-    _ (sym c.is_read_only.ensures ∙ c.if-is_read_only.false) c.args.change _ (elements-said g c))
+elements-done g c = answered _ _ c.self.view_is c.self.invariant _ _ _ _ _
+    (elements-changed c.self.view_is _ _ _ c.self.invariant c.in_ok-place-in_default.ensures
+    (has_storage-left _ c.in_default.not-Scalar c.in_default.not-Map) c.in_default.not-Strings _
+    (sym c.is_read_only.ensures ∙ c.if-is_read_only.false) c.args.change _ (elements-said g c))
 
 pub returns-then-is_read_only-clause-step : goal.returns-then-is_read_only-clause-step
 returns-then-is_read_only-clause-step g c =
     let key : Key = g.O.Target.key c.args.key.now in
     refuses-read_only c.args.self.now (command_of c.args.change key)
-    (sym c.is_read_only.ensures ∙ c.if-is_read_only.true)
-    (change-changes c.args.change key)
+    (sym c.is_read_only.ensures ∙ c.if-is_read_only.true) (change-changes c.args.change key)
 
 pub returns-in_err-object-clause-step : goal.returns-in_err-object-clause-step
 returns-in_err-object-clause-step g c =
@@ -72,23 +62,18 @@ returns-in_err-object-clause-step g c =
     ∙ c.if-is_read_only.false) c.in_err-object.ensures (λ d e. change-nowhere c.args.change d key e))
 
 pub returns-in-Scalar-clause-step : goal.returns-in-Scalar-clause-step
-returns-in-Scalar-clause-step g c =
-    change-other c.args.change c.args.self.now _ c.in_ok-object.object.kind
-    (sym c.is_read_only.ensures ∙ c.if-is_read_only.false)
-    (elim c.in-Scalar.is [ inl a ↦ ap has_storage a.1 | inr a ↦ ap has_storage a.2 ])
-    (kind-by_key _ _ _ c.in_ok-object.ensures)
+returns-in-Scalar-clause-step g c = change-other c.args.change c.args.self.now _ c.in_ok-object.object.kind
+    (sym c.is_read_only.ensures ∙ c.if-is_read_only.false) (elim c.in-Scalar.is
+    [ inl a ↦ ap has_storage a.1 | inr a ↦ ap has_storage a.2 ]) (kind-by_key _ _ _ c.in_ok-object.ensures)
 
 pub change_texts-requires : goal.change_texts-requires
-change_texts-requires g c =
-    texts-standing c.self.view_is
+change_texts-requires g c = texts-standing c.self.view_is
     (ByHandle c.in_ok-object.object.handle) _ c.self.invariant c.in_ok-place-in-Strings.ensures
 
 pub returns-in_err-place-in-Strings-clause-step : goal.returns-in_err-place-in-Strings-clause-step
-returns-in_err-place-in-Strings-clause-step g c =
-    rw (exit-is c.from_residual-in_err-place-in-Strings.result _ c.from_residual-in_err-place-in-Strings.ensures.1)
-    (not-there _ _ _ c.in_ok-object.ensures c.args.change _ _ c.in-Strings.is
-    (sym c.is_read_only.ensures ∙ c.if-is_read_only.false)
-    c.in_err-place-in-Strings.ensures)
+returns-in_err-place-in-Strings-clause-step g c = rw (exit-is c.from_residual-in_err-place-in-Strings.result _
+    c.from_residual-in_err-place-in-Strings.ensures.1) (not-there _ _ _ c.in_ok-object.ensures c.args.change _ _
+    c.in-Strings.is (sym c.is_read_only.ensures ∙ c.if-is_read_only.false) c.in_err-place-in-Strings.ensures)
 
 pub invariant_of-self : goal.invariant_of-self
 invariant_of-self g c = (texts-done g (goal.at.invariant_of-self g c).After-change_texts).segment
@@ -104,18 +89,15 @@ returns-in_ok-place-in-Strings g c =
     }
 
 pub change_elements-requires : goal.change_elements-requires
-change_elements-requires g c =
-    subst (IsElements c.self.inside.heap.bytes c.in_ok-place-in_default.place) (sym c.element_len.ensures)
-    (some-elements c.self.view_is
-    (ByHandle c.in_ok-object.object.handle) _ _ c.self.invariant c.in_ok-place-in_default.ensures
-    (has_storage-left _ c.in_default.not-Scalar c.in_default.not-Map) c.in_default.not-Strings)
+change_elements-requires g c = subst (IsElements c.self.inside.heap.bytes c.in_ok-place-in_default.place)
+    (sym c.element_len.ensures) (some-elements c.self.view_is (ByHandle c.in_ok-object.object.handle) _ _
+    c.self.invariant c.in_ok-place-in_default.ensures (has_storage-left _ c.in_default.not-Scalar c.in_default.not-Map)
+    c.in_default.not-Strings)
 
 pub returns-in_err-place-in_default-clause-step : goal.returns-in_err-place-in_default-clause-step
-returns-in_err-place-in_default-clause-step g c =
-    rw (exit-is c.from_residual-in_err-place-in_default.result _ c.from_residual-in_err-place-in_default.ensures.1)
-    (not-there _ _ _ c.in_ok-object.ensures c.args.change _ _ refl
-    (sym c.is_read_only.ensures ∙ c.if-is_read_only.false)
-    c.in_err-place-in_default.ensures)
+returns-in_err-place-in_default-clause-step g c = rw (exit-is c.from_residual-in_err-place-in_default.result _
+    c.from_residual-in_err-place-in_default.ensures.1) (not-there _ _ _ c.in_ok-object.ensures c.args.change _ _ refl
+    (sym c.is_read_only.ensures ∙ c.if-is_read_only.false) c.in_err-place-in_default.ensures)
 
 pub invariant_of-self-in_default : goal.invariant_of-self-in_default
 invariant_of-self-in_default g c =
@@ -127,8 +109,7 @@ returns-in_ok-place-in_default g c =
     record {
       step = located-changes _ _ _ c.in_ok-object.ensures c.args.change _ _ _ refl (elements-done g there).step;
       refused = (elements-done g there).refused;
-      enough = enough-by_key _ _ _ c.in_ok-object.ensures c.args.change _
-          (elements-kept c.self.view_is _ _ _ c.self.invariant c.in_ok-place-in_default.ensures
-          (has_storage-left _ c.in_default.not-Scalar c.in_default.not-Map) c.in_default.not-Strings _ c.args.change _
-          (elements-said g there));
+      enough = enough-by_key _ _ _ c.in_ok-object.ensures c.args.change _ (elements-kept c.self.view_is _ _ _
+          c.self.invariant c.in_ok-place-in_default.ensures (has_storage-left _ c.in_default.not-Scalar
+          c.in_default.not-Map) c.in_default.not-Strings _ c.args.change _ (elements-said g there));
     }

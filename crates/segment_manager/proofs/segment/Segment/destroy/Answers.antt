@@ -6,8 +6,7 @@ use Rattle.seg_types.specs.{Commands.Destroy, Keys.index_key_seen}
 use Rattle.segment_manager.proofs.segment.Segment.destroy.Goals as goal
 
 pub returns-then-is_read_only-clause-step : goal.returns-then-is_read_only-clause-step
-returns-then-is_read_only-clause-step c =
-    refuses-read_only c.args.self.now (Destroy (index_key_seen c.args.key.now))
+returns-then-is_read_only-clause-step c = refuses-read_only c.args.self.now (Destroy (index_key_seen c.args.key.now))
     (sym c.is_read_only.ensures ∙ c.if-is_read_only.true) refl
 
 pub lookup-requires : goal.lookup-requires
@@ -21,26 +20,20 @@ remove_entered-requires c =
     (index_key_seen c.args.key.now) c.in-Found.place c.entry_of-index.ensures.seeks c.in-Found.ensures.place
 
 pub invariant_of-self : goal.invariant_of-self
-invariant_of-self c =
-    (destroys-entered c.self.view_is c.self.invariant c.entry_of-index.result.0
-    c.entry_of-index.result.1 (index_key_seen c.args.key.now) c.in-Found.place
-    (sym c.is_read_only.ensures ∙ c.if-is_read_only.false) c.entry_of-index.ensures.seeks c.in-Found.ensures.place
-    c.remove_entered.ensures).segment
+invariant_of-self c = (destroys-entered c.self.view_is c.self.invariant c.entry_of-index.result.0
+    c.entry_of-index.result.1 (index_key_seen c.args.key.now) c.in-Found.place (sym c.is_read_only.ensures
+    ∙ c.if-is_read_only.false) c.entry_of-index.ensures.seeks c.in-Found.ensures.place c.remove_entered.ensures).segment
 
 pub returns-in-Found-clause-step : goal.returns-in-Found-clause-step
-returns-in-Found-clause-step c =
-    (destroys-entered c.self.view_is c.self.invariant c.entry_of-index.result.0
-    c.entry_of-index.result.1 (index_key_seen c.args.key.now) c.in-Found.place
-    (sym c.is_read_only.ensures ∙ c.if-is_read_only.false) c.entry_of-index.ensures.seeks c.in-Found.ensures.place
-    c.remove_entered.ensures).step
+returns-in-Found-clause-step c = (destroys-entered c.self.view_is c.self.invariant c.entry_of-index.result.0
+    c.entry_of-index.result.1 (index_key_seen c.args.key.now) c.in-Found.place (sym c.is_read_only.ensures
+    ∙ c.if-is_read_only.false) c.entry_of-index.ensures.seeks c.in-Found.ensures.place c.remove_entered.ensures).step
 
 pub returns-in-Found-clause-absent : goal.returns-in-Found-clause-absent
-returns-in-Found-clause-absent c =
-    keeps-found c.self.view_is c.entry_of-index.result.0 c.entry_of-index.result.1 c.in-Found.place
-    c.in-Found.ensures.place (index_key_seen c.args.key.now) c.entry_of-index.ensures.seeks
+returns-in-Found-clause-absent c = keeps-found c.self.view_is c.entry_of-index.result.0 c.entry_of-index.result.1
+    c.in-Found.place c.in-Found.ensures.place (index_key_seen c.args.key.now) c.entry_of-index.ensures.seeks
 
 pub returns-in-Absent-clause-step : goal.returns-in-Absent-clause-step
-returns-in-Absent-clause-step c =
-    destroys-none c.self.view_is c.entry_of-index.result.0 c.entry_of-index.result.1
+returns-in-Absent-clause-step c = destroys-none c.self.view_is c.entry_of-index.result.0 c.entry_of-index.result.1
     (index_key_seen c.args.key.now) c.in-Absent.field-0 (sym c.is_read_only.ensures ∙ c.if-is_read_only.false)
     c.entry_of-index.ensures.seeks c.in-Absent.ensures.place

@@ -8,13 +8,10 @@ pub read_head-head-requires : goal.read_head-head-requires
 read_head-head-requires g c = seen-object _ _ c.self.view_is _ _ c.self.invariant c.in-Some.ensures
 
 pub returns-then-code : goal.returns-then-code
-returns-then-code g c =
-    contains c.self.view_is _ _ c.in-Some.ensures
+returns-then-code g c = contains c.self.view_is _ _ c.in-Some.ensures
     (λ o s. other-kind o _ _ _ _ (c.read_head-head.ensures o s) c.code.ensures c.code-in-Some.ensures c.if-code.true)
 
 pub returns-else-code : goal.returns-else-code
-returns-else-code g c =
-    contains c.self.view_is _ _ c.in-Some.ensures
-    (λ o s.
+returns-else-code g c = contains c.self.view_is _ _ c.in-Some.ensures (λ o s.
     of-kind o _ _ _ _ _ _ (c.read_head-head.ensures o s) c.code.ensures c.code-in-Some.ensures c.if-code.false s.at
     (c.value_at-at.ensures ∙ ap (λ (n : ℕ). head_len + padded n) c.from.ensures))

@@ -10,8 +10,7 @@ pub found_of-requires : goal.found_of-requires
 found_of-requires c = seen-object _ _ c.self.view_is (key_seen c.args.key.now) _ c.self.invariant c.in-Some.ensures
 
 pub returns-in_err-found : goal.returns-in_err-found
-returns-in_err-found c =
-    rw (exit-is c.from_residual.result _ c.from_residual.ensures.1)
+returns-in_err-found c = rw (exit-is c.from_residual.result _ c.from_residual.ensures.1)
     (find-there c.self.view_is (key_seen c.args.key.now) c.args.kind c.in-Some.ensures c.in_err-found.ensures)
 
 pub returns : goal.returns

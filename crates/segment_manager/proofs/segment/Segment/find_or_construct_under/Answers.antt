@@ -1,11 +1,10 @@
 -- The call on the heap, under the key that the object gets, as one on the segment.
 use Rattle.segment_manager.proofs.Common.{refl, sym, ap, subst, ◌∙◌, Key, FindsOrConstructs, IsOfKind, bare}
-use Rattle.segment_manager.proofs.Common.{index_key_seen, kind_of}
-use Rattle.segment_manager.proofs.objects.FilledCalls.{made-segment}
+use Rattle.segment_manager.proofs.segment.Segment.find_or_construct_under.Goals.{After-find_or_construct_entered}
+use Rattle.segment_manager.proofs.segment.Segment.find_or_construct_under.Given.{Over}
+use Rattle.segment_manager.proofs.{Common.index_key_seen, Common.kind_of, objects.FilledCalls.made-segment}
 use Rattle.segment_manager.proofs.{containers.KeptContainers.keeps-cut, Steps.refuses-read_only}
 use Rattle.segment_manager.specs.Keeping.{HasKey}
-use Rattle.segment_manager.proofs.segment.Segment.find_or_construct_under.{Goals.After-find_or_construct_entered}
-use Rattle.segment_manager.proofs.segment.Segment.find_or_construct_under.{Given.Over}
 use Rattle.segment_manager.proofs.segment.Segment.find_or_construct_under.Goals as goal
 
 -- what the call does, under the key of the object's kind
@@ -13,8 +12,7 @@ done : (g : Over) (c : After-find_or_construct_entered g)
     → FindsOrConstructs c.self.inside.heap c.find_or_construct_entered.new.heap
     (g.D.Destination.key c.args.key.now (kind_of (bare (g.F.Filling.content c.args.filling.now))))
     (g.F.Filling.content c.args.filling.now) c.find_or_construct_entered.result
-done g c =
-    subst (λ (key : Key). FindsOrConstructs c.self.inside.heap c.find_or_construct_entered.new.heap key
+done g c = subst (λ (key : Key). FindsOrConstructs c.self.inside.heap c.find_or_construct_entered.new.heap key
     (g.F.Filling.content c.args.filling.now) c.find_or_construct_entered.result)
     (c.entry_for-key.ensures.key ∙ ap (g.D.Destination.key c.args.key.now) c.shape.ensures.kind)
     (c.find_or_construct_entered.ensures (index_key_seen c.entry_for-key.result) (c.entry_of-index.ensures.new _
@@ -30,7 +28,6 @@ invariant_of-self g c =
     (sym c.is_read_only.ensures ∙ c.if-is_read_only.false) c.self.invariant
 
 pub returns-clause-found : goal.returns-clause-found
-returns-clause-found g c =
-    keeps-cut _ _ c.self.view_is c.find_or_construct_entered.new.heap
+returns-clause-found g c = keeps-cut _ _ c.self.view_is c.find_or_construct_entered.new.heap
     (HasKey (g.D.Destination.key c.args.key.now (kind_of (bare (g.F.Filling.content c.args.filling.now)))))
     (done g (goal.at.returns-clause-found g c).After-find_or_construct_entered).found

@@ -10,6 +10,5 @@ returns-then-is_read_only g c = record {
 }
 
 pub returns : goal.returns
-returns g c =
-    to_change c.args.self.now (g.O.Target.key c.args.key.now) c.args.kind c.find_container.result
+returns g c = to_change c.args.self.now (g.O.Target.key c.args.key.now) c.args.kind c.find_container.result
     (sym c.is_read_only.ensures ∙ c.if-is_read_only.false) c.find_container.ensures

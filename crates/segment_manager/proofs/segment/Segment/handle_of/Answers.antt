@@ -4,22 +4,18 @@ use Rattle.segment_manager.proofs.objects.KeyCalls.{anonymous-answers, handle-an
 use Rattle.segment_manager.proofs.segment.Segment.handle_of.Goals as goal
 
 pub returns-in-Name : goal.returns-in-Name
-returns-in-Name c =
-    subst (λ k. Answers c.args.self.now (λ d. handle_at d (key_seen k)) c.look_up.result) (sym c.in-Name.is)
-    (c.look_up.ensures (ByName c.in-Name.name.bytes.now) c.as_bytes.ensures.bytes)
+returns-in-Name c = subst (λ k. Answers c.args.self.now (λ d. handle_at d (key_seen k)) c.look_up.result)
+    (sym c.in-Name.is) (c.look_up.ensures (ByName c.in-Name.name.bytes.now) c.as_bytes.ensures.bytes)
 
 pub returns-in-Unique : goal.returns-in-Unique
-returns-in-Unique c =
-    subst (λ k. Answers c.args.self.now (λ d. handle_at d (key_seen k)) c.look_up-in-Unique.result) (sym c.in-Unique.is)
-    (c.look_up-in-Unique.ensures (ByKind c.in-Unique.kind) c.code.ensures)
+returns-in-Unique c = subst (λ k. Answers c.args.self.now (λ d. handle_at d (key_seen k)) c.look_up-in-Unique.result)
+    (sym c.in-Unique.is) (c.look_up-in-Unique.ensures (ByKind c.in-Unique.kind) c.code.ensures)
 
 pub returns-in-Handle : goal.returns-in-Handle
-returns-in-Handle c =
-    subst (λ k. Answers c.args.self.now (λ d. handle_at d (key_seen k)) c.then_some.result) (sym c.in-Handle.is)
-    (subst (λ r. Answers c.args.self.now (λ d. handle_at d (ByHandle c.in-Handle.handle)) r) (sym c.then_some.ensures)
-    (handle-answers c.in-Handle.handle c.belongs.ensures))
+returns-in-Handle c = subst (λ k. Answers c.args.self.now (λ d. handle_at d (key_seen k)) c.then_some.result)
+    (sym c.in-Handle.is) (subst (λ r. Answers c.args.self.now (λ d. handle_at d (ByHandle c.in-Handle.handle)) r)
+    (sym c.then_some.ensures) (handle-answers c.in-Handle.handle c.belongs.ensures))
 
 pub returns-in-Anonymous : goal.returns-in-Anonymous
-returns-in-Anonymous c =
-    subst (λ k. Answers c.args.self.now (λ d. handle_at d (key_seen k)) None) (sym c.in-Anonymous.is)
-    (anonymous-answers)
+returns-in-Anonymous c = subst (λ k. Answers c.args.self.now (λ d. handle_at d (key_seen k)) None)
+    (sym c.in-Anonymous.is) (anonymous-answers)

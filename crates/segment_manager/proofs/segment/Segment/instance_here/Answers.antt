@@ -12,8 +12,6 @@ pub read_instance-requires-clause-object : goal.read_instance-requires-clause-ob
 read_instance-requires-clause-object c = has-own_object c.self.view_is c.args.handle c.self.invariant c.requires
 
 pub returns : goal.returns
-returns c =
-    subst (λ t. SaysOf t (ByHandle c.args.handle) c.read_instance.result) c.self.view_is (key-says
-    (handle-answers c.args.handle
-    (subst (λ t. Answers t (λ d. is_object_at d c.args.handle) true) (sym c.self.view_is) c.requires))
-    c.read_instance.ensures)
+returns c = subst (λ t. SaysOf t (ByHandle c.args.handle) c.read_instance.result) c.self.view_is
+    (key-says (handle-answers c.args.handle (subst (λ t. Answers t (λ d. is_object_at d c.args.handle) true)
+    (sym c.self.view_is) c.requires)) c.read_instance.ensures)

@@ -17,14 +17,12 @@ read_name-requires-clause-object c =
     seen-object _ _ c.self.view_is (key_seen c.args.key.now) _ c.self.invariant c.in-Some.ensures
 
 pub returns-in-Named : goal.returns-in-Named
-returns-in-Named c =
-    seen-tells c.self.view_is (key_seen c.args.key.now) own_name c.in-Some.ensures
+returns-in-Named c = seen-tells c.self.view_is (key_seen c.args.key.now) own_name c.in-Some.ensures
     (λ o h. ap (λ n. Some n) (c.read_name.ensures o h)
     ∙ ap (λ k. name_in k o.name) (sym c.in-Named.is ∙ (c.read_head.ensures o h).class))
 
 pub returns-in-Anonymous : goal.returns-in-Anonymous
-returns-in-Anonymous c =
-    seen-tells c.self.view_is (key_seen c.args.key.now) own_name c.in-Some.ensures (λ o h.
+returns-in-Anonymous c = seen-tells c.self.view_is (key_seen c.args.key.now) own_name c.in-Some.ensures (λ o h.
     let none : (k : Class) → name_in k o.name ≡ None → c.read_head.result.class ≡ k → None ≡ own_name o =
     λ k n e. sym n ∙ ap (λ k. name_in k o.name) (sym e ∙ (c.read_head.ensures o h).class) in
     elim c.in-Anonymous.is [ inl e ↦ none Anonymous refl e | inr e ↦ none UniqueClass refl e ])

@@ -18,11 +18,9 @@ pub returns-in-Anonymous : goal.returns-in-Anonymous
 returns-in-Anonymous c = listed-none c.self.view_is c.requires c.read_head-head.ensures c.in-Anonymous.is
 
 pub returns-in-Named : goal.returns-in-Named
-returns-in-Named c =
-    c.listed_under.ensures c.args.handle (listed-name c.self.view_is c.requires c.read_head-head.ensures
-    (entry.Name c.read_name.result) c.in-Named.is c.read_name.ensures)
+returns-in-Named c = c.listed_under.ensures c.args.handle (listed-name c.self.view_is c.requires
+    c.read_head-head.ensures (entry.Name c.read_name.result) c.in-Named.is c.read_name.ensures)
 
 pub returns-in-Unique : goal.returns-in-Unique
-returns-in-Unique c =
-    c.listed_under-in-Unique.ensures c.args.handle
+returns-in-Unique c = c.listed_under-in-Unique.ensures c.args.handle
     (listed-kind c.self.view_is c.requires c.read_head-head.ensures c.in-Unique.is c.code.ensures)

@@ -7,9 +7,8 @@ pub lookup-requires : goal.lookup-requires
 lookup-requires c = record { keys = denotes-keys c.args.index c.self.invariant.1.denotes }
 
 pub returns-in-Found : goal.returns-in-Found
-returns-in-Found c = λ h each.
-    subst (λ t. IsListed t h (Some (record { index = c.args.index; place = c.in-Found.place }))) c.self.view_is
-    (record {
+returns-in-Found c = λ h each. subst
+    (λ t. IsListed t h (Some (record { index = c.args.index; place = c.in-Found.place }))) c.self.view_is (record {
       entry = c.args.entry;
       leads = subst (λ t. HasEntries t c.args.index c.args.entry h) (sym c.self.view_is) each;
       found = c.in-Found.ensures.place;

@@ -15,11 +15,9 @@ at-requires-clause-below c =
     place-below c.args.index c.args.entry c.in-Found.place c.self.invariant c.in-Found.ensures.place
 
 pub returns-in-Found : goal.returns-in-Found
-returns-in-Found c = λ key q.
-    subst (λ t. Answers t (λ d. handle_at d key) (Some c.at.result)) c.self.view_is
+returns-in-Found c = λ key q. subst (λ t. Answers t (λ d. handle_at d key) (Some c.at.result)) c.self.view_is
     (found-answers _ c.args.index c.args.entry c.in-Found.place c.in-Found.ensures.place c.at.ensures key q)
 
 pub returns-in-Absent : goal.returns-in-Absent
-returns-in-Absent c = λ key q.
-    subst (λ t. Answers t (λ d. handle_at d key) None) c.self.view_is
+returns-in-Absent c = λ key q. subst (λ t. Answers t (λ d. handle_at d key) None) c.self.view_is
     (absent-answers c.args.index c.args.entry c.in-Absent.field-0 c.in-Absent.ensures.place key q)

@@ -10,22 +10,19 @@ returns-then-is_read_only-clause-step g c =
     refuses_of_kind-read_only _ _ _ _ (sym c.is_read_only.ensures ∙ c.if-is_read_only.true) refl
 
 pub erase-requires : goal.erase-requires
-erase-requires g c =
-    some-there (of-map g.met.K.Scalar) (of-map g.met.V.Scalar) c.self.view_is _ c.at.ensures c.self.invariant
-    c.in_ok-place.ensures
+erase-requires g c = some-there (of-map g.met.K.Scalar) (of-map g.met.V.Scalar) c.self.view_is _ c.at.ensures
+    c.self.invariant c.in_ok-place.ensures
 
 pub returns-in_err-place-clause-step : goal.returns-in_err-place-clause-step
-returns-in_err-place-clause-step g c =
-    rw (exit-is c.from_residual.result _ c.from_residual.ensures.1)
+returns-in_err-place-clause-step g c = rw (exit-is c.from_residual.result _ c.from_residual.ensures.1)
     (let asked : Command = Remove (g.O.Target.key c.args.key.now)
     (literal_of g.K.Scalar.kind (g.K.Scalar.whole c.args.at)) in
     finds-no_map _ _ _ _ _ _
     (open-writing _ asked (sym c.is_read_only.ensures ∙ c.if-is_read_only.false)) c.in_err-place.ensures)
 
 pub invariant_of-self : goal.invariant_of-self
-invariant_of-self g c =
-    (erased-there (of-map g.met.K.Scalar) (of-map g.met.V.Scalar) c.self.view_is _ c.at.ensures c.self.invariant
-    c.in_ok-place.ensures _ (sym c.is_read_only.ensures ∙ c.if-is_read_only.false) _ _ c.judge.ensures
+invariant_of-self g c = (erased-there (of-map g.met.K.Scalar) (of-map g.met.V.Scalar) c.self.view_is _ c.at.ensures
+    c.self.invariant c.in_ok-place.ensures _ (sym c.is_read_only.ensures ∙ c.if-is_read_only.false) _ _ c.judge.ensures
     c.erase.ensures.erased).segment
 
 pub returns : goal.returns

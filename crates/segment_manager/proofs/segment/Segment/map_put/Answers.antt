@@ -10,15 +10,18 @@ use Rattle.segment_manager.proofs.segment.Segment.map_put.{Goals.Joined-put, Goa
 -- what the call answers
 answer : (g : Over) (c : Joined-put g) → c.match-put.result ≡ put_result c.put.result
 answer g c =
-    elim c.match-put.branch [ in-Err w ↦ w.result-is ∙ sym (ap put_result w.in-Err.is) | in-Ok w ↦ w.result-is ∙ sym (ap put_result w.in-Ok.is) ]
+    elim c.match-put.branch [
+      | in-Err w ↦ w.result-is ∙ sym (ap put_result w.in-Err.is)
+      | in-Ok w ↦ w.result-is ∙ sym (ap put_result w.in-Ok.is)
+    ]
 
 -- what the call does, in each goal behind it
-done : (g : Over) (c : Joined-put g) → Answered truth_answer (record { cut = c.self.inside.heap; mode = c.self.inside.mode })
+done : (g : Over) (c : Joined-put g)
+    → Answered truth_answer (record { cut = c.self.inside.heap; mode = c.self.inside.mode })
     c.args.self.now c.put.new.heap (g.O.Target.key c.args.key.now) (Map g.K.Scalar.kind g.V.Scalar.kind) (Put
-    (g.O.Target.key c.args.key.now) (literal_of g.K.Scalar.kind (g.K.Scalar.whole c.args.at)) (literal_of g.V.Scalar.kind
-    (g.V.Scalar.whole c.args.value))) c.match-put.result
-done g c =
-    put-there (of-map g.met.K.Scalar) (of-map g.met.V.Scalar) c.self.view_is _ c.at.ensures c.self.invariant
+    (g.O.Target.key c.args.key.now) (literal_of g.K.Scalar.kind (g.K.Scalar.whole c.args.at))
+    (literal_of g.V.Scalar.kind (g.V.Scalar.whole c.args.value))) c.match-put.result
+done g c = put-there (of-map g.met.K.Scalar) (of-map g.met.V.Scalar) c.self.view_is _ c.at.ensures c.self.invariant
     c.in_ok-place.ensures _ (sym c.is_read_only.ensures ∙ c.if-is_read_only.false) _ _ c.put.result _ (answer g c)
     c.judge.ensures c.judge-2.ensures c.put.ensures.put
 
@@ -27,15 +30,15 @@ returns-then-is_read_only-clause-step g c =
     refuses_of_kind-read_only _ _ _ _ (sym c.is_read_only.ensures ∙ c.if-is_read_only.true) refl
 
 pub put-requires : goal.put-requires
-put-requires g c =
-    some-there (of-map g.met.K.Scalar) (of-map g.met.V.Scalar) c.self.view_is _ c.at.ensures c.self.invariant
-    c.in_ok-place.ensures
+put-requires g c = some-there (of-map g.met.K.Scalar) (of-map g.met.V.Scalar) c.self.view_is _ c.at.ensures
+    c.self.invariant c.in_ok-place.ensures
 
 pub returns-in_err-place-clause-step : goal.returns-in_err-place-clause-step
-returns-in_err-place-clause-step g c =
-    rw (exit-is c.from_residual.result _ c.from_residual.ensures.1)
-    (let asked : Command = Put (g.O.Target.key c.args.key.now) (literal_of g.K.Scalar.kind (g.K.Scalar.whole c.args.at)) (literal_of g.V.Scalar.kind (g.V.Scalar.whole c.args.value)) in
-    finds-no_map _ _ _ _ _ _ (open-writing _ asked (sym c.is_read_only.ensures ∙ c.if-is_read_only.false)) c.in_err-place.ensures)
+returns-in_err-place-clause-step g c = rw (exit-is c.from_residual.result _ c.from_residual.ensures.1)
+    (let asked : Command = Put (g.O.Target.key c.args.key.now) (literal_of g.K.Scalar.kind (g.K.Scalar.whole c.args.at))
+    (literal_of g.V.Scalar.kind (g.V.Scalar.whole c.args.value)) in
+    finds-no_map _ _ _ _ _ _ (open-writing _ asked (sym c.is_read_only.ensures ∙ c.if-is_read_only.false))
+    c.in_err-place.ensures)
 
 pub invariant_of-self : goal.invariant_of-self
 invariant_of-self g c = (done g (goal.at.invariant_of-self g c).Joined-put).segment

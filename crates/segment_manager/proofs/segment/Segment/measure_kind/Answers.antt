@@ -22,11 +22,9 @@ word-requires g c =
     word-room c.self.view_is _ _ _ c.in_ok-place.ensures c.requires.container c.self.invariant 16 (omega arith)
 
 pub returns-in-Map : goal.returns-in-Map
-returns-in-Map g c =
-    measured c.self.view_is _ _ _ c.in_ok-place.ensures c.requires.container _ _ c.word-len.ensures
+returns-in-Map g c = measured c.self.view_is _ _ _ c.in_ok-place.ensures c.requires.container _ _ c.word-len.ensures
     (sym (ap (places_in (bytes_of c.self.inside.heap.bytes) _) c.in-Map.is))
 
 pub returns-in_default : goal.returns-in_default
-returns-in_default g c =
-    measured c.self.view_is _ _ _ c.in_ok-place.ensures c.requires.container _ _ c.word-len.ensures
+returns-in_default g c = measured c.self.view_is _ _ _ c.in_ok-place.ensures c.requires.container _ _ c.word-len.ensures
     (places-otherwise _ c.in_ok-place.place _ c.in_default.not-Map _ c.word.ensures)

@@ -5,6 +5,5 @@ use Rattle.seg_index.specs.declared.index.Index.TheVariants.{Named}
 use Rattle.segment_manager.proofs.segment.Segment.num_named.Goals as goal
 
 pub returns : goal.returns
-returns c =
-    subst (λ t. IsReply t NumNamed (Number c.len.result)) c.self.view_is
+returns c = subst (λ t. IsReply t NumNamed (Number c.len.result)) c.self.view_is
     (num-replies Named c.len.result c.len.ensures.len)

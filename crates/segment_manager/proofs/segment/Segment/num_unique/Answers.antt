@@ -5,6 +5,5 @@ use Rattle.seg_index.specs.declared.index.Index.TheVariants.{Unique}
 use Rattle.segment_manager.proofs.segment.Segment.num_unique.Goals as goal
 
 pub returns : goal.returns
-returns c =
-    subst (λ t. IsReply t NumUnique (Number c.len.result)) c.self.view_is
+returns c = subst (λ t. IsReply t NumUnique (Number c.len.result)) c.self.view_is
     (num-replies Unique c.len.result c.len.ensures.len)

@@ -4,14 +4,12 @@ use Rattle.segment_manager.proofs.{containers.MapAnswers.some-there, containers.
 use Rattle.segment_manager.proofs.segment.Segment.pair_past.Goals as goal
 
 pub next_after-requires : goal.next_after-requires
-next_after-requires g c =
-    some-there (of-map g.met.K.Scalar) (of-map g.met.V.Scalar) c.self.view_is _ c.at-map.ensures c.self.invariant
-    c.in_ok-place.ensures
+next_after-requires g c = some-there (of-map g.met.K.Scalar) (of-map g.met.V.Scalar) c.self.view_is _ c.at-map.ensures
+    c.self.invariant c.in_ok-place.ensures
 
 pub first_from-requires : goal.first_from-requires
-first_from-requires g c =
-    some-there (of-map g.met.K.Scalar) (of-map g.met.V.Scalar) c.self.view_is _ c.at-map.ensures c.self.invariant
-    c.in_ok-place.ensures
+first_from-requires g c = some-there (of-map g.met.K.Scalar) (of-map g.met.V.Scalar) c.self.view_is _ c.at-map.ensures
+    c.self.invariant c.in_ok-place.ensures
 
 pub returns-then-above : goal.returns-then-above
 returns-then-above g c =

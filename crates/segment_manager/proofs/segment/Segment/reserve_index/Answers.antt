@@ -6,8 +6,7 @@ use Rattle.segment_manager.proofs.segment.Segment.reserve_index.Goals.{in-Ok, in
 use Rattle.segment_manager.proofs.segment.Segment.reserve_index.Goals as goal
 
 pub returns-then-is_read_only-clause-step : goal.returns-then-is_read_only-clause-step
-returns-then-is_read_only-clause-step c =
-    refuses-read_only c.args.self.now (reserve_of c.args.index c.args.n)
+returns-then-is_read_only-clause-step c = refuses-read_only c.args.self.now (reserve_of c.args.index c.args.n)
     (sym c.is_read_only.ensures ∙ c.if-is_read_only.true) (reserve-changes c.args.index c.args.n)
 
 pub reserve-requires : goal.reserve-requires
@@ -18,9 +17,8 @@ invariant_of-self c =
     elim c.match-reserve.branch [
       | in-Ok w ↦ (reserves c.self.view_is c.self.invariant c.args.index
           (sym c.is_read_only.ensures ∙ c.if-is_read_only.false) w.in-Ok.ensures.reserved).segment
-      | in-Err w ↦ (reserves-none c.self.view_is c.self.invariant c.args.index c.args.n
-          (sym c.is_read_only.ensures ∙ c.if-is_read_only.false) w.in-Err.ensures.reserved.0
-          w.in-Err.ensures.reserved.1).segment
+      | in-Err w ↦ (reserves-none c.self.view_is c.self.invariant c.args.index c.args.n (sym c.is_read_only.ensures
+          ∙ c.if-is_read_only.false) w.in-Err.ensures.reserved.0 w.in-Err.ensures.reserved.1).segment
     ]
 
 pub returns-clause-step : goal.returns-clause-step

@@ -16,11 +16,9 @@ pub shrink-requires-2 : goal.shrink-requires-2
 shrink-requires-2 c = record { index = shrunk-index c.self.invariant c.shrink.ensures.shrunk }
 
 pub invariant_of-self : goal.invariant_of-self
-invariant_of-self c =
-    (shrinks c.self.view_is c.self.invariant
+invariant_of-self c = (shrinks c.self.view_is c.self.invariant
     (sym c.is_read_only.ensures ∙ c.if-is_read_only.false) c.shrink.ensures.shrunk c.shrink-2.ensures.shrunk).segment
 
 pub returns-clause-step : goal.returns-clause-step
-returns-clause-step c =
-    (shrinks c.self.view_is c.self.invariant
+returns-clause-step c = (shrinks c.self.view_is c.self.invariant
     (sym c.is_read_only.ensures ∙ c.if-is_read_only.false) c.shrink.ensures.shrunk c.shrink-2.ensures.shrunk).step

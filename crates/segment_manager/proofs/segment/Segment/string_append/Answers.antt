@@ -7,8 +7,7 @@ pub append-requires : goal.append-requires
 append-requires g c = text-standing c.self.view_is _ _ c.self.invariant c.in_ok-place.ensures.at
 
 pub invariant_of-self : goal.invariant_of-self
-invariant_of-self g c =
-    (text-appended c.self.view_is c.self.invariant c.in_ok-place.ensures _ _ _ c.type_inv.bytes
+invariant_of-self g c = (text-appended c.self.view_is c.self.invariant c.in_ok-place.ensures _ _ _ c.type_inv.bytes
     c.append.ensures).segment
 
 pub returns-in_err-place-clause-step : goal.returns-in_err-place-clause-step

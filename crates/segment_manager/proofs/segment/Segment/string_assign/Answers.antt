@@ -7,8 +7,7 @@ pub assign-requires : goal.assign-requires
 assign-requires g c = text-standing c.self.view_is _ _ c.self.invariant c.in_ok-place.ensures.at
 
 pub invariant_of-self : goal.invariant_of-self
-invariant_of-self g c =
-    (text-assigned c.self.view_is c.self.invariant c.in_ok-place.ensures _ _ _ c.type_inv.bytes
+invariant_of-self g c = (text-assigned c.self.view_is c.self.invariant c.in_ok-place.ensures _ _ _ c.type_inv.bytes
     c.assign.ensures).segment
 
 pub returns-in_err-place-clause-step : goal.returns-in_err-place-clause-step

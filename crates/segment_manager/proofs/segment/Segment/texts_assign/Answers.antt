@@ -1,21 +1,18 @@
 -- The texts are those of the vector of strings that is found.
-use Rattle.segment_manager.proofs.{Common.refl, containers.TextListCalls.texts-assigned}
-use Rattle.segment_manager.proofs.{containers.TextListCalls.texts-standing, containers.TextMoves.kept-told}
-use Rattle.segment_manager.proofs.{containers.ToChange.not-changed}
+use Rattle.segment_manager.proofs.containers.TextListCalls.{texts-assigned, texts-standing}
+use Rattle.segment_manager.proofs.{Common.refl, containers.TextMoves.kept-told, containers.ToChange.not-changed}
 use Rattle.segment_manager.proofs.segment.Segment.texts_assign.Goals as goal
 
 pub assign-requires : goal.assign-requires
 assign-requires g c = texts-standing c.self.view_is _ _ c.self.invariant c.in_ok-place.ensures.at
 
 pub invariant_of-self : goal.invariant_of-self
-invariant_of-self g c =
-    (texts-assigned c.self.view_is c.self.invariant c.in_ok-place.ensures _ _ _ c.judge_all.ensures
+invariant_of-self g c = (texts-assigned c.self.view_is c.self.invariant c.in_ok-place.ensures _ _ _ c.judge_all.ensures
     c.assign.ensures.assigned).segment
 
 pub returns-in_err-place-clause-step : goal.returns-in_err-place-clause-step
 returns-in_err-place-clause-step g c = not-changed _ _ _ refl c.from_residual.ensures.1 refl c.in_err-place.ensures
 
 pub returns : goal.returns
-returns g c =
-    kept-told (texts-assigned c.self.view_is c.self.invariant c.in_ok-place.ensures _ _ _ c.judge_all.ensures
+returns g c = kept-told (texts-assigned c.self.view_is c.self.invariant c.in_ok-place.ensures _ _ _ c.judge_all.ensures
     c.assign.ensures.assigned)

@@ -12,6 +12,5 @@ returns-in_err-place g c =
     rw (exit-is _ _ c.from_residual.ensures.1) (no_container-reply _ _ _ _ _ refl c.in_err-place.ensures)
 
 pub returns : goal.returns
-returns g c =
-    seen-reply _ _ c.self.view_is _ _ _ _ (text-got c.self.view_is _ _ c.self.invariant
+returns g c = seen-reply _ _ c.self.view_is _ _ _ _ (text-got c.self.view_is _ _ c.self.invariant
     c.in_ok-place.ensures c.args.index c.get.result c.get.ensures)

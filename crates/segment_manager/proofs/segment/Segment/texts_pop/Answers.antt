@@ -10,8 +10,7 @@ pub invariant_of-self : goal.invariant_of-self
 invariant_of-self g c = (text-popped c.self.view_is c.self.invariant c.in_ok-place.ensures _ _ c.pop.ensures).segment
 
 pub returns-in_err-place-clause-step : goal.returns-in_err-place-clause-step
-returns-in_err-place-clause-step g c =
-    rw (exit-is c.from_residual.result _ c.from_residual.ensures.1)
+returns-in_err-place-clause-step g c = rw (exit-is c.from_residual.result _ c.from_residual.ensures.1)
     (step-leads-on _ _ _ _ _ (c.in_err-place.ensures.refused (Pop (g.O.Target.key c.args.key.now)) refl))
 
 pub returns : goal.returns

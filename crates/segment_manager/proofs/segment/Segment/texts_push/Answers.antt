@@ -1,21 +1,18 @@
 -- The text is put behind the last of the vector of strings that is found.
-use Rattle.segment_manager.proofs.{Common.refl, containers.TextListCalls.text-pushed}
-use Rattle.segment_manager.proofs.{containers.TextListCalls.texts-standing, containers.TextMoves.kept-told}
-use Rattle.segment_manager.proofs.{containers.ToChange.not-changed}
+use Rattle.segment_manager.proofs.containers.TextListCalls.{text-pushed, texts-standing}
+use Rattle.segment_manager.proofs.{Common.refl, containers.TextMoves.kept-told, containers.ToChange.not-changed}
 use Rattle.segment_manager.proofs.segment.Segment.texts_push.Goals as goal
 
 pub push-requires : goal.push-requires
 push-requires g c = texts-standing c.self.view_is _ _ c.self.invariant c.in_ok-place.ensures.at
 
 pub invariant_of-self : goal.invariant_of-self
-invariant_of-self g c =
-    (text-pushed c.self.view_is c.self.invariant c.in_ok-place.ensures _ _ _ c.type_inv.text
+invariant_of-self g c = (text-pushed c.self.view_is c.self.invariant c.in_ok-place.ensures _ _ _ c.type_inv.text
     c.push.ensures.pushed).segment
 
 pub returns-in_err-place-clause-step : goal.returns-in_err-place-clause-step
 returns-in_err-place-clause-step g c = not-changed _ _ _ refl c.from_residual.ensures.1 refl c.in_err-place.ensures
 
 pub returns : goal.returns
-returns g c =
-    kept-told (text-pushed c.self.view_is c.self.invariant c.in_ok-place.ensures _ _ _ c.type_inv.text
+returns g c = kept-told (text-pushed c.self.view_is c.self.invariant c.in_ok-place.ensures _ _ _ c.type_inv.text
     c.push.ensures.pushed)

@@ -5,9 +5,8 @@ use Rattle.segment_manager.proofs.{containers.VectorAnswers.some-vector, contain
 use Rattle.segment_manager.proofs.segment.Segment.vec_assign.Goals as goal
 
 pub assign-requires : goal.assign-requires
-assign-requires g c =
-    some-vector (of-vector g.met.T.Scalar) c.self.view_is _ c.kind.ensures c.at.ensures c.self.invariant
-    c.in_ok-place.ensures.at
+assign-requires g c = some-vector (of-vector g.met.T.Scalar) c.self.view_is _ c.kind.ensures c.at.ensures
+    c.self.invariant c.in_ok-place.ensures.at
 
 pub invariant_of-self : goal.invariant_of-self
 invariant_of-self g c =
@@ -19,6 +18,5 @@ returns-in_err-place-clause-step g c =
     not-changed _ _ _ (ap Vector c.kind.ensures) c.from_residual.ensures.1 refl c.in_err-place.ensures
 
 pub returns : goal.returns
-returns g c =
-    told (vector-assigned (of-vector g.met.T.Scalar) c.self.view_is _ c.kind.ensures c.at.ensures c.self.invariant
-    c.in_ok-place.ensures.at _ c.in_ok-place.ensures.writing _ _ c.judge_all.ensures c.assign.ensures)
+returns g c = told (vector-assigned (of-vector g.met.T.Scalar) c.self.view_is _ c.kind.ensures c.at.ensures
+    c.self.invariant c.in_ok-place.ensures.at _ c.in_ok-place.ensures.writing _ _ c.judge_all.ensures c.assign.ensures)

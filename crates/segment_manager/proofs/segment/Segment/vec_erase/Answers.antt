@@ -5,20 +5,17 @@ use Rattle.segment_manager.proofs.{containers.VectorAnswers.some-vector, contain
 use Rattle.segment_manager.proofs.segment.Segment.vec_erase.Goals as goal
 
 pub erase-requires : goal.erase-requires
-erase-requires g c =
-    some-vector (of-vector g.met.T.Scalar) c.self.view_is _ c.kind.ensures c.at.ensures c.self.invariant
-    c.in_ok-place.ensures.at
+erase-requires g c = some-vector (of-vector g.met.T.Scalar) c.self.view_is _ c.kind.ensures c.at.ensures
+    c.self.invariant c.in_ok-place.ensures.at
 
 pub invariant_of-self : goal.invariant_of-self
-invariant_of-self g c =
-    (vector-erased (of-vector g.met.T.Scalar) c.self.view_is _ c.kind.ensures c.at.ensures c.self.invariant
-    c.in_ok-place.ensures.at _ c.in_ok-place.ensures.writing _ _ c.erase.ensures).segment
+invariant_of-self g c = (vector-erased (of-vector g.met.T.Scalar) c.self.view_is _ c.kind.ensures c.at.ensures
+    c.self.invariant c.in_ok-place.ensures.at _ c.in_ok-place.ensures.writing _ _ c.erase.ensures).segment
 
 pub returns-in_err-place-clause-step : goal.returns-in_err-place-clause-step
 returns-in_err-place-clause-step g c =
     not-changed _ _ _ (ap Vector c.kind.ensures) c.from_residual.ensures.1 refl c.in_err-place.ensures
 
 pub returns : goal.returns
-returns g c =
-    told (vector-erased (of-vector g.met.T.Scalar) c.self.view_is _ c.kind.ensures c.at.ensures c.self.invariant
-    c.in_ok-place.ensures.at _ c.in_ok-place.ensures.writing _ _ c.erase.ensures)
+returns g c = told (vector-erased (of-vector g.met.T.Scalar) c.self.view_is _ c.kind.ensures c.at.ensures
+    c.self.invariant c.in_ok-place.ensures.at _ c.in_ok-place.ensures.writing _ _ c.erase.ensures)

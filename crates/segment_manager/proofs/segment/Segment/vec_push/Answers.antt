@@ -5,8 +5,7 @@ use Rattle.segment_manager.proofs.{containers.VectorAnswers.some-vector, contain
 use Rattle.segment_manager.proofs.segment.Segment.vec_push.Goals as goal
 
 pub push-requires : goal.push-requires
-push-requires g c =
-    some-vector (of-vector g.met.T.Scalar) c.self.view_is _ c.kind.ensures c.at.ensures c.self.invariant
+push-requires g c = some-vector (of-vector g.met.T.Scalar) c.self.view_is _ c.kind.ensures c.at.ensures c.self.invariant
     c.in_ok-place.ensures.at
 
 pub invariant_of-self : goal.invariant_of-self
@@ -19,6 +18,5 @@ returns-in_err-place-clause-step g c =
     not-changed _ _ _ (ap Vector c.kind.ensures) c.from_residual.ensures.1 refl c.in_err-place.ensures
 
 pub returns : goal.returns
-returns g c =
-    told (vector-pushed (of-vector g.met.T.Scalar) c.self.view_is _ c.kind.ensures c.at.ensures c.self.invariant
-    c.in_ok-place.ensures.at _ c.in_ok-place.ensures.writing _ _ c.judge.ensures c.push.ensures)
+returns g c = told (vector-pushed (of-vector g.met.T.Scalar) c.self.view_is _ c.kind.ensures c.at.ensures
+    c.self.invariant c.in_ok-place.ensures.at _ c.in_ok-place.ensures.writing _ _ c.judge.ensures c.push.ensures)

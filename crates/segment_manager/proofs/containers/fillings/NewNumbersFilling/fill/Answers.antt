@@ -5,8 +5,7 @@ use Rattle.segment_manager.proofs.containers.fillings.NewNumbersFilling.fill.Goa
 pub returns : goal.returns
 returns g c =
     let f = c.args.self.now in
-    equal-made g.T.Scalar.kind f.count
-    (g.T.Scalar.whole f.value) c.args.heap.now c.write_elements.new.heap c.args.place c.write.new.to
-    c.requires.stands.0 c.requires.stands.1
-    (sym (g.met.T.Scalar.values f.value) ∙ c.write.ensures.value) (c.write.ensures.bytes
-    ∙ g.met.T.Scalar.spelled f.value) c.write_elements.ensures.change c.write_elements.ensures.content
+    equal-made g.T.Scalar.kind f.count (g.T.Scalar.whole f.value) c.args.heap.now c.write_elements.new.heap c.args.place
+    c.write.new.to c.requires.stands.0 c.requires.stands.1 (sym (g.met.T.Scalar.values f.value)
+    ∙ c.write.ensures.value) (c.write.ensures.bytes ∙ g.met.T.Scalar.spelled f.value)
+    c.write_elements.ensures.change c.write_elements.ensures.content

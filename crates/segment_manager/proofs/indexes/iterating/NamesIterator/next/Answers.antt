@@ -10,8 +10,7 @@ bytes name = name.now
 
 pub returns-in_err-said-clause-steps : goal.returns-in_err-said-clause-steps
 returns-in_err-said-clause-steps c =
-    let old = c.self.inside.instances in
-    let new = c.next.new.self in
+    let old = c.self.inside.instances in let new = c.next.new.self in
     let none = names-end bytes old new c.self.invariant
     (subst (λ (r : Option Instance). GoesOn old r new) c.in_err-said.was c.next.ensures.steps) in
     subst (λ (t : NameWalk). GoesOnNames bytes t c.from_residual.result (names_walk new)) c.self.view_is
@@ -20,8 +19,7 @@ returns-in_err-said-clause-steps c =
 
 pub returns-clause-steps : goal.returns-clause-steps
 returns-clause-steps c =
-    let old = c.self.inside.instances in
-    let new = c.next.new.self in
+    let old = c.self.inside.instances in let new = c.next.new.self in
     subst (λ (t : NameWalk). GoesOnNames bytes t (Some c.in_ok-said.said.name) (names_walk new)) c.self.view_is
     (names-go_on old new c.in_ok-said.said refl c.self.invariant
     (subst (λ (r : Option Instance). GoesOn old r new) c.in_ok-said.was c.next.ensures.steps))

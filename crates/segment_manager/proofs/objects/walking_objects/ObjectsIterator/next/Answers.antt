@@ -21,8 +21,7 @@ instance_here-requires c =
 
 pub returns-in_err-block-clause-steps : goal.returns-in_err-block-clause-steps
 returns-in_err-block-clause-steps c =
-    let w = c.self.inside in
-    let s : ObjectWalk = record { segment = w.segment.now; at = w.at } in
+    let w = c.self.inside in let s : ObjectWalk = record { segment = w.segment.now; at = w.at } in
     let none : GoesOnObjects s None s = record {
       segment = refl;
       place = refl;
@@ -33,8 +32,7 @@ returns-in_err-block-clause-steps c =
 
 pub returns-clause-steps : goal.returns-clause-steps
 returns-clause-steps c =
-    let w = c.self.inside in
-    let old : ObjectWalk = record { segment = w.segment.now; at = w.at } in
+    let w = c.self.inside in let old : ObjectWalk = record { segment = w.segment.now; at = w.at } in
     let new : ObjectWalk = record { segment = w.segment.now; at = w.at + 1 } in
     let goes : GoesOnObjects old (Some c.instance_here.result) new = record {
       segment = refl;

@@ -1,7 +1,9 @@
 -- Bytes that memory has: one list behind another, their fronts and ends, and some of them written over.
-use Rattle.seg_vector.proofs.Words.{◌≡◌, refl, sym, ap, subst, ◌∙◌, inl, inr, ℕ, ◌+◌, ◌*◌, ◌≤◌, List, ◌∷◌, length}
-use Rattle.seg_vector.proofs.Words.{arith, ◌⊎◌, zero, suc, ◌++◌, length-append, ◌-◌, take, drop, length-take}
-use Rattle.seg_vector.proofs.Words.{length-drop, drop_at, Memory, SameBut, Has, read, patched, read-same}
+use Rattle.std.proofs.Common.{◌≡◌, refl, sym, ap, subst, ◌∙◌, inl, inr, ℕ, ◌+◌, ◌*◌, ◌≤◌, List, ◌∷◌, length, arith, ◌⊎◌}
+use Rattle.std.proofs.Common.{zero, suc, ◌++◌, length-append, ◌-◌, take, drop}
+use Rattle.std.proofs.lemmas.List.{length-take, length-drop, drop_at}
+use Rattle.raw_region.specs.Memory.{Memory, SameBut, Has, read, patched}
+use Rattle.raw_region.proofs.Words.{Same-read as read-same}
 
 -- products
 pub more-times : (each m n : ℕ) → m ≤ n → each * m ≤ each * n
@@ -67,13 +69,11 @@ Has-patched {m} {m'} g from bytes more f s h k =
 
 pub length-patch : (bytes : List ℕ) (from : ℕ) (more : List ℕ) → from + length more ≤ length bytes
     → length (patched bytes from more) ≡ length bytes
-length-patch bytes from more f =
-    omega (
-      arith,
-      length-append (take from bytes ++ more) (drop (from + length more) bytes),
-      length-append
-          (take from bytes) more,
-      length-take from bytes,
-      length-drop (from + length more) bytes,
-      f,
-    )
+length-patch bytes from more f = omega (
+  arith,
+  length-append (take from bytes ++ more) (drop (from + length more) bytes),
+  length-append (take from bytes) more,
+  length-take from bytes,
+  length-drop (from + length more) bytes,
+  f,
+)

@@ -71,8 +71,7 @@ front_less (suc n) (x ∷ xs) (y ∷ ys) bx by l = elim (cases_lt x y) [
   | inr not_before ↦ elim (cases_lt y x) [
     | inl behind ↦ absurd (omega (arith, l, higher n y x ys xs by behind))
     | inr not_behind ↦
-        let level : x ≡ y = omega arith in
-        let worth : x * 256 ^ n ≡ y * 256 ^ n = ap (λ (z : ℕ). z * 256 ^ n) level in
+        let level : x ≡ y = omega arith in let worth : x * 256 ^ n ≡ y * 256 ^ n = ap (λ (z : ℕ). z * 256 ^ n) level in
         then_rest x y xs ys Equal (nat_cmp_is x y Equal level) ∙ front_less n xs ys (λ k. bx (suc k)) (λ k. by (suc k))
         (omega (arith, l, big_cons n x xs, big_cons n y ys, worth))
   ]
@@ -90,8 +89,7 @@ front_equal (suc n) (x ∷ xs) (y ∷ ys) bx by e few l = elim (cases_lt x y) [
   | inr not_before ↦ elim (cases_lt y x) [
     | inl behind ↦ absurd (omega (arith, l, higher n y x ys xs by behind))
     | inr not_behind ↦
-        let level : x ≡ y = omega arith in
-        let worth : x * 256 ^ n ≡ y * 256 ^ n = ap (λ (z : ℕ). z * 256 ^ n) level in
+        let level : x ≡ y = omega arith in let worth : x * 256 ^ n ≡ y * 256 ^ n = ap (λ (z : ℕ). z * 256 ^ n) level in
         then_rest x y xs ys Equal (nat_cmp_is x y Equal level) ∙ front_equal n xs ys (λ k. bx (suc k)) (λ k. by (suc k))
         (omega (arith, e)) (omega (arith, few)) (omega (arith, l, big_cons n x xs, big_cons n y ys, worth))
   ]

@@ -1,13 +1,14 @@
 -- Blocks in use, their links, and the entries of an index.
-use Rattle.seg_index.proofs as own
-use own.Common.{◌≡◌, refl, ◌+◌, List, arith, ◌==◌, Some, among, zero, None, holds, Table, Lookup, Found, Absent, order}
-use own.Common.{subst, slice_get, cases_lt, unwrap_or, and_parts, same_role, room-less, IsIndexOf, IsPlaceIn, IndexRole}
-use own.Common.{ℕ, ◌≤◌, [], ◌∷◌, Cut, sym, ap, ◌∙◌, suc, ◌-◌, ◌*◌, ◌%◌, ◌<◌, inl, inr, Key, length, IsTrue, Option}
-use own.Common.{Extent, handle, IsHeap, get_or, insert, remove, Memory, nat_lt, others, serves, AllByRecursion}
-use own.Common.{none-some, length-insert, length-remove, slice_get-get_or, comparisons_in, beside_table, same_Some}
-use own.Common.{extent_at, has_room, live-rises, room_block, KeepTargets, cases_Bool, found-room, is_live_in, current}
-use own.Common.{live_of, link_at, AllLead, AreLinks, leb-true, bytes_of, word_at, order_at, place_of, AreKeys}
-use own.{Changing.changed_used, Changing.changed_touches, Changing.InHeader, Orders.none_left, Orders.same_comparisons}
+use Rattle.seg_index.proofs.Common as common
+use common.{◌≡◌, refl, ◌+◌, List, arith, ◌==◌, Some, among, zero, None, holds, Table, Lookup, Found, Absent, order}
+use common.{subst, slice_get, cases_lt, unwrap_or, and_parts, same_role, room-less, IsIndexOf, IsPlaceIn, IndexRole, ℕ}
+use common.{◌≤◌, [], ◌∷◌, Cut, sym, ap, ◌∙◌, suc, ◌-◌, ◌*◌, ◌%◌, ◌<◌, inl, inr, Key, length, IsTrue, Option, Extent}
+use common.{handle, IsHeap, get_or, insert, remove, Memory, nat_lt, others, serves, AllByRecursion, none-some}
+use common.{length-insert, length-remove, slice_get-get_or, comparisons_in, beside_table, same_Some, extent_at}
+use common.{has_room, live-rises, room_block, KeepTargets, cases_Bool, found-room, is_live_in, current, live_of}
+use common.{link_at, AllLead, AreLinks, leb-true, bytes_of, word_at, order_at, place_of, AreKeys}
+use Rattle.seg_index.proofs.Changing.{changed_used, changed_touches, InHeader}
+use Rattle.seg_index.proofs.Orders.{none_left, same_comparisons}
 use Rattle.std.proofs.lemmas.List.Edits.{get_or-insert_above, get_or-insert_at, get_or-insert_below}
 use Rattle.std.proofs.lemmas.List.Edits.{get_or-remove_above, get_or-remove_below}
 use Rattle.std.proofs.{lemmas.Bool.eqb-true, lemmas.Option.slice_get_within}

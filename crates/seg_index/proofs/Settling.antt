@@ -1,28 +1,27 @@
 -- An index with one entry more or less, in another block, or with no more places than entries.
-use Rattle.seg_index.proofs.Common.{◌≡◌, sym, ap, subst, ◌∙◌, ℕ, ◌+◌, ◌-◌, ◌*◌, ◌%◌, ◌<◌, ◌≤◌, inl, inr, List, length}
-use Rattle.seg_index.proofs.Common.{arith, Option, Some, IfSome, insert, remove, AllByRecursion, length-insert}
-use Rattle.seg_index.proofs.Common.{length-remove, current, Cut, bytes_of, word_at, SameBut-word, link_at, KeepTargets}
-use Rattle.seg_index.proofs.Common.{SameBut-link, Extent, LiveSet, handle, IsChanged, extent_at, live_of, Table}
-use Rattle.seg_index.proofs.Common.{room-less, KeepsRest, beside_table, IsIndexOf, AreEntries, AreLinks, refl, ap₂, ◌^◌}
-use Rattle.seg_index.proofs.Common.{min, IsTrue, None, nat_lt, unwrap_or, and_from, and_parts, leb-true, same_Some}
-use Rattle.seg_index.proofs.Common.{Memory, Role, holds, others, IsAllocated, IsHeap, IsReleased, has_room, is_live_in}
-use Rattle.seg_index.proofs.Common.{same_role, serves, found-room, room_block, IsBlockFor, unlinked, without_link}
-use Rattle.seg_index.proofs.Common.{lt-ltb, IndexRole, ◌==◌, none-some, Same-word, Same-link, released, LaysOut, among}
-use Rattle.seg_index.proofs.Common.{found-new, laid-heap, live-rises, rising-insert}
+use Rattle.seg_index.proofs.Common as common
+use common.{◌≡◌, sym, ap, subst, ◌∙◌, ℕ, ◌+◌, ◌-◌, ◌*◌, ◌%◌, ◌<◌, ◌≤◌, inl, inr, List, length, arith, Option, Some}
+use common.{IfSome, insert, remove, AllByRecursion, length-insert, length-remove, current, Cut, bytes_of, word_at}
+use common.{SameBut-word, link_at, KeepTargets, SameBut-link, Extent, LiveSet, handle, IsChanged, extent_at, live_of}
+use common.{Table, room-less, KeepsRest, beside_table, IsIndexOf, AreEntries, AreLinks, refl, ap₂, ◌^◌, min, IsTrue}
+use common.{None, nat_lt, unwrap_or, and_from, and_parts, leb-true, same_Some, Memory, Role, holds, others, IsAllocated}
+use common.{IsHeap, IsReleased, has_room, is_live_in, same_role, serves, found-room, room_block, IsBlockFor, unlinked}
+use common.{without_link, lt-ltb, IndexRole, ◌==◌, none-some, Same-word, Same-link, released, LaysOut, among, found-new}
+use common.{laid-heap, live-rises, rising-insert}
 use Rattle.seg_index.proofs.Changing.{changed_heap, same_live, keeps_both, InHeader, keeps_words, keeps_written}
 use Rattle.seg_index.proofs.Changing.{others_without, rest_of, rest_others, rest_trans, rest_without, changed_trans}
-use Rattle.seg_index.proofs.{Entries.links_moved, Entries.remove_all, Changing.taken_others}
-use Rattle.seg_index.proofs.Entries.{Placed, beside, leads_from, no_entries, placed, bare, table_cases, remove_links}
-use Rattle.seg_index.proofs.Entries.{found_handle, found_live, inside, entry_here, insert_all, insert_links}
-use Rattle.seg_index.specs.{Capacities.IsShrunk, Capacities.with_cut, Held.IsIndexIn}
+use Rattle.seg_index.proofs.Entries.{links_moved, remove_all, Placed, beside, leads_from, no_entries, placed, bare}
+use Rattle.seg_index.proofs.Entries.{table_cases, remove_links, found_handle, found_live, inside, entry_here}
 use Rattle.seg_index.proofs.Staying.{still_released, still_taken, still_written, meant, not_its_own, taken_block}
+use Rattle.seg_index.proofs.{Changing.taken_others, Entries.insert_all, Entries.insert_links}
+use Rattle.seg_index.specs.{Capacities.IsShrunk, Capacities.with_cut, Held.IsIndexIn}
 use Rattle.best_fit.proofs.Laws.{block_aligned, gaps-header, gaps-payload, gaps-then, keeps-refl, resized-live, Rising}
 use Rattle.best_fit.proofs.Laws.{shorter-IsShorter}
 use Rattle.std.proofs.lemmas.List.{nil_from_length}
-use Rattle.std.specs.Prelude.{option_map}
 use Rattle.std.proofs.lemmas.Bool.{cond-false, cond-true, eq-eqb, le-leb, ne_eqb}
-use Rattle.best_fit.specs.{Heap.IsResized, Heap.IsShortened, Table.cut_table, Table.no_table, Fit.resized, Fit.shorter}
-use Rattle.best_fit.specs.Heap.{KeepsGaps}
+use Rattle.std.specs.Prelude.{option_map}
+use Rattle.best_fit.specs.Heap.{IsResized, IsShortened, KeepsGaps}
+use Rattle.best_fit.specs.{Table.cut_table, Table.no_table, Fit.resized, Fit.shorter}
 
 -- other links in the block, and then their number in the header
 counted : {a b c : Cut} {at block f n place count : ℕ} {t : Table} {hs : List ℕ} (gs : List ℕ) → Placed a at t hs block
@@ -453,8 +452,7 @@ short : (l : LiveSet) (x : Extent) (cap n : ℕ) → n ≤ cap → IsTrue (serve
 short l x cap n few fits =
     let y = shorter l x (8 * n) in let is = shorter-IsShorter l x (8 * n) in
     let two = and_parts (same_role x.role IndexRole) (holds x (8 * cap)) fits in
-    let enough = leb-true (8 * cap + 16) x.len two.1 in
-    let held = is.holds (le-leb (8 * n + 16) x.len (omega arith)) in
+    let enough = leb-true (8 * cap + 16) x.len two.1 in let held = is.holds (le-leb (8 * n + 16) x.len (omega arith)) in
     record {
       begins = ap (λ (z : Extent). handle z) is.same;
       less = is.less;

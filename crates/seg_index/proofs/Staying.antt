@@ -1,13 +1,13 @@
 -- An index stays where its words and its block do, and a growth may still be used; the block that a request took.
-use Rattle.seg_index.proofs as own
-use own.Common.{◌≡◌, refl, ap, subst, ◌∙◌, ℕ, ◌+◌, ◌*◌, ◌≤◌, List, [], ◌∷◌, arith, IsTrue, Option, Some, None, IfSome}
-use own.Common.{AllByRecursion, none-some, same_Some, current, Cut, Same, bytes_of, Same-part, Same-word, Role, link_at}
-use own.Common.{Same-link, Extent, LiveSet, handle, added, others, IsAllocated, IsChanged, IsHeap, IsReleased}
-use own.Common.{SameBlock, extent_at, has_room, live_of, Table, changed-keeps, found-less, laid-heap, released-live}
-use own.Common.{IsIndexOf, AreEntries, sym, ◌-◌, ◌^◌, inl, inr, min, cases_lt, place, serves, allocated-live, found-new}
-use own.Common.{live-rises, rising-insert, IsBlockFor, IndexRole, ◌<◌, capacity_at, grown_capacity, LaysOut, Keeps}
-use own.Entries.{all_found, first, links_moved, long_enough, table_cases, placed}
-use own.Changing.{InHeader, same_live}
+use Rattle.seg_index.proofs.Common as common
+use common.{◌≡◌, refl, ap, subst, ◌∙◌, ℕ, ◌+◌, ◌*◌, ◌≤◌, List, [], ◌∷◌, arith, IsTrue, Option, Some, None, IfSome}
+use common.{AllByRecursion, none-some, same_Some, current, Cut, Same, bytes_of, Same-part, Same-word, Role, link_at}
+use common.{Same-link, Extent, LiveSet, handle, added, others, IsAllocated, IsChanged, IsHeap, IsReleased, SameBlock}
+use common.{extent_at, has_room, live_of, Table, changed-keeps, found-less, laid-heap, released-live, IsIndexOf}
+use common.{AreEntries, sym, ◌-◌, ◌^◌, inl, inr, min, cases_lt, place, serves, allocated-live, found-new, live-rises}
+use common.{rising-insert, IsBlockFor, IndexRole, ◌<◌, capacity_at, grown_capacity, LaysOut, Keeps}
+use Rattle.seg_index.proofs.Entries.{all_found, first, links_moved, long_enough, table_cases, placed}
+use Rattle.seg_index.proofs.Changing.{InHeader, same_live}
 use Rattle.seg_index.specs.{Growth.CanGrow, Growth.IsGrowth, Held.entry_count}
 use Rattle.best_fit.proofs.Laws.{exchange-taken, kept-found, IsFresh, place-serves, too_long}
 use Rattle.best_fit.specs.{Extents.end_of, Fit.insert}

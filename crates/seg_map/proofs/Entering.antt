@@ -1,14 +1,15 @@
 -- The pairs of a map as a search tree.
-use Rattle.seg_map.proofs.Common.{◌≡◌, refl, sym, ap, ◌∙◌, ℕ, ◌+◌, ◌≤◌, ◌≢◌, inl, inr, Bool, true, ◌&&◌, not, List, ◌∷◌}
-use Rattle.seg_map.proofs.Common.{length, map, arith, ◌==◌, Option, Some, None, find, option_map, AllByRecursion}
-use Rattle.seg_map.proofs.Common.{list_all, reverse, and_parts, cases_Bool, eq-eqb, le-leb, leb-true, Memory, Has}
-use Rattle.seg_map.proofs.Common.{bytes_of, read, Cut, Node, link_at, Tree, IsTree, nodes_of, rises, first_not, is_in}
-use Rattle.seg_map.proofs.Common.{last_before, leads, all_from, root_in, tree_same, Extent, LiveSet, handle, cells_of}
-use Rattle.seg_map.proofs.Common.{others, Keeps, SameBlock, extent_at, live_of, value_in, IsKeyTree, keys_in, Pair}
-use Rattle.seg_map.proofs.Common.{IsPairAt, is_rising, HoldsMap, IsPairIn, first_pair, is_passed, last_pair}
-use Rattle.seg_map.proofs.Common.{nodes_of_pairs, pair_node, before_key, comes_before, stands, is_pair_node, key_at}
-use Rattle.seg_map.proofs.Common.{key_of, links_among, own_nodes, pair_cells, stands_before, Chains, IsStrict, Good, In}
-use Rattle.seg_map.proofs.Common.{PairNode-is_pair_node, cells_at, node_block, Plain, [], length-map}
+use Rattle.seg_map.proofs.Common as common
+use common.{◌≡◌, refl, sym, ap, ◌∙◌, ℕ, ◌+◌, ◌≤◌, ◌≢◌, inl, inr, Bool, true, ◌&&◌, not, List, ◌∷◌, length, map, arith}
+use common.{◌==◌, Option, Some, None, find, option_map, AllByRecursion, list_all, reverse, and_parts, cases_Bool}
+use common.{eq-eqb, le-leb, leb-true, Memory, Has, bytes_of, read, Cut, Node, link_at, Tree, IsTree, nodes_of, rises}
+use common.{first_not, is_in, last_before, leads, all_from, root_in, tree_same, Extent, LiveSet, handle, cells_of}
+use common.{others, Keeps, SameBlock, extent_at, live_of, value_in, IsKeyTree, keys_in, Pair, IsPairAt, is_rising}
+use common.{HoldsMap, IsPairIn, first_pair, is_passed, last_pair, nodes_of_pairs, pair_node, before_key, comes_before}
+use common.{stands, is_pair_node, key_at, key_of, links_among, own_nodes, pair_cells, stands_before, Chains, IsStrict}
+use common.{Good, In, PairNode-is_pair_node, cells_at, node_block, Plain, [], length-map}
+use Rattle.seg_map.proofs.PairLists.{HaveKeys, all_reversed, each, each_both, find_mapped, map_reversed}
+use Rattle.seg_map.proofs.{PairLists.nodes_in as pairs_in, PairSteps.all_in, PairSteps.any_at, PairSteps.in_others}
 use Rattle.std.proofs.Common.{◌^◌}
 use Rattle.link_tree.proofs.Laws.{above_more, bits_most, bounds_height, reads_off, tree_limit}
 use Rattle.best_fit.specs.Table.{same_role, serves}
@@ -16,8 +17,6 @@ use Rattle.best_fit.proofs.Laws.{holds_closed}
 use Rattle.seg_types.proofs.Laws.{value-spelled}
 use Rattle.seg_map.specs.PairNodes.{is_block_in, nodes_in}
 use Rattle.seg_map.specs.PairLaws.{comes_irreflexive, comes_transitive, few_extents, handles_length, in_handles}
-use Rattle.seg_map.proofs.PairLists.{HaveKeys, all_reversed, each, each_both, find_mapped, map_reversed}
-use Rattle.seg_map.proofs.{PairSteps.all_in, PairSteps.any_at, PairSteps.in_others, PairLists.nodes_in as pairs_in}
 
 -- the laws of a plain type
 pub record Laws {T : Type 0} (p : Plain T) : Type 0 where

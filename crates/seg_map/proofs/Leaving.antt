@@ -1,18 +1,18 @@
 -- A pair leaves the map, and all of them.
-use Rattle.seg_map.proofs as own
-use own.Common.{◌≡◌, refl, sym, ap, subst, ◌∙◌, ℕ, ◌+◌, ◌≢◌, false, List, length, arith, ◌==◌, IsTrue, Option, Some}
-use own.Common.{None, IfSome, both_ways, eq-eqb, current, Cut, bytes_of, link_at, nodes_of, is_in, without, Extent}
-use own.Common.{LiveSet, handle, released, LaysOut, is_live_in, live_of, found-less, found-room, laid-heap, lay_out_one}
-use own.Common.{roomy, Pair, pair_at, remove_pair, HoldsMap, IsPairIn, nodes_of_pairs, pair_node, own_nodes, Relinked}
-use own.Common.{keys_in, IsErased, IsHeaded, exit_in, ◌⊎◌, ◌<◌, inl, inr, Bool, true, ◌∷◌, map, AllByRecursion}
-use own.Common.{cases_Bool, cases_eq, ne_eqb, word_at, IsTree, Tree, fork, leaf, root_of, root_in, SameBlockBut}
-use own.Common.{is_proper, others, cells_of, extent_at, live-rises, Chains, In, IsStrict, is_key, is_rising}
-use own.Common.{IsBesideMap, Rising, Plain, [], not, or_right, false_from_ne_true}
-use own.PairLists.{without_nodes, in_from, nodes_in, Below, rising_below, rising_rest, each_both, pair_of, in_nodes}
-use own.PairLists.{none_left, other_nodes, removed_all, removed_length, apart_all, removed_rising}
-use own.Entering.{Laws, found_in, good, keys, other_block}
-use own.Staying.{at_node, map_stays, AtNode, beside_then, keeps_beside, relaid}
-use own.{PairSteps.any_at, PairSteps.begins_behind, PairSteps.own_handle, Searching.lent_own, Searching.lent_tree}
+use Rattle.seg_map.proofs.Common as common
+use common.{◌≡◌, both_ways, is_live_in, found-less, found-room, laid-heap, pair_node, own_nodes, cases_Bool, live-rises}
+use common.{refl, bytes_of, nodes_of, released, HoldsMap, IsPairIn, Relinked, IsErased, is_proper, extent_at, is_rising}
+use common.{sym, current, link_at, without, LiveSet, LaysOut, live_of, IsHeaded, cases_eq, cells_of, IsStrict, or_right}
+use common.{ap, lay_out_one, remove_pair, nodes_of_pairs, AllByRecursion, SameBlockBut, IsBesideMap, false_from_ne_true}
+use common.{subst, length, IsTrue, Option, IfSome, eq-eqb, Extent, pair_at, keys_in, exit_in, word_at, root_of, root_in}
+use common.{◌∙◌, ℕ, ◌+◌, ◌≢◌, None, Cut, Pair, ◌⊎◌, ◌<◌, inl, inr, Bool, true, ◌∷◌, map, Tree, fork, leaf, In, [], not}
+use common.{false, List, arith, ◌==◌, Some, is_in, handle, roomy, ne_eqb, IsTree, others, Chains, is_key, Rising, Plain}
+use Rattle.seg_map.proofs.PairLists.{without_nodes, in_from, nodes_in, Below, rising_below, rising_rest, each_both}
+use Rattle.seg_map.proofs.PairLists.{pair_of, in_nodes, none_left, other_nodes, removed_all, removed_length, apart_all}
+use Rattle.seg_map.proofs.Entering.{Laws, found_in, good, keys, other_block}
+use Rattle.seg_map.proofs.Staying.{at_node, map_stays, AtNode, beside_then, keeps_beside, relaid}
+use Rattle.seg_map.proofs.PairSteps.{any_at, begins_behind, own_handle}
+use Rattle.seg_map.proofs.{PairLists.removed_rising, Searching.lent_own, Searching.lent_tree}
 use Rattle.seg_map.specs.{Changing.IsTaken, Changing.IsGivenUp, Linking.CanUnlink}
 use Rattle.best_fit.proofs.Laws.{released-live, others-comm, rising-weak}
 use Rattle.best_fit.specs.{Exchange.exchanged, Exchange.without_all, Heap.IsReleased}

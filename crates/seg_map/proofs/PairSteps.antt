@@ -1,25 +1,23 @@
 -- Blocks of nodes: what is read of them, and what stays where one field of one node changes.
-use Rattle.seg_map.proofs.Common.{Memory, refl, suc, ◌≡◌, ap, ℕ, ◌+◌, ◌-◌, ◌≤◌, inl, inr, ◌&&◌, List, ◌∷◌, length}
-use Rattle.seg_map.proofs.Common.{arith, ◌==◌, IsTrue, Some, find, and_parts, eqb-true, eq-eqb, leb-true, read, Extent}
-use Rattle.seg_map.proofs.Common.{handle, is_proper, has_room, live_of, changed-room, room-less, is_proper-IsProper, In}
-use Rattle.seg_map.proofs.Common.{lies, ne_eqb, passing, subst, allocated-room, Rising, [], sym, ◌∙◌, ◌%◌, ◌<◌, ◌⊎◌}
-use Rattle.seg_map.proofs.Common.{Bool, true, false, nat_lt, nat_le, Option, None, IfSome, if◌then◌else◌}
-use Rattle.seg_map.proofs.Common.{AllByRecursion, list_any, false≢true, both_ways, cases_Bool, cases_eq, or_cases}
-use Rattle.seg_map.proofs.Common.{or_left, or_right, le-leb, ltb-true, lt-ltb, Cut, Same, SamePlace, bytes_of, word_at}
-use Rattle.seg_map.proofs.Common.{current, SameBut-Same, SameBut-word, is_in, leads, all_from, link_at, Same-link}
-use Rattle.seg_map.proofs.Common.{SameBut-link, LiveSet, end_of, others, cells_of, IsChanged, SameBlock, is_live_in}
-use Rattle.seg_map.proofs.Common.{beside_cell, cell_stays, lay_out_one, is_kept, is_link_byte, is_other, is_pair_node}
-use Rattle.seg_map.proofs.Common.{kept_of, key_at, key_of, links_among, pair_cells, Good, PairNode}
-use Rattle.seg_map.proofs.Common.{PairNode-is_pair_node, cells_at, disjoint, is_pair_node-PairNode, node_block}
-use Rattle.seg_map.proofs.Common.{node_place, comes_before, keys_in, stands_before, value_in, Plain, not-true}
+use Rattle.seg_map.proofs.Common as common
+use common.{Memory, List, length, IsTrue, eq-eqb, Extent, word_at, current, link_at, LiveSet, is_kept, kept_of, keys_in}
+use common.{refl, false≢true, cases_Bool, is_live_in, beside_cell, lay_out_one, is_pair_node, links_among, comes_before}
+use common.{suc, handle, ne_eqb, Rising, nat_lt, nat_le, Option, IfSome, le-leb, lt-ltb, end_of, others, key_at, key_of}
+use common.{◌≡◌, ap, ◌+◌, ◌==◌, Some, find, read, lies, subst, Bool, true, false, None, Same, is_in, leads, Good, Plain}
+use common.{ℕ, ◌-◌, ◌≤◌, inl, inr, ◌∷◌, In, [], sym, ◌∙◌, ◌%◌, ◌<◌, ◌⊎◌, Cut}
+use common.{◌&&◌, is_proper, room-less, both_ways, SamePlace, Same-link, cell_stays, pair_cells, node_block, node_place}
+use common.{arith, eqb-true, leb-true, has_room, list_any, cases_eq, or_cases, or_right, ltb-true, IsChanged, SameBlock}
+use common.{and_parts, is_proper-IsProper, allocated-room, AllByRecursion, PairNode-is_pair_node, is_pair_node-PairNode}
+use common.{live_of, changed-room, if◌then◌else◌, SameBut-Same, SameBut-word, SameBut-link, is_link_byte, stands_before}
+use common.{passing, or_left, bytes_of, all_from, cells_of, is_other, PairNode, cells_at, disjoint, value_in, not-true}
 use Rattle.best_fit.proofs.Laws.{legal_size, others-here, others-past}
 use Rattle.best_fit.specs.{Heap.IsRecoloured, Heap.is_node_in, Heap.is_node_role, FreeTree.is_red, Extents.holds}
-use Rattle.std.proofs.{Math.Nat.le_refl, Math.Nat.le_trans, Math.Nat.lt_of_lt_of_le, lemmas.Bool.cases_lt}
-use Rattle.std.proofs.Common.{zero, ◌/◌}
+use Rattle.std.proofs.Math.Nat.{le_refl, le_trans, lt_of_lt_of_le}
+use Rattle.std.proofs.{lemmas.Bool.cases_lt, Common.zero, Common.◌/◌}
+use Rattle.seg_map.specs.PairLaws.{Good-is_good, Place, cells_off, link_parts, links_at, Block}
 use Rattle.seg_map.specs.{declared.reading.Sought.Sought, PairNodes.is_good}
 use Rattle.raw_region.proofs.Laws.{Same-read}
 use Rattle.link_tree.specs.{Nodes.with_left, Nodes.with_right, Nodes.with_red, Tree.Cell}
-use Rattle.seg_map.specs.PairLaws.{Good-is_good, Place, cells_off, link_parts, links_at, Block}
 
 -- no extent begins before the first
 pub begins_behind : (n : ℕ) (zs : List Extent) (x : Extent) → Rising n zs → In x zs → n ≤ x.offset

@@ -1,23 +1,22 @@
 -- What is written of a map, and pairs that are put.
-use Rattle.seg_map.proofs.Common.{◌≡◌, true, Node, Bool, ◌||◌, List, Some, roomy, Pair, ◌&&◌, leads, Good, Same, Keeps}
-use Rattle.seg_map.proofs.Common.{refl, IsAllocated, comes_before, is_pair_node, links_among, beside_cell, changed-room}
-use Rattle.seg_map.proofs.Common.{subst, entry_in, eqb-true, or_cases, or_right, all_from, cells_of, Relinked, cases_eq}
-use Rattle.seg_map.proofs.Common.{◌∙◌, ◌+◌, ◌%◌, inl, Cut, ◌≤◌, Has, sym, ap, ◌≢◌, inr, not, ◌∷◌, put, ◌⊎◌}
-use Rattle.seg_map.proofs.Common.{ℕ, arith, Plain, false, ne_eqb, is_in, Extent, handle, stands, length, eq-eqb, others}
-use Rattle.seg_map.proofs.Common.{IsTrue, Option, LaysOut, live_of, IsMade, IfSome, pair_at, keys_in, IsLoose, or_left}
-use Rattle.seg_map.proofs.Common.{None, IsChanged, laid-heap, entry_same, SameBlock, live-rises, found-room, node_place}
-use Rattle.seg_map.proofs.Common.{current, word_at, link_at, IsPairAt, put_pair, IsPairIn, PairNode, or_parts, not-true}
-use Rattle.seg_map.proofs.Common.{bytes_of, extent_at, IsPlanted, and_parts, has_place, pair_node, own_nodes, IsKeyTree}
-use Rattle.seg_map.proofs.Common.{SameBut-word, SameBut-link, changed-live, SameBut-Same, AllByRecursion, changed-keeps}
-use Rattle.seg_map.proofs.Common.{SamePlace-trans, allocated-room, nodes_of_pairs, stands_before, PairNode-is_pair_node}
-use Rattle.seg_map.proofs.Common.{leaf, has_room, IsHeaded, Has-same, node_len, nodes_of, entry_of, HoldsMap, both_ways}
+use Rattle.seg_map.proofs.Common as common
+use common.{◌≡◌, true, Node, Bool, ◌||◌, List, Some, roomy, Pair, ◌&&◌, leads, Good, Same, Keeps, refl, IsAllocated}
+use common.{comes_before, is_pair_node, links_among, beside_cell, changed-room, subst, entry_in, eqb-true, or_cases}
+use common.{or_right, all_from, cells_of, Relinked, cases_eq, ◌∙◌, ◌+◌, ◌%◌, inl, Cut, ◌≤◌, Has, sym, ap, ◌≢◌, inr, not}
+use common.{◌∷◌, put, ◌⊎◌, ℕ, arith, Plain, false, ne_eqb, is_in, Extent, handle, stands, length, eq-eqb, others}
+use common.{IsTrue, Option, LaysOut, live_of, IsMade, IfSome, pair_at, keys_in, IsLoose, or_left, None, IsChanged}
+use common.{laid-heap, entry_same, SameBlock, live-rises, found-room, node_place, current, word_at, link_at, IsPairAt}
+use common.{put_pair, IsPairIn, PairNode, or_parts, not-true, bytes_of, extent_at, IsPlanted, and_parts, has_place}
+use common.{pair_node, own_nodes, IsKeyTree, SameBut-word, SameBut-link, changed-live, SameBut-Same, AllByRecursion}
+use common.{changed-keeps, SamePlace-trans, allocated-room, nodes_of_pairs, stands_before, PairNode-is_pair_node, leaf}
+use common.{has_room, IsHeaded, Has-same, node_len, nodes_of, entry_of, HoldsMap, both_ways}
 use Rattle.seg_map.proofs.Entering.{other_block, Laws, found_in, keys, good, keys_among, key_is, pair_block, pair_parts}
 use Rattle.seg_map.proofs.Entering.{tree_among, with_bytes}
 use Rattle.seg_map.proofs.Staying.{at_node, block_cells, map_over, pair_stays, beside_then, keeps_beside, map_stays}
 use Rattle.seg_map.proofs.PairLists.{replaced_nodes, replaced_rising, in_nodes, not_among, place_of, put_all}
 use Rattle.seg_map.proofs.PairLists.{put_length, put_nodes, put_rising, HaveKeys, keys_agree, known}
 use Rattle.seg_map.proofs.PairLists.{beside as not_beside, each, each_both, pair_of, replaced_all}
-use Rattle.seg_map.proofs.{Searching.lent_own, PairSteps.all_in, Staying.relaid}
+use Rattle.seg_map.proofs.{Staying.relaid, Searching.lent_own, PairSteps.all_in}
 use Rattle.seg_map.specs.Changing.{IsNew, IsPut, IsPutAgain, CanPutIn, PutsIn}
 use Rattle.seg_map.specs.Linking.{CanLink}
 use Rattle.raw_region.proofs.Laws.{SameBut-trans, SameBut-wider}

@@ -1,16 +1,15 @@
 -- What stays of a map and beside it, and the map whose tree is changed and whose three words are written.
-use Rattle.seg_map.proofs.Common.{Some, extent_at, is_proper, both_ways, false≢true, holds_same, cell_stays, length-map}
-use Rattle.seg_map.proofs.Common.{SamePlace-trans, IsTrue, AllByRecursion, PairNode-is_pair_node, is_pair_node-PairNode}
-use Rattle.seg_map.proofs.Common.{Same-trans, IsBesideMap, has_room, node_place, pair_cells, SameBlockBut, changed-live}
-use Rattle.seg_map.proofs.Common.{◌≡◌, arith, is_in, Keeps, subst, Option, leads, Plain, Memory, IsHeap, others, IfSome}
-use Rattle.seg_map.proofs.Common.{refl, bytes_of, is_other, PairNode, nodes_of, Relinked, or_cases, eqb-true, laid-heap}
-use Rattle.seg_map.proofs.Common.{ap, ◌∙◌, ◌+◌, ◌||◌, List, ◌==◌, Good, Tree, bits, Same, Pair, None, leaf, fork, roomy}
-use Rattle.seg_map.proofs.Common.{ℕ, ◌-◌, ◌%◌, ◌<◌, ◌≤◌, ◌⊎◌, inl, inr, not, ◌∷◌, Cut, In, sym, ◌*◌, ◌≢◌, []}
-use Rattle.seg_map.proofs.Common.{true, or_left, word_at, live_of, is_kept, kept_of, keys_in, current, LiveSet, root_of}
-use Rattle.seg_map.proofs.Common.{false, Has-same, cells_of, IsPairAt, HoldsMap, IsPairIn, cases_eq, cells_at, IsHeaded}
-use Rattle.seg_map.proofs.Common.{◌&&◌, nat_lt, nat_le, eq-eqb, le-leb, lt-ltb, Extent, handle, end_of, length, LaysOut}
-use Rattle.seg_map.proofs.Common.{or_right, SameBlock, IsKeyTree, Same-word, Same-link, is_rising, pair_node, tree_same}
-use Rattle.seg_map.proofs.Common.{is_link_byte, IsSearchTree, comes_before, is_pair_node, nodes_of_pairs, changed-keeps}
+use Rattle.seg_map.proofs.Common as common
+use common.{Some, extent_at, is_proper, both_ways, false≢true, holds_same, cell_stays, length-map, SamePlace-trans}
+use common.{IsTrue, AllByRecursion, PairNode-is_pair_node, is_pair_node-PairNode, Same-trans, IsBesideMap, has_room}
+use common.{node_place, pair_cells, SameBlockBut, changed-live, ◌≡◌, arith, is_in, Keeps, subst, Option, leads, Plain}
+use common.{Memory, IsHeap, others, IfSome, refl, bytes_of, is_other, PairNode, nodes_of, Relinked, or_cases, eqb-true}
+use common.{laid-heap, ap, ◌∙◌, ◌+◌, ◌||◌, List, ◌==◌, Good, Tree, bits, Same, Pair, None, leaf, fork, roomy, ℕ, ◌-◌}
+use common.{◌%◌, ◌<◌, ◌≤◌, ◌⊎◌, inl, inr, not, ◌∷◌, Cut, In, sym, ◌*◌, ◌≢◌, [], true, or_left, word_at, live_of}
+use common.{is_kept, kept_of, keys_in, current, LiveSet, root_of, false, Has-same, cells_of, IsPairAt, HoldsMap}
+use common.{IsPairIn, cases_eq, cells_at, IsHeaded, ◌&&◌, nat_lt, nat_le, eq-eqb, le-leb, lt-ltb, Extent, handle}
+use common.{end_of, length, LaysOut, or_right, SameBlock, IsKeyTree, Same-word, Same-link, is_rising, pair_node}
+use common.{tree_same, is_link_byte, IsSearchTree, comes_before, is_pair_node, nodes_of_pairs, changed-keeps}
 use Rattle.seg_map.proofs.PairSteps.{any_at, block_apart, same_red, all_in, target_whole}
 use Rattle.seg_map.proofs.Entering.{Laws, pair_parts, found_in, other_block}
 use Rattle.seg_map.proofs.PairLists.{each, each_both, AreAt, AreIn, removed_length, in_from, nodes_in}

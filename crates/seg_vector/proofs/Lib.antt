@@ -11,7 +11,6 @@ pub mod TextsLaid
 pub mod Laws
 pub use Words.*
 pub use Runs.*
-pub use Bytes.*
 pub use Storage.*
 pub use Fewer.*
 pub use Typed.*

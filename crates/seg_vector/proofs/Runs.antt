@@ -226,8 +226,7 @@ pub block-written : {a b : Cut} {x : Extent} {from n : ℕ} (k : ℕ) → IsHeap
     → extent_at (live_of a.bytes) (handle x) ≡ Some x → IsChanged current a b from n → handle x ≤ from
     → from + n ≤ handle x + k → k + 16 ≤ x.len → IsSwapped a b (x ∷ []) (x ∷ [])
 block-written {a} {b} {x} {from} {n} k heap found c low high fits =
-    let l = live_of a.bytes in
-    let i = all-in-use (x ∷ []) l.extents (live-rises l heap.proper) (tt, tt) (found, tt) in
+    let l = live_of a.bytes in let i = all-in-use (x ∷ []) l.extents (live-rises l heap.proper) (tt, tt) (found, tt) in
     exchange-written _ a b x (without_all (x ∷ []) l.extents) k from n 0 0 heap i.is
     (found-room l (handle x) k x found fits) c low high
 

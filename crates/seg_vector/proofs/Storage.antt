@@ -427,8 +427,7 @@ pub read-all : (c : Cut) {p : Place} {each len : ℕ} (k : ℕ) {g : ℕ} {t : T
     → Stands c.bytes p each len t bytes → k ≡ len → link_at (bytes_of c.bytes) (place_at p) ≡ Some g
     → out ≡ payload_at c.bytes (live_of c.bytes) g → take (each * k) out ≡ bytes
 read-all c {each} {len} k {g} out s is link e =
-    let n : ℕ = each * len in
-    let r = room_block c g n s.heap (some-room n s link (elements-fit len s (omega arith))) in
+    let n : ℕ = each * len in let r = room_block c g n s.heap (some-room n s link (elements-fit len s (omega arith))) in
     ap (λ j. take (each * j) out) is ∙ ap (take n) (e ∙ block_payload c g r.block) ∙ take-take n
     (r.block.tile.len - 16) (drop g c.bytes) (omega (arith, r.enough))
     ∙ sym (read-part c.bytes g n (omega (arith, r.enough, r.block.inside, r.block.at)))

@@ -460,8 +460,7 @@ text-set {s0} {s1} {mid} {s3} {p} {ps} {c} {len} {o = Some x} {q} {block = block
       below,
     ) in
     let len_set : length (slice_set ps i z) ≡ n = ap (λ (xs : List OwnedText). length xs) qs_is ∙ len_qs in
-    let apart1 = others-front z.extent gone (run-others r1) in
-    let from_gone = λ (y : Extent). IsNone (handle y) gone in
+    let apart1 = others-front z.extent gone (run-others r1) in let from_gone = λ (y : Extent). IsNone (handle y) gone in
     let from_text = all-as from_gone (λ (y : Extent). IsNone (handle y) eb) (λ y d. d.1) ez apart1 in
     let from_array = all-as from_gone (λ (y : Extent). IsNone (handle y) (x ∷ [])) (λ y d. (d.0, tt)) ez apart1 in
     let t2 = loose-kept z.bytes z.extent r1.heap y found1.0 from_text pl.served pl.owned in

@@ -8,12 +8,13 @@ use W.{exchange-order, exchange-released, exchange-resized, exchange-taken, foun
 use W.{live-rises, middle-first, place-serves, regrow-serves, spread-refl, found-room, two-apart, laid-heap, Place}
 use W.{place_at, AreSameElements, IsAdopted, IsAsked, IsWithoutFit, IsSwapped, taken, widened, AreEvenLinks, IsReady}
 use W.{TakesStorage, AreOthers, IsTexts, IsTextsNow, AreTextLinks, OwnedText, [], IsPointed, blocks-trans}
-use Rattle.seg_vector.proofs as own
-use own.Runs.{AreHeadWords, IsHead, IsRun, beside-head, block-written, none-some, run-found, run-headed, run-swapped}
-use own.Runs.{same-some, serves-full, table, all-kept, stands-none-of, stands-run, table-full}
-use own.TextBlocks.{all-split, element-in, element-trans, even-block, even-held, links-moved, run-begin, swapped-none}
-use own.Storage.{grown-more, grown-same, regrow-new, storage-role, too-many}
-use own.{TextBlocks.texts-between, TextCalls.held-elements, TextCalls.run-others, TextCalls.texts-stand}
+use Rattle.seg_vector.proofs.Runs.{AreHeadWords, IsHead, IsRun, beside-head, block-written, none-some, run-found}
+use Rattle.seg_vector.proofs.Runs.{run-headed, run-swapped, same-some, serves-full, table, all-kept, stands-none-of}
+use Rattle.seg_vector.proofs.Runs.{stands-run, table-full}
+use Rattle.seg_vector.proofs.TextBlocks.{all-split, element-in, element-trans, even-block, even-held, links-moved}
+use Rattle.seg_vector.proofs.TextBlocks.{run-begin, swapped-none, texts-between}
+use Rattle.seg_vector.proofs.Storage.{grown-more, grown-same, regrow-new, storage-role, too-many}
+use Rattle.seg_vector.proofs.TextCalls.{held-elements, run-others, texts-stand}
 use Rattle.best_fit.specs.Fit.{regrow}
 use Rattle.seg_vector.specs.Vector.{grown_table}
 use Rattle.seg_vector.proofs.Words as W
@@ -142,8 +143,7 @@ adopt-place {first} {old} {new} {p} {ps} {t} {g} {n} {loose} s more q d =
     record { link = d.link ∙ ap (λ k. Some k) q.at; len_word = d.len_word ∙ r.words.len_word; capacity = d.capacity } in
     let found = all-split (IsFound (live_of old.bytes).extents) loose (y ∷ []) (run-found r) in
     let none = all-split (λ (z : Extent). p.handle ≢ handle z) loose (y ∷ []) (stands-none-of (texts-stand s) r) in
-    let k = beside-head (handle y) r.heap r.head c found.1.0 none.1.0 in
-    let full = serves-full y (16 * n) q.serving in
+    let k = beside-head (handle y) r.heap r.head c found.1.0 none.1.0 in let full = serves-full y (16 * n) q.serving in
     let links = links-moved (bytes_of old.bytes) (bytes_of new.bytes) (handle y) (handle y) ps q.links
     (λ j f. element-in (handle y + 16 * j) k (omega arith) (omega (arith, f, fits, more, full))) in
     record {

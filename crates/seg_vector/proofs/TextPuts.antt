@@ -270,8 +270,7 @@ first-put {old} {ps} {t} {bytes} w =
     let l = live_of old.bytes in
     record {
       text = λ f none.
-          let tables : Some t ≡ Some w.table = sym (same-grown-one l ps t f) ∙ w.grown in
-          let same : t ≡ w.table = cc in
+          let tables : Some t ≡ Some w.table = sym (same-grown-one l ps t f) ∙ w.grown in let same : t ≡ w.table = cc in
           let placed : placed_text l bytes ≡ Some w.text = ap (λ s. placed_text s bytes) (sym (array-is l t))
           ∙ ap (λ (u : Table). placed_text (with_array l t u) bytes) same ∙ w.placed in
           let both = sym placed ∙ none in

@@ -19,6 +19,8 @@ pub use Rattle.best_fit.specs.Heap.{IsChanged, IsHeap, LaysOut, SameBlock, exten
 pub use Rattle.best_fit.specs.Heap.{IsResized, IsShortened, IsAllocated, KeepsGaps, is_live_in, payload_at}
 pub use Rattle.best_fit.specs.Table.{Table, is_table, serves, same_role, table_link, no_table}
 pub use Rattle.best_fit.specs.Fit.{place, shorter, others, resized, longer}
+pub use Rattle.raw_region.proofs.Bytes.{Has-append, Has-beside, Has-drop, Has-patched, Has-take, length-patch}
+pub use Rattle.raw_region.proofs.Bytes.{length-read, more-times}
 pub use Rattle.block_tags.specs.{Format.is_legal_size, declared.tile.Role.Role, declared.tile.Role.TheVariants.Storage}
 pub use Rattle.offset_link.proofs.Laws.{SameBut-link}
 pub use Rattle.offset_link.specs.Link.{link_at, target_of}

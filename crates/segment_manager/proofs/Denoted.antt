@@ -1,17 +1,19 @@
 -- What the bytes denote after one object is added, removed or changed, also where its index is written too.
-use Rattle.segment_manager.proofs as own
-use own.Common.{◌≡◌, refl, sym, ap, subst, ◌∙◌, ℕ, suc, ◌+◌, ◌≢◌, Bool, ◌&&◌, List, [], ◌∷◌, length, arith, IsTrue}
-use own.Common.{nat_le, AllByRecursion, Memory, Cut, Same, bytes_of, Extent, LiveSet, handle, is_proper, LaysOut}
-use own.Common.{SameBlock, Keeps, Table, is_table, Anonymous, IsIndexAt, Object, Directory, IsDirectory, live}
-use own.Common.{extents_of, value_extents, table_extents, is_object, is_index, rises, remove_object, with_object}
-use own.Common.{with_changed, without_object, named_objects, unique_objects, by_name, by_kind, Denotes, IsObjectAt}
-use own.Common.{IsHeader, handles, Same-part, flat_map, list_all, rises_from}
-use own.Faces.{IsLike, replace-rises, anonymous-named, anonymous-unique, ordered-with, ordered-without, ordered-changed}
-use own.objects.ObjectLists.{all-put, all-remove, all-replace, list_all-put, list_all-remove, list_all-replace}
-use own.objects.ObjectLists.{stands_apart, put-rises, remove-rises}
-use own.{Order.Differs, Order.inserted, Order.live-rises, Live.removing, Live.of_each, Live.IsFound, Live.live-put}
-use own.{Order.rising-insert, Live.adding, Live.live-without, Faces.by_name-face, Faces.by_kind-face, Frame.header-same}
-use own.{Order.all_of-inserted, Live.IsIn, Frame.any_objects-same, Frame.any_index-same, indexes.Indexes.directory-less}
+use Rattle.segment_manager.proofs.Common as common
+use common.{◌≡◌, refl, sym, ap, subst, ◌∙◌, ℕ, suc, ◌+◌, ◌≢◌, Bool, ◌&&◌, List, [], ◌∷◌, length, arith, IsTrue, nat_le}
+use common.{AllByRecursion, Memory, Cut, Same, bytes_of, Extent, LiveSet, handle, is_proper, LaysOut, SameBlock, Keeps}
+use common.{Table, is_table, Anonymous, IsIndexAt, Object, Directory, IsDirectory, live, extents_of, value_extents}
+use common.{table_extents, is_object, is_index, rises, remove_object, with_object, with_changed, without_object}
+use common.{named_objects, unique_objects, by_name, by_kind, Denotes, IsObjectAt, IsHeader, handles, Same-part}
+use common.{flat_map, list_all, rises_from}
+use Rattle.segment_manager.proofs.Faces.{IsLike, replace-rises, anonymous-named, anonymous-unique, ordered-with}
+use Rattle.segment_manager.proofs.Faces.{ordered-without, ordered-changed, by_name-face, by_kind-face}
+use Rattle.segment_manager.proofs.objects.ObjectLists.{all-put, all-remove, all-replace, list_all-put, list_all-remove}
+use Rattle.segment_manager.proofs.objects.ObjectLists.{list_all-replace, stands_apart, put-rises, remove-rises}
+use Rattle.segment_manager.proofs.Order.{Differs, inserted, live-rises, rising-insert, all_of-inserted}
+use Rattle.segment_manager.proofs.Live.{removing, of_each, IsFound, live-put, adding, live-without, IsIn}
+use Rattle.segment_manager.proofs.Frame.{header-same, any_objects-same, any_index-same}
+use Rattle.segment_manager.proofs.indexes.Indexes.{directory-less}
 use Rattle.raw_region.proofs.Facts.{first, second, no_more}
 use Rattle.block_tags.specs.declared.tile.Role.TheVariants.{Index}
 use Rattle.seg_types.specs.declared.kinds.Class.TheVariants.{Named, Unique}

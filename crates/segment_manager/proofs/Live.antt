@@ -1,13 +1,12 @@
 -- What the live set is after a change of the directory.
-use Rattle.segment_manager.proofs.Common.{◌≡◌, refl, sym, ap, subst, ◌∙◌, ℕ, ◌≢◌, Bool, true, false, ◌==◌, Some, List}
-use Rattle.segment_manager.proofs.Common.{[], ◌∷◌, ◌++◌, append_assoc, if◌then◌else◌, cond, IsTrue, nat_lt, find}
-use Rattle.segment_manager.proofs.Common.{flat_map, AllByRecursion, eqb-true, eq-eqb, ne_eqb, Extent, LiveSet, handle}
-use Rattle.segment_manager.proofs.Common.{is_proper, ByHandle, Object, Directory, sorted, live, extents_of}
-use Rattle.segment_manager.proofs.Common.{table_extents, has_key, put_object, remove_object, replace_object}
-use Rattle.segment_manager.proofs.Common.{with_object, with_changed, without_object}
-use Rattle.raw_region.proofs.Facts.{AllByRecursion-front, AllByRecursion-behind}
+use Rattle.segment_manager.proofs.Common as common
+use common.{◌≡◌, refl, sym, ap, subst, ◌∙◌, ℕ, ◌≢◌, Bool, true, false, ◌==◌, Some, List, [], ◌∷◌, ◌++◌, append_assoc}
+use common.{if◌then◌else◌, cond, IsTrue, nat_lt, find, flat_map, AllByRecursion, eqb-true, eq-eqb, ne_eqb, Extent}
+use common.{LiveSet, handle, is_proper, ByHandle, Object, Directory, sorted, live, extents_of, table_extents, has_key}
+use common.{put_object, remove_object, replace_object, with_object, with_changed, without_object}
 use Rattle.segment_manager.proofs.Order.{Apart, Rising, inserted, inserted-comm, sorted-append, all_of-sorted}
 use Rattle.segment_manager.proofs.Order.{live-rises, rising-inserted, apart-inserted, without_all, without-inserted}
+use Rattle.raw_region.proofs.Facts.{AllByRecursion-front, AllByRecursion-behind}
 
 -- the extents of these objects, and of the tables t, by offset
 abbrev pub spread : List Object → List Extent → List Extent

@@ -1,10 +1,10 @@
 -- What only reads leaves the directory, and a step leads on.
-use Rattle.segment_manager.proofs as own
-use own.Common.{◌≡◌, refl, sym, ap, subst, Bool, false, Option, Some, None, Result, Ok, Err, false≢true, Extent}
-use own.Common.{LiveSet, resized, Refusal, NoSpace, Kind, Key, Command, is_changing, Mode, Directory, live, Answer}
-use own.Common.{Refused, refusal_of, Plan, met, perform, plan, step, step_of_kind, State, StandsFor, IsStep, LeadsOn}
-use own.Refusals.{Leaves, by_change, by_other, by_refusal, by_request, by_same, plan-leaves, plan_of_kind-leaves}
-use own.{Common.answer_of, Common.refusal_in, Refusals.step-refused}
+use Rattle.segment_manager.proofs.Common as common
+use common.{◌≡◌, sym, subst, Bool, false, Some, None, Ok, Err, Kind, Key, Mode, live, Plan, met, plan, step, State}
+use common.{refl, Option, Result, Extent, resized, Refusal, NoSpace, Command, Answer, Refused, perform, IsStep, LeadsOn}
+use common.{ap, false≢true, LiveSet, is_changing, Directory, refusal_of, step_of_kind, StandsFor, answer_of, refusal_in}
+use Rattle.segment_manager.proofs.Refusals.{Leaves, by_change, by_other, by_refusal, by_request, by_same, plan-leaves}
+use Rattle.segment_manager.proofs.Refusals.{plan_of_kind-leaves, step-refused}
 
 asked-reads : {d : Directory} (o : Option Extent) (after : Extent → Answer × Directory) → ((x : Extent)
     → (after x).1 ≡ d) → (elim o as (λ _. Answer × Directory) [ None ↦ (Refused NoSpace, d) | Some x ↦ after x ]).1 ≡ d

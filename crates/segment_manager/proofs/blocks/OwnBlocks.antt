@@ -1,18 +1,16 @@
 -- Which handles are those of objects, and that the blocks of objects among those of a live set are those of the
 -- directory's objects, in its order.
-use Rattle.segment_manager.proofs.Common.{◌≡◌, sym, ◌∙◌, ℕ, suc, ◌*◌, ◌∷◌, map}
-use Rattle.segment_manager.proofs.Common.{refl, arith, holds, Table, Value, Bytes, Pairs, Texts, Object, sorted, rises}
-use Rattle.segment_manager.proofs.Common.{ap, value_extents, table_extents, is_good_value, has_own_block, is_owned_text}
-use Rattle.segment_manager.proofs.Common.{Bool, true, ◌&&◌, ◌||◌, ◌==◌, Some, None, List, ◌++◌, cond, find, Node, live}
-use Rattle.segment_manager.proofs.Common.{false, IsTrue, nat_lt, nat_le, int_lt, eq-eqb, ne_eqb, Extent, handle, serves}
-use Rattle.segment_manager.proofs.Common.{Option, length, Storage, size_of, Numbers, has_key, kind_of, by_name, by_kind}
-use Rattle.segment_manager.proofs.Common.{[], list_all, list_any, OwnedText, is_rising, Directory, object_at, is_object}
-use Rattle.segment_manager.proofs.Common.{if◌then◌else◌, option_to_list, AllByRecursion, is_number_pair, unique_objects}
-use Rattle.segment_manager.proofs.Common.{flat_map, eqb-false, and_right, same_role, NumberPair, extents_of, object_len}
-use Rattle.segment_manager.proofs.Common.{is_some, eqb-true, is_table, ByHandle, is_value, node_len, Elements, is_index}
-use Rattle.segment_manager.proofs.Common.{ObjectRole, ScalarKind, is_kind_of, IsDirectory, has_good_name, named_objects}
-use Rattle.raw_region.proofs.Facts.{first, second, AllByRecursion-append}
+use Rattle.segment_manager.proofs.Common as common
+use common.{◌≡◌, sym, ◌∙◌, ℕ, suc, ◌*◌, ◌∷◌, map, refl, arith, holds, Table, Value, Bytes, Pairs, Texts, Object, sorted}
+use common.{rises, ap, value_extents, table_extents, is_good_value, has_own_block, is_owned_text, Bool, true, ◌&&◌}
+use common.{◌||◌, ◌==◌, Some, None, List, ◌++◌, cond, find, Node, live, false, IsTrue, nat_lt, nat_le, int_lt, eq-eqb}
+use common.{ne_eqb, Extent, handle, serves, Option, length, Storage, size_of, Numbers, has_key, kind_of, by_name}
+use common.{by_kind, [], list_all, list_any, OwnedText, is_rising, Directory, object_at, is_object, if◌then◌else◌}
+use common.{option_to_list, AllByRecursion, is_number_pair, unique_objects, flat_map, eqb-false, and_right, same_role}
+use common.{NumberPair, extents_of, object_len, is_some, eqb-true, is_table, ByHandle, is_value, node_len, Elements}
+use common.{is_index, ObjectRole, ScalarKind, is_kind_of, IsDirectory, has_good_name, named_objects}
 use Rattle.segment_manager.proofs.{Live.tables_of, Live.live-extents, blocks.Blocks.own-block}
+use Rattle.raw_region.proofs.Facts.{first, second, AllByRecursion-append}
 use Rattle.std.proofs.lemmas.List.Folds.{list_any-append}
 use Rattle.block_tags.specs.{declared.tile.Role.TheVariants.Index, Tiles.role_bits}
 use Rattle.best_fit.specs.Fit.{insert}

@@ -1,15 +1,14 @@
 -- The blocks of objects among all blocks and gaps.
-use Rattle.segment_manager.proofs.Common.{◌≡◌, refl, sym, ap, ◌∙◌, ℕ, Bool, true, false, ◌&&◌, ◌==◌, Some, None, List}
-use Rattle.segment_manager.proofs.Common.{[], ◌∷◌, ◌++◌, map, arith, if◌then◌else◌, cond, IsTrue, nat_lt}
-use Rattle.segment_manager.proofs.Common.{AllByRecursion, list_all, eq-eqb, Extent, handle, Object, Directory}
-use Rattle.segment_manager.proofs.Common.{IsDirectory, live, sorted, value_extents, table_extents, is_object}
-use Rattle.segment_manager.proofs.Common.{named_objects, unique_objects, by_name, by_kind, subst, ◌+◌, ◌-◌, ◌<◌, ◌≤◌}
-use Rattle.segment_manager.proofs.Common.{filter, ltb-false, end_of, rises_from, is_own, is_own_span, own_spans}
+use Rattle.segment_manager.proofs.Common as common
+use common.{◌≡◌, refl, sym, ap, ◌∙◌, ℕ, Bool, true, false, ◌&&◌, ◌==◌, Some, None, List, [], ◌∷◌, ◌++◌, map, arith}
+use common.{if◌then◌else◌, cond, IsTrue, nat_lt, AllByRecursion, list_all, eq-eqb, Extent, handle, Object, Directory}
+use common.{IsDirectory, live, sorted, value_extents, table_extents, is_object, named_objects, unique_objects, by_name}
+use common.{by_kind, subst, ◌+◌, ◌-◌, ◌<◌, ◌≤◌, filter, ltb-false, end_of, rises_from, is_own, is_own_span, own_spans}
 use Rattle.segment_manager.proofs.Live.{tables_of, live-extents, spread, spread-cons}
 use Rattle.segment_manager.proofs.blocks.OwnBlocks.{NonePasses, none-append, is_object_block, index-none, object-told}
-use Rattle.segment_manager.proofs.{Order.inserted, blocks.OwnBlocks.table-of}
+use Rattle.segment_manager.proofs.{blocks.OwnBlocks.table-of, Order.inserted, Order.all-sorted}
+use Rattle.segment_manager.proofs.{objects.ObjectLists.rises-rest, indexes.Indexes.rises-above}
 use Rattle.raw_region.proofs.Facts.{first, second}
-use Rattle.segment_manager.proofs.{objects.ObjectLists.rises-rest, indexes.Indexes.rises-above, Order.all-sorted}
 use Rattle.best_fit.specs.{Fit.insert, Extents.Span, Extents.span_between, Extents.spans_from}
 use Rattle.std.proofs.lemmas.List.Elements.{filter-append}
 

@@ -1,22 +1,21 @@
 -- The walk over the blocks and gaps that stops at those of objects, for each directory that the bytes stand for.
-use Rattle.segment_manager.proofs.Common.{◌≡◌, refl, sym, ap, subst, ◌∙◌, ℕ, zero, suc, ◌+◌, ◌-◌, ◌≤◌, Bool, true}
-use Rattle.segment_manager.proofs.Common.{false, Some, None, Option, List, [], ◌∷◌, length, map, arith, cond, ◌/◌, ◌<◌}
-use Rattle.segment_manager.proofs.Common.{take, IsTrue, filter, is_some, option_map, slice_get, nat_lt, AllByRecursion}
-use Rattle.segment_manager.proofs.Common.{none-some, same_Some, slice_get_within, length-map, current, Memory, bytes_of}
-use Rattle.segment_manager.proofs.Common.{is_legal_size, Tile, tiles_of, Extent, LiveSet, end_of, handle, is_proper}
-use Rattle.segment_manager.proofs.Common.{proper_from, spans, legal_size, ByHandle, Instance, Object, Directory, live}
-use Rattle.segment_manager.proofs.Common.{object_at, rises_from, is_object_at, IsInstance, SaysAt, SaysOf, is_own}
-use Rattle.segment_manager.proofs.Common.{is_own_span, own_spans, Answers, IsSegment, State, StandsFor}
+use Rattle.segment_manager.proofs.Common as common
+use common.{◌≡◌, refl, sym, ap, subst, ◌∙◌, ℕ, zero, suc, ◌+◌, ◌-◌, ◌≤◌, Bool, true, false, Some, None, Option, List}
+use common.{[], ◌∷◌, length, map, arith, cond, ◌/◌, ◌<◌, take, IsTrue, filter, is_some, option_map, slice_get, nat_lt}
+use common.{AllByRecursion, none-some, same_Some, slice_get_within, length-map, current, Memory, bytes_of}
+use common.{is_legal_size, Tile, tiles_of, Extent, LiveSet, end_of, handle, is_proper, proper_from, spans, legal_size}
+use common.{ByHandle, Instance, Object, Directory, live, object_at, rises_from, is_object_at, IsInstance, SaysAt}
+use common.{SaysOf, is_own, is_own_span, own_spans, Answers, IsSegment, State, StandsFor}
 use Rattle.segment_manager.proofs.objects.ObjectLists.{rises-front, rises-rest}
-use Rattle.raw_region.proofs.Facts.{second, first, AllByRecursion-filter, none_more}
 use Rattle.segment_manager.proofs.blocks.OwnSpans.{all-own_spans, as_used, blocks, own-blocks}
 use Rattle.segment_manager.proofs.{indexes.Bridge.each-by_handle, Calling.denotes-live, indexes.EntryPlaces.all-at}
+use Rattle.raw_region.proofs.Facts.{second, first, AllByRecursion-filter, none_more}
 use Rattle.std.proofs.Common.{add-one}
 use Rattle.block_tags.specs.Tiles.{tile_at, tiles_from}
 use Rattle.best_fit.specs.Extents.{Span as LiveSpan}
 use Rattle.best_fit.proofs.Laws.{proper_from-IsFirst, proper_from-reaches}
 use Rattle.segment_manager.specs.indexes.Iterating.{GoesOnOwn, GoesOnTiles, HasPassed, IsOwnBlock, TileWalk, own_before}
-use Rattle.segment_manager.specs.{declared.blocks.tiles.Span.Span, Calls.as_span, indexes.Iterating.own_count}
+use Rattle.segment_manager.specs.{indexes.Iterating.own_count, declared.blocks.tiles.Span.Span, Calls.as_span}
 
 -- ---- places among those that pass
 

@@ -1,10 +1,11 @@
 -- What the bytes stand for where the end of the heap moves, and then the size is written.
-use Rattle.segment_manager.proofs as own
-use own.Common.{◌≡◌, refl, sym, ap, subst, ◌∙◌, ℕ, ◌+◌, ◌≤◌, inl, inr, List, length, arith, AllByRecursion, Cut, Same}
-use own.Common.{bytes_of, word_at, current, Same-part, Same-word, LiveSet, IsChanged, LaysOut, SameBlock, live_of}
-use own.Common.{blocks-trans, lay_out_one, Directory, by_kind, by_name, live, named_objects, unique_objects, Denotes}
-use own.Common.{IsHeader, Resizes, grown, shrunk, IsSegment, StandsFor, State}
-use own.{Calling.denotes-live, Denoted.index-stays, Frame.any_objects-same, Live.live-size, Live.of_each}
+use Rattle.segment_manager.proofs.Common.{◌≡◌, refl, sym, ap, subst, ◌∙◌, ℕ, ◌+◌, ◌≤◌, inl, inr, List, length, arith}
+use Rattle.segment_manager.proofs.Common.{AllByRecursion, Cut, Same, bytes_of, word_at, current, Same-part, Same-word}
+use Rattle.segment_manager.proofs.Common.{LiveSet, IsChanged, LaysOut, SameBlock, live_of, blocks-trans, lay_out_one}
+use Rattle.segment_manager.proofs.Common.{Directory, by_kind, by_name, live, named_objects, unique_objects, Denotes}
+use Rattle.segment_manager.proofs.Common.{IsHeader, Resizes, grown, shrunk, IsSegment, StandsFor, State}
+use Rattle.segment_manager.proofs.Live.{live-size, of_each}
+use Rattle.segment_manager.proofs.{Calling.denotes-live, Denoted.index-stays, Frame.any_objects-same}
 use Rattle.best_fit.specs.Ends.{EndsAt, HasEndMoved, least_size, of_size}
 use Rattle.best_fit.proofs.Laws.{changed-header_blocks, ends-then}
 

@@ -1,11 +1,12 @@
 -- A call on whatever has storage: the kind of the object of the key says which call it is.
-use Rattle.segment_manager.proofs as own
-use own.Common.{◌≡◌, refl, sym, ap, ◌∙◌, ℕ, true, false, Option, Some, None, Result, Ok, Err, eq-eqb, Kind, Refusal}
-use own.Common.{NotFound, WrongKind, code_of, Key, Command, Answer, Refused, kind_at, sizes_at, sizes_at_kind, sizes_of}
-use own.Common.{Directory, Object, kind_of, live, object_at, IsMissing, Refuse, perform, Answers, IsStep, IsStepOfKind}
-use own.Common.{State, effect, has_storage, is_read_only, step, step_of_kind, Mode, Change, command_of}
-use own.containers.StorageSteps.{change-refused, no-storage}
-use own.{containers.Refilled.refused-steps, containers.Refilled.told-some, Steps.step_of_kind-step, Steps.moves-same}
+use Rattle.segment_manager.proofs.Common.{◌≡◌, refl, sym, ap, ◌∙◌, ℕ, true, false, Option, Some, None, Result, Ok, Err}
+use Rattle.segment_manager.proofs.Common.{eq-eqb, Kind, Refusal, NotFound, WrongKind, code_of, Key, Command, Answer}
+use Rattle.segment_manager.proofs.Common.{Refused, kind_at, sizes_at, sizes_at_kind, sizes_of, Directory, Object}
+use Rattle.segment_manager.proofs.Common.{kind_of, live, object_at, IsMissing, Refuse, perform, Answers, IsStep}
+use Rattle.segment_manager.proofs.Common.{IsStepOfKind, State, effect, has_storage, is_read_only, step, step_of_kind}
+use Rattle.segment_manager.proofs.containers.StorageSteps.{change-refused, no-storage}
+use Rattle.segment_manager.proofs.{Common.Mode, Common.Change, Common.command_of, containers.Refilled.refused-steps}
+use Rattle.segment_manager.proofs.{containers.Refilled.told-some, Steps.step_of_kind-step, Steps.moves-same}
 
 -- the object of the key, which is of the kind
 pub record IsOfKindAt (d : Directory) (key : Key) (kind : Kind) : Type 0 where

@@ -1,14 +1,13 @@
 -- A vector or text as the value of an object: it stands at its place as the calls of seg_vector see it, and what they
 -- do to it is what becomes of the object.
-use Rattle.segment_manager.proofs.Common.{◌≡◌, refl, Bool, ◌&&◌, Some, None, List, Stands, Value, Bytes, Object, padded}
-use Rattle.segment_manager.proofs.Common.{sym, ap, ◌∙◌, ◌+◌, ◌*◌, ◌≤◌, ℤ, [], ◌∷◌, Cut, Key, live, subst, ObjectRole}
-use Rattle.segment_manager.proofs.Common.{ScalarKind, is_kind_of, IsOwnBlock, IsRefilled, has_values, ℕ, and_from}
-use Rattle.segment_manager.proofs.Common.{extent_at, Directory, is_object, object_at, value_len, IsValueAt, Option}
-use Rattle.segment_manager.proofs.Common.{length, IsTrue, nat_le, le-leb, Memory, Extent, handle, Table, serves}
-use Rattle.segment_manager.proofs.Common.{append-nil, same_Some, IsExchanged, contents_of, is_good_value, value_extents}
-use Rattle.segment_manager.proofs.Common.{arith, Storage, LiveSet, live_of, size_of, spelled, kind_of, Denotes, changed}
-use Rattle.segment_manager.proofs.Common.{option_to_list, IsContainerAt, container_place, has_good_name, AllByRecursion}
-use Rattle.segment_manager.proofs.Common.{current, bytes_of, is_table, place_at, Contents, Elements, count_of, StandsAt}
+use Rattle.segment_manager.proofs.Common as common
+use common.{◌≡◌, refl, Bool, ◌&&◌, Some, None, List, Stands, Value, Bytes, Object, padded, sym, ap, ◌∙◌, ◌+◌, ◌*◌, ◌≤◌}
+use common.{ℤ, [], ◌∷◌, Cut, Key, live, subst, ObjectRole, ScalarKind, is_kind_of, IsOwnBlock, IsRefilled, has_values}
+use common.{ℕ, and_from, extent_at, Directory, is_object, object_at, value_len, IsValueAt, Option, length, IsTrue}
+use common.{nat_le, le-leb, Memory, Extent, handle, Table, serves, append-nil, same_Some, IsExchanged, contents_of}
+use common.{is_good_value, value_extents, arith, Storage, LiveSet, live_of, size_of, spelled, kind_of, Denotes, changed}
+use common.{option_to_list, IsContainerAt, container_place, has_good_name, AllByRecursion, current, bytes_of, is_table}
+use common.{place_at, Contents, Elements, count_of, StandsAt}
 use Rattle.segment_manager.proofs.objects.Exchanged.{Exchange, between, denotes-container}
 use Rattle.segment_manager.proofs.containers.MapBlocks.{BlocksInUse, blocks-in_use}
 use Rattle.segment_manager.proofs.objects.Rewritten.{value_start, with_value}

@@ -1,11 +1,12 @@
 -- The plans of the commands on a vector of numbers or a text.
-use Rattle.segment_manager.proofs as own
-use own.Common.{◌≡◌, refl, ap, ◌∙◌, ℕ, ◌-◌, ℤ, pos, nat_abs, Bool, true, false, Option, Some, None, Result, Ok, Err}
-use own.Common.{List, [], ◌∷◌, ◌++◌, length, map, take, if◌then◌else◌, insert, remove, slice_get, slice_set, nat_lt}
-use own.Common.{Table, cut_table, ScalarKind, U8, Refusal, OutOfRange, WrongKind, size_of, Key, Literal}
-use own.Common.{value_of_literal, capacity_for_one, capacity_for_text, Done, Element, Value, Elements, Bytes, Texts}
-use own.Common.{Object, Directory, live, object_at, Plan, Refuse, Reply, with, with_capacity, changed, effect, found_at}
-use own.{Common.storage_of, Common.values_of, Common.with_items, Common.with_table, Steps.with-found}
+use Rattle.segment_manager.proofs.Common.{◌≡◌, ◌∙◌, ◌-◌, ℤ, pos, Ok, Err, [], ◌∷◌, map, U8, Key, live, Plan, with}
+use Rattle.segment_manager.proofs.Common.{refl, Option, Refusal, size_of, Literal, Element, Elements, changed, found_at}
+use Rattle.segment_manager.proofs.Common.{ap, ScalarKind, OutOfRange, with_capacity, storage_of, with_items, with_table}
+use Rattle.segment_manager.proofs.Common.{ℕ, Bool, true, Some, None, List, ◌++◌, take, Done, Value, Bytes, Texts, Reply}
+use Rattle.segment_manager.proofs.Common.{nat_abs, if◌then◌else◌, value_of_literal, capacity_for_one, capacity_for_text}
+use Rattle.segment_manager.proofs.Common.{false, Result, length, insert, remove, nat_lt, Table, Object, Refuse, effect}
+use Rattle.segment_manager.proofs.Common.{slice_get, slice_set, cut_table, WrongKind, Directory, object_at, values_of}
+use Rattle.segment_manager.proofs.Steps.{with-found}
 use Rattle.segment_manager.specs.Step.{text_among, text_of}
 use Rattle.seg_types.specs.Commands as asked
 use Rattle.segment_manager.specs.Step as step

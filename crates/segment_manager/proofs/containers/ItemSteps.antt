@@ -1,17 +1,18 @@
 -- A call on a vector of numbers or on a text is one step: what the calls of seg_vector ensure of the elements at its
 -- place comes to the directory.
-use Rattle.segment_manager.proofs as own
-use own.Common.{◌&&◌, ◌<◌, Bool, Err, IsTrue, List, None, Ok, Result, Some, ap, false, length, subst, sym, true, ℕ, ℤ}
-use own.Common.{◌∙◌, ◌≡◌, ◌≤◌, eqb-true, same_Some, MatchResult, option_to_list, current, Cut, IsExchanged, live_of}
-use own.Common.{Table, Command, is_changing, code_of, kind_of_code, same_kind, Key, Kind, Vector, ScalarKind, Refusal}
-use own.Common.{NoSpace, OutOfRange, Stands, place_at, grown_table, IsOutside, IsWithoutSpace, Place, Answer, Done}
-use own.Common.{Refused, Contents, IsRefilled, container_at, container_place, contents_of, has_values, Denotes}
-use own.Common.{Directory, Elements, Object, Value, is_good_value, kind_of, object_at, live, Refuse, Reply, met}
-use own.Common.{perform, with_capacity, StandsAt, Answers, IsSegment, IsStepOfKind, StandsFor, State, changed, effect}
-use own.containers.Refilled.{HoldsAt, Refill, holds-at, room-asked, refill-steps_of_kind}
-use own.{Common.is_read_only, Common.plan, Common.StepsSafely, Steps.by_no_change_of_kind, Steps.open-writing}
-use own.{Steps.step_of_kind-found, containers.Contained.contents-fit, containers.Contained.contents-stand}
-use own.{containers.Safely.done-so, containers.Safely.stays, Codes.code-read, Frame.object-roomy, objects.Here.standing}
+use Rattle.segment_manager.proofs.Common as common
+use common.{◌&&◌, same_Some, same_kind, ScalarKind, OutOfRange, IsOutside, IsRefilled, has_values, Directory, object_at}
+use common.{◌<◌, IsTrue, Result, length, Vector, Refusal, NoSpace, Refused, Denotes, kind_of, perform, Answers, changed}
+use common.{Bool, List, None, false, subst, Table, Stands, Place, Answer, Object, Value, Refuse, Reply, State, effect}
+use common.{Err, Ok, Some, ap, sym, true, ℤ, ◌∙◌, ◌≡◌, ◌≤◌, Cut, Key, Kind, Done, live, met, plan}
+use common.{ℕ, MatchResult, IsExchanged, is_changing, grown_table, contents_of, IsStepOfKind, is_read_only, StepsSafely}
+use common.{eqb-true, current, live_of, Command, code_of, place_at, Contents, Elements, StandsAt, IsSegment, StandsFor}
+use common.{option_to_list, kind_of_code, IsWithoutSpace, container_at, container_place, is_good_value, with_capacity}
+use Rattle.segment_manager.proofs.containers.Refilled.{HoldsAt, Refill, holds-at, room-asked, refill-steps_of_kind}
+use Rattle.segment_manager.proofs.Steps.{by_no_change_of_kind, open-writing, step_of_kind-found}
+use Rattle.segment_manager.proofs.containers.Contained.{contents-fit, contents-stand}
+use Rattle.segment_manager.proofs.containers.Safely.{done-so, stays}
+use Rattle.segment_manager.proofs.{Codes.code-read, Frame.object-roomy, objects.Here.standing}
 
 -- ---- what is of the kind of a vector
 

@@ -1,12 +1,13 @@
 -- What calls on vectors, strings and maps leave to the last byte.
-use Rattle.segment_manager.proofs as own
-use own.Common.{◌≡◌, sym, ap, subst, ◌∙◌, ℕ, ◌≤◌, ℤ, Bool, Option, Some, None, Result, Ok, Err, List, [], MatchOption}
-use own.Common.{int_lt, none-some, Cut, ScalarKind, StringsKind, Plain, Refusal, NotFound, Key, MapPlace, Erases}
-use own.Common.{pair_at, NumberPair, Place, container_at, sizes_of, Object, Directory, object_at, HasPlaces, KeepsWhere}
-use own.Common.{map_at, Answers, State, StandsFor, pairs_of, Change, HasEnough, Reserve}
-use own.containers.TextsHeld.{HoldsTexts, holds-texts}
-use own.containers.PairNumbers.{IsScalarOf, erases-numbers}
-use own.{containers.MapCalls.HoldsPairs, containers.MapCalls.holds-pairs, containers.ToChange.seen-found}
+use Rattle.segment_manager.proofs.Common.{◌≡◌, sym, ap, subst, ◌∙◌, ℕ, ◌≤◌, ℤ, Bool, Option, Some, None, Result, Ok}
+use Rattle.segment_manager.proofs.Common.{Err, List, [], MatchOption, int_lt, none-some, Cut, ScalarKind, StringsKind}
+use Rattle.segment_manager.proofs.Common.{Plain, Refusal, NotFound, Key, MapPlace, Erases, pair_at, NumberPair, Place}
+use Rattle.segment_manager.proofs.Common.{container_at, sizes_of, Object, Directory, object_at, HasPlaces, KeepsWhere}
+use Rattle.segment_manager.proofs.Common.{map_at, Answers, State, StandsFor, pairs_of, Change, HasEnough, Reserve}
+use Rattle.segment_manager.proofs.containers.TextsHeld.{HoldsTexts, holds-texts}
+use Rattle.segment_manager.proofs.containers.PairNumbers.{IsScalarOf, erases-numbers}
+use Rattle.segment_manager.proofs.containers.MapCalls.{HoldsPairs, holds-pairs}
+use Rattle.segment_manager.proofs.containers.ToChange.{seen-found}
 use Rattle.segment_manager.specs.{containers.Stored.ChangesTexts, Keeping.LacksPair}
 
 -- the window is as it was, and so is the segment

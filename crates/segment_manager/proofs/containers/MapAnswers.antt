@@ -1,14 +1,15 @@
 -- What the calls of seg_map ensure of the map at the place that was found, as the steps of the calls on the object's
 -- map.
-use Rattle.segment_manager.proofs as own
-use own.Common.{◌≡◌, sym, subst, ◌∙◌, ℤ, Bool, true, false, Option, Result, Ok, option_map, Cut, Map, ScalarKind, Plain}
-use own.Common.{Refusal, is_value, Key, Lookup, Put, Remove, literal_of, Erases, Puts, FindsItem, FindsItemBefore}
-use own.Common.{FindsLastItem, FindsValue, IsSomeMap, map_at, numbers_in, pair_at_end, told_of_map, value_or_absent}
-use own.Common.{Answers, IsReplyOfKind, IsSegment, State, is_read_only, List, NumberPair, int_lt, item_of, truth_answer}
-use own.containers.MapCalls.{TellsSafely, map-erased, map-got, map-put, map-told, put_result, stands-map}
-use own.containers.PairNumbers.{IsScalarOf, erases-numbers, finds-back, finds-item, finds-last, finds-value}
-use own.containers.PairNumbers.{puts-numbers, some-map}
-use own.containers.Safely.{Answered, answered}
+use Rattle.segment_manager.proofs.Common.{◌≡◌, sym, subst, ◌∙◌, ℤ, Bool, true, false, Option, Result, Ok, option_map}
+use Rattle.segment_manager.proofs.Common.{Cut, Map, ScalarKind, Plain, Refusal, is_value, Key, Lookup, Put, Remove}
+use Rattle.segment_manager.proofs.Common.{literal_of, Erases, Puts, FindsItem, FindsItemBefore, FindsLastItem}
+use Rattle.segment_manager.proofs.Common.{FindsValue, IsSomeMap, map_at, numbers_in, pair_at_end, told_of_map}
+use Rattle.segment_manager.proofs.Common.{value_or_absent, Answers, IsReplyOfKind, IsSegment, State, is_read_only, List}
+use Rattle.segment_manager.proofs.containers.MapCalls.{TellsSafely, map-erased, map-got, map-put, map-told, put_result}
+use Rattle.segment_manager.proofs.containers.PairNumbers.{IsScalarOf, erases-numbers, finds-back, finds-item}
+use Rattle.segment_manager.proofs.containers.PairNumbers.{finds-last, finds-value, puts-numbers, some-map}
+use Rattle.segment_manager.proofs.{Common.NumberPair, Common.int_lt, Common.item_of, containers.Safely.answered}
+use Rattle.segment_manager.proofs.{Common.truth_answer, containers.MapCalls.stands-map, containers.Safely.Answered}
 use Rattle.seg_map.specs.{declared.places.Place.Place, Places.last_pair}
 use Rattle.segment_manager.specs.{containers.Maps.IsPairs, containers.Walks.pair_past}
 

@@ -1,21 +1,23 @@
 -- The calls on maps of numbers, each as one step: what the calls of seg_map ensure of the map at its place comes to the
 -- directory.
-use Rattle.segment_manager.proofs as own
-use own.Common.{◌≡◌, refl, sym, ap, subst, ◌∙◌, ℕ, ℤ, Bool, true, false, Option, Some, None, Result, Ok, Err, List, []}
-use own.Common.{int_lt, option_map, eq-eqb, current, Cut, SamePlace, Node, Kind, Map, ScalarKind, Refusal, NoSpace}
-use own.Common.{code_of, is_value, same_kind, size_of, Key, Command, Literal, literal_of, value_of_literal, transitive}
-use own.Common.{Erases, IsErased, IsFull, IsPut, IsPutAgain, Puts, node_len, pair_at, put_pair, remove_pair, NumberPair}
-use own.Common.{FindsValue, nodes_of_pairs, value_of_pair, ContainerPlace, Element, Refused, Truth, container_at}
-use own.Common.{Denotes, Pairs, Object, Directory, kind_of, object_at, AnswersSafely, HasPairs, map_at, numbers_of}
-use own.Common.{told_of, told_of_map, value_or_absent, New, Plan, Reply, Request, perform, with, Answers, IsReplyOfKind}
-use own.Common.{IsSegment, IsStepOfKind, State, StandsFor, and_then, changed, effect, is_read_only, map_of}
-use own.containers.MapSteps.{IsMapObject, again-denotes, erased-denotes, map-only, map_place, object-map, put-denotes}
-use own.Steps.{IsMove, IsOpenFor, by_no_change_of_kind, by_step_of_kind, open-reading, open-writing, perform-new}
-use own.containers.Refilled.{HoldsAt, finds-no_container, holds-at, told-some}
-use own.{Common.step_of_kind, Common.Answer, Common.Extent, Common.live_of, Common.truth_answer, Calling.denotes-live}
-use own.{Common.LiveSet, objects.ObjectLists.key-found, containers.PairNumbers.ErasesBy, containers.PairNumbers.PutsBy}
-use own.{Steps.perform-no_space, Steps.step_of_kind-found, objects.Here.standing, objects.Stored.literal-read}
-use own.{containers.StorageSteps.step_of_kind-reply, containers.MapBlocks.blocks-in_use, containers.MapBlocks.found-key}
+use Rattle.segment_manager.proofs.Common as common
+use common.{◌≡◌, is_value, IsErased, node_len, put_pair, Directory, object_at, HasPairs, IsSegment, StandsFor, and_then}
+use common.{refl, Option, Result, int_lt, eq-eqb, Erases, told_of, Request, perform, Answers, changed, live_of, LiveSet}
+use common.{sym, ◌∙◌, ℕ, ℤ, Bool, true, Some, None, Ok, Err, List, [], Cut, Node, Kind, Map, Key, Puts, New, Plan, with}
+use common.{ap, subst, false, IsFull, IsPut, Truth, Pairs, Object, map_at, Reply, State, effect, map_of, Answer, Extent}
+use common.{option_map, value_of_literal, nodes_of_pairs, value_of_pair, ContainerPlace, AnswersSafely, value_or_absent}
+use common.{current, Refusal, NoSpace, code_of, size_of, Command, Literal, pair_at, Element, Refused, Denotes, kind_of}
+use common.{SamePlace, remove_pair, container_at, IsReplyOfKind, IsStepOfKind, is_read_only, step_of_kind, truth_answer}
+use common.{ScalarKind, same_kind, literal_of, transitive, IsPutAgain, NumberPair, FindsValue, numbers_of, told_of_map}
+use Rattle.segment_manager.proofs.containers.MapSteps.{IsMapObject, again-denotes, erased-denotes, map-only, map_place}
+use Rattle.segment_manager.proofs.containers.MapSteps.{object-map, put-denotes}
+use Rattle.segment_manager.proofs.Steps.{IsMove, IsOpenFor, by_no_change_of_kind, by_step_of_kind, open-reading}
+use Rattle.segment_manager.proofs.Steps.{open-writing, perform-new, perform-no_space, step_of_kind-found}
+use Rattle.segment_manager.proofs.containers.Refilled.{HoldsAt, finds-no_container, holds-at, told-some}
+use Rattle.segment_manager.proofs.containers.PairNumbers.{ErasesBy, PutsBy}
+use Rattle.segment_manager.proofs.containers.MapBlocks.{blocks-in_use, found-key}
+use Rattle.segment_manager.proofs.{Calling.denotes-live, objects.ObjectLists.key-found, objects.Here.standing}
+use Rattle.segment_manager.proofs.{objects.Stored.literal-read, containers.StorageSteps.step_of_kind-reply}
 use Rattle.seg_map.specs.declared.places.Place.{Place}
 use Rattle.seg_map.proofs.Laws.{replaced_nodes}
 use Rattle.segment_manager.specs.{Answers.Absent, containers.Maps.IsPairs}

@@ -1,13 +1,14 @@
 -- The pairs of the object of a key, a map of kinds: what is told of them, how many they are, and that their keys rise.
-use Rattle.segment_manager.proofs as own
-use own.Common.{◌≡◌, sym, ap, subst, ◌∙◌, ℕ, ℤ, true, false, Some, None, Ok, Err, List, [], Map, Key, Value}
-use own.Common.{Option, NotFound, same_kind, is_rising, sizes_of, Directory, object_at, first_size, pair_from, first_of}
-use own.Common.{Result, length, int_lt, current, Refusal, lowest, item_of, Denotes, Object, kind_of, told_of, pairs_of}
-use own.Common.{MatchResult, option_map, ScalarKind, WrongKind, NumberPair, length_at_kind, number_or_none, told_of_map}
-use own.containers.Refilled.{by-kind, told-none, told-some}
-use own.objects.ElementLists.{list-of, listed-length, none-listed}
-use own.containers.PairWalks.{good-value, rising-if, starts, told-of-them}
-use own.{containers.AnyStorage.IsOfKindAt, objects.Here.standing, containers.MapSteps.map-only}
+use Rattle.segment_manager.proofs.Common.{◌≡◌, sym, ap, subst, ◌∙◌, ℕ, ℤ, true, false, Some, None, Ok, Err, List, []}
+use Rattle.segment_manager.proofs.Common.{Map, Key, Value, Option, NotFound, same_kind, is_rising, sizes_of, Directory}
+use Rattle.segment_manager.proofs.Common.{object_at, first_size, pair_from, first_of, Result, length, int_lt, current}
+use Rattle.segment_manager.proofs.Common.{Refusal, lowest, item_of, Denotes, Object, kind_of, told_of, pairs_of}
+use Rattle.segment_manager.proofs.Common.{MatchResult, option_map, ScalarKind, WrongKind, NumberPair, length_at_kind}
+use Rattle.segment_manager.proofs.containers.Refilled.{by-kind, told-none, told-some}
+use Rattle.segment_manager.proofs.objects.ElementLists.{list-of, listed-length, none-listed}
+use Rattle.segment_manager.proofs.containers.PairWalks.{good-value, rising-if, starts, told-of-them}
+use Rattle.segment_manager.proofs.{Common.number_or_none, Common.told_of_map, containers.AnyStorage.IsOfKindAt}
+use Rattle.segment_manager.proofs.{objects.Here.standing, containers.MapSteps.map-only}
 use Rattle.segment_manager.specs.containers.Walks.{pairs_at_kinds}
 
 refused-told : {A : Type 0} (P : A → Type 0) (Q : Type 0) (r : Result A Refusal) (why : Refusal) → r ≡ Err why → Q

@@ -1,23 +1,22 @@
 -- A map as the value of an object: it stands at its place as the calls of seg_map see it, and what they do to it is
 -- what becomes of the object.
-use Rattle.segment_manager.proofs.Common.{◌≡◌, refl, sym, ◌∙◌, true, ◌&&◌, Some, None, List, Same, Value, Pairs, live}
-use Rattle.segment_manager.proofs.Common.{ap, and_from, bytes_of, Directory, is_object, value_len, IsValueAt, exchanged}
-use Rattle.segment_manager.proofs.Common.{subst, ℕ, arith, int_lt, Memory, Extent, handle, Keeps, IsPut, Object, padded}
-use Rattle.segment_manager.proofs.Common.{◌+◌, ◌≤◌, ◌≢◌, inl, ℤ, [], ◌∷◌, map, Cut, Map}
-use Rattle.segment_manager.proofs.Common.{length, IsTrue, LiveSet, LaysOut, live_of, pair_at, kind_of, Denotes, changed}
-use Rattle.segment_manager.proofs.Common.{AllByRecursion, is_number_pair, nodes_of_pairs, is_good_value, value_extents}
-use Rattle.segment_manager.proofs.Common.{list_all, extent_at, same_kind, is_rising, NumberPair, numbers_of, SameSpread}
-use Rattle.segment_manager.proofs.Common.{current, IsErased, put_pair, HoldsMap, IsPairIn, count_of, head_len, StandsAt}
-use Rattle.segment_manager.proofs.Common.{SameBlockBut, lay_out_one, ScalarKind, IsBesideMap, IsPutAgain, remove_pair}
+use Rattle.segment_manager.proofs.Common as common
+use common.{◌≡◌, refl, sym, ◌∙◌, true, ◌&&◌, Some, None, List, Same, Value, Pairs, live, ap, and_from, bytes_of}
+use common.{Directory, is_object, value_len, IsValueAt, exchanged, subst, ℕ, arith, int_lt, Memory, Extent, handle}
+use common.{Keeps, IsPut, Object, padded, ◌+◌, ◌≤◌, ◌≢◌, inl, ℤ, [], ◌∷◌, map, Cut, Map, length, IsTrue, LiveSet}
+use common.{LaysOut, live_of, pair_at, kind_of, Denotes, changed, AllByRecursion, is_number_pair, nodes_of_pairs}
+use common.{is_good_value, value_extents, list_all, extent_at, same_kind, is_rising, NumberPair, numbers_of, SameSpread}
+use common.{current, IsErased, put_pair, HoldsMap, IsPairIn, count_of, head_len, StandsAt, SameBlockBut, lay_out_one}
+use common.{ScalarKind, IsBesideMap, IsPutAgain, remove_pair}
 use Rattle.segment_manager.proofs.containers.MapBlocks.{BlocksInUse, PartedNodes, no-node, nodes, one-by_handle}
 use Rattle.segment_manager.proofs.containers.MapBlocks.{put-parted, removed-parted}
 use Rattle.segment_manager.proofs.containers.Contained.{start-place, good-with}
 use Rattle.segment_manager.proofs.objects.Rewritten.{object-held, value_start, with_value}
 use Rattle.segment_manager.proofs.objects.Exchanged.{all-but-beside, Exchange, between, live-exchanged, others-beside}
-use Rattle.segment_manager.proofs.{Calling.denotes-heap, objects.Standings.standing-room, containers.ItemSteps.one-kind}
-use Rattle.segment_manager.proofs.{Calling.denotes-live, Denoted.denotes-replaced, Order.Apart, objects.Regrown.InPlace}
-use Rattle.segment_manager.proofs.{Calling.object-at, Frame.object-roomy, Order.IsFoundIn, objects.Regrown.rest}
-use Rattle.segment_manager.proofs.{Faces.IsLike, Frame.IsRoomy, Live.IsIn, Order.Differs}
+use Rattle.segment_manager.proofs.Calling.{denotes-heap, denotes-live, object-at}
+use Rattle.segment_manager.proofs.{objects.Standings.standing-room, containers.ItemSteps.one-kind, objects.Regrown.rest}
+use Rattle.segment_manager.proofs.{Denoted.denotes-replaced, Order.Differs, objects.Regrown.InPlace, Frame.object-roomy}
+use Rattle.segment_manager.proofs.{Order.Apart, Order.IsFoundIn, Frame.IsRoomy, Faces.IsLike, Live.IsIn}
 use Rattle.raw_region.proofs.Facts.{first, second}
 use Rattle.seg_map.specs.declared.places.Place.{Place}
 use Rattle.best_fit.proofs.Laws.{spread-refl}

@@ -1,15 +1,15 @@
 -- A vector of numbers or a text as the value of a new object: it is made without an element, and then with its elements
 -- in storage for just so many.
-use Rattle.segment_manager.proofs as own
-use own.Common.{◌≡◌, refl, sym, ap, subst, ◌∙◌, ℕ, ℤ, Bool, Some, None, Ok, Err, Result, List, [], length, map, IsTrue}
-use own.Common.{MatchResult, option_to_list, length-map, current, Cut, bytes_of, IsExchanged, IsChanged, live_of, Table}
-use own.Common.{no_table, keeps-refl, laid-heap, ScalarKind, Refusal, NoSpace, Content, Place, Stands, place_at}
-use own.Common.{AssignsText, IsTextGrown, grown_table, Assigns, IsVectorGrown, IsWithoutSpace, Contents, flat_map}
-use own.Common.{are_bytes, contents_of, has_values, Value, Elements, Bytes, count_of, kind_of, value_extents, value_len}
-use own.Common.{IsMadeValue, IsNoValue, MakesValue, Plan, bare, perform, with_storage, with_value}
-use own.containers.Contained.{contents-good, value-said}
-use own.objects.MadeValues.{storage-met, storage-none, stored}
-use own.Whole.{IsOfKind, whole-spelled, whole-values}
+use Rattle.segment_manager.proofs.Common as common
+use common.{◌≡◌, refl, sym, ap, subst, ◌∙◌, ℕ, ℤ, Bool, Some, None, Ok, Err, Result, List, [], length, map, IsTrue}
+use common.{MatchResult, option_to_list, length-map, current, Cut, bytes_of, IsExchanged, IsChanged, live_of, Table}
+use common.{no_table, keeps-refl, laid-heap, ScalarKind, Refusal, NoSpace, Content, Place, Stands, place_at}
+use common.{AssignsText, IsTextGrown, grown_table, Assigns, IsVectorGrown, IsWithoutSpace, Contents, flat_map}
+use common.{are_bytes, contents_of, has_values, Value, Elements, Bytes, count_of, kind_of, value_extents, value_len}
+use common.{IsMadeValue, IsNoValue, MakesValue, Plan, bare, perform, with_storage, with_value}
+use Rattle.segment_manager.proofs.containers.Contained.{contents-good, value-said}
+use Rattle.segment_manager.proofs.objects.MadeValues.{storage-met, storage-none, stored}
+use Rattle.segment_manager.proofs.Whole.{IsOfKind, whole-spelled, whole-values}
 use Rattle.seg_vector.specs.{TextCalls.StartsText, VectorCalls.Starts}
 use Rattle.seg_types.specs.Commands as asked
 

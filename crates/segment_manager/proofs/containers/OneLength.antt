@@ -1,22 +1,23 @@
 -- The words of containers, and what the calls of seg_vector leave of storage whose elements have one length: as the
 -- steps of the calls on the object, a vector of numbers or a text.
-use Rattle.segment_manager.proofs as own
-use own.Common.{◌≡◌, cut_table, IsValueAt, Directory, value_len, IsSegment, StandsFor, HasEnough, has_sizes, KeepsWhere}
-use own.Common.{ap, ℕ, ◌+◌, ◌*◌, ◌∙◌, ◌≤◌, Err, Ok, [], sym, take, true, Cut, Kind, Key, Done, live, Plan}
-use own.Common.{arith, Some, false, refl, subst, Table, Place, Clear, Value, Bytes, Pairs, Texts, Reply, State, Option}
-use own.Common.{IsTrue, ScalarKind, IsRefilled, has_values, storage_of, with_items, with_table, command_of, grown_table}
-use own.Common.{List, LiveSet, MapKind, Refusal, NoSpace, Command, Reserve, Refused, Denotes, Numbers, kind_of, emptied}
-use own.Common.{None, length, Memory, handle, Stands, Change, Shrink, Object, padded, perform, Answers, changed, effect}
-use own.Common.{Result, current, word_at, has_room, live_of, no_table, place_at, Contents, sizes_of, Elements, StandsAt}
-use own.Common.{bytes_of, StringsKind, container_at, contents_of, sizes_at_kind, is_read_only, StepsSafely, has_storage}
-use own.containers.Contained.{contents-fit, contents-stand, of-contents, start-place}
-use own.containers.Refilled.{HoldsAt, holds-at, refill-steps_of_kind, room-asked, then_room}
-use own.containers.ContentPlans.{clear-plan, reserve-plan, shrink-plan}
-use own.containers.KeptContainers.{enough-places, keeps-cut}
-use own.objects.Standings.{standing-room, standing-short}
-use own.{Steps.by_no_change_of_kind, Steps.step_of_kind-found, objects.Rewritten.value_start, containers.Safely.done-so}
-use own.{Steps.open-writing, Calling.denotes-live, Frame.object-roomy, objects.Here.standing, containers.Safely.stays}
-use own.{containers.AnyStorage.sizes-found, containers.ItemSteps.one-kind, containers.ToChange.seen-found}
+use Rattle.segment_manager.proofs.Common as common
+use common.{◌≡◌, cut_table, IsValueAt, Directory, value_len, IsSegment, StandsFor, HasEnough, has_sizes, KeepsWhere, ap}
+use common.{ℕ, ◌+◌, ◌*◌, ◌∙◌, ◌≤◌, Err, Ok, [], sym, take, true, Cut, Kind, Key, Done, live, Plan, arith, Some, false}
+use common.{refl, subst, Table, Place, Clear, Value, Bytes, Pairs, Texts, Reply, State, Option, IsTrue, ScalarKind}
+use common.{IsRefilled, has_values, storage_of, with_items, with_table, command_of, grown_table, List, LiveSet, MapKind}
+use common.{Refusal, NoSpace, Command, Reserve, Refused, Denotes, Numbers, kind_of, emptied, None, length, Memory}
+use common.{handle, Stands, Change, Shrink, Object, padded, perform, Answers, changed, effect, Result, current, word_at}
+use common.{has_room, live_of, no_table, place_at, Contents, sizes_of, Elements, StandsAt, bytes_of, StringsKind}
+use common.{container_at, contents_of, sizes_at_kind, is_read_only, StepsSafely, has_storage}
+use Rattle.segment_manager.proofs.containers.Contained.{contents-fit, contents-stand, of-contents, start-place}
+use Rattle.segment_manager.proofs.containers.Refilled.{HoldsAt, holds-at, refill-steps_of_kind, room-asked, then_room}
+use Rattle.segment_manager.proofs.containers.ContentPlans.{clear-plan, reserve-plan, shrink-plan}
+use Rattle.segment_manager.proofs.containers.KeptContainers.{enough-places, keeps-cut}
+use Rattle.segment_manager.proofs.Steps.{by_no_change_of_kind, step_of_kind-found, open-writing}
+use Rattle.segment_manager.proofs.{objects.Standings.standing-room, Frame.object-roomy, containers.ToChange.seen-found}
+use Rattle.segment_manager.proofs.{objects.Standings.standing-short, containers.AnyStorage.sizes-found}
+use Rattle.segment_manager.proofs.{objects.Rewritten.value_start, objects.Here.standing, containers.ItemSteps.one-kind}
+use Rattle.segment_manager.proofs.{containers.Safely.done-so, containers.Safely.stays, Calling.denotes-live}
 use Rattle.best_fit.proofs.Laws.{room-less}
 use Rattle.seg_vector.specs.{Elements.IsFitted, Elements.IsRewritten, Standing.IsGrown}
 use Rattle.segment_manager.specs.containers.Stored.{ChangesElements, IsElements, each_of}

@@ -1,13 +1,11 @@
 -- Commands on the pairs of a map by literals: which call is the step of the command, by the kind of the object.
-use Rattle.segment_manager.proofs.Common.{◌≡◌, refl, sym, ap, subst, ◌∙◌, ℤ, true, false, Some, Option, None, Result}
-use Rattle.segment_manager.proofs.Common.{Ok, Err, List, ◌∷◌, [], int_lt, eq-eqb, Map, ScalarKind, Refusal, WrongKind}
-use Rattle.segment_manager.proofs.Common.{ScalarValue, code_of, is_value, Key, ByHandle, Literal, literal_of}
-use Rattle.segment_manager.proofs.Common.{value_of_literal, kind_of_scalar, value_of_scalar, pair_at, remove_pair}
-use Rattle.segment_manager.proofs.Common.{NumberPair, Located, Answer, Element, Refused, Truth, kind_at, IsToChange}
-use Rattle.segment_manager.proofs.Common.{IsUnchangeable, IsValueOf, Value, Pairs, Object, Directory, kind_of, live}
-use Rattle.segment_manager.proofs.Common.{object_at, IsMissing, IsLocated, Plan, Refuse, Reply, perform, with, Answers}
-use Rattle.segment_manager.proofs.Common.{IsReply, IsReplyOfKind, IsStep, IsStepOfKind, State, StandsFor, and_then}
-use Rattle.segment_manager.proofs.Common.{changed, effect, map_of, pair_of, found_at}
+use Rattle.segment_manager.proofs.Common as common
+use common.{◌≡◌, refl, sym, ◌∙◌, true, Some, None, Ok, Err, List, ◌∷◌, [], Map, Key, live, Plan, with, State}
+use common.{ap, ScalarKind, WrongKind, literal_of, remove_pair, NumberPair, IsToChange, IsValueOf, Directory, object_at}
+use common.{subst, false, int_lt, eq-eqb, Answer, Truth, Value, Pairs, Object, Refuse, Reply, IsStep, effect, map_of}
+use common.{ℤ, Option, Result, Located, Element, Refused, kind_at, kind_of, perform, Answers, IsReply, changed, pair_of}
+use common.{Refusal, code_of, is_value, ByHandle, Literal, pair_at, IsMissing, IsLocated, StandsFor, and_then, found_at}
+use common.{ScalarValue, value_of_literal, kind_of_scalar, value_of_scalar, IsUnchangeable, IsReplyOfKind, IsStepOfKind}
 use Rattle.segment_manager.proofs.containers.AnyStorage.{IsOfKindAt, kind-told, of_kind-same, of_kind-steps}
 use Rattle.segment_manager.proofs.containers.Changeable.{answered-reads, refuses, refuses-read, says-kind}
 use Rattle.segment_manager.proofs.objects.Locating.{kind-by_key, reply_of_kind-by_key, step_of_kind-by_key}

@@ -1,14 +1,13 @@
 -- Maps of values of two types as maps of their numbers: lists of pairs, maps at a place, and what the calls of seg_map
 -- ensure of them.
-use Rattle.segment_manager.proofs as own
-use own.Common.{◌≡◌, refl, sym, ap, subst, ◌∙◌, ℕ, ◌+◌, ℤ, Bool, true, false, ◌&&◌, ◌||◌, not, Option, Some, None}
-use own.Common.{Result, Ok, Err, List, [], ◌∷◌, map, if◌then◌else◌, IsTrue, MatchOption, MatchResult, find, int_lt}
-use own.Common.{option_map, AllByRecursion, length-map, current, Cut, Has, Memory, bytes_of, Node, IsExchanged, LiveSet}
-use own.Common.{handle, IsTreeOf, place, live_of, serves, ScalarKind, Plain, is_value, IsChanged, size_of, spelling}
-use own.Common.{Erases, IsBesideMap, IsErased, IsFull, IsPut, IsPutAgain, Puts, Releases, is_key, is_rising, node_len}
-use own.Common.{pair_at, put_pair, remove_pair, IsNumberPairAt, NumberPair, is_number_pair, FindsItem, FindsItemBefore}
-use own.Common.{FindsLastItem, FindsValue, HoldsMap, IsPairIn, IsSomeMap, first_pair, item_of, nodes_of_pairs}
-use own.{Common.value_of_pair, Common.numbers_in, Common.numbers_of}
+use Rattle.segment_manager.proofs.Common as common
+use common.{◌≡◌, sym, ap, ◌∙◌, ◌+◌, not, Some, None, Ok, Err, List, [], ◌∷◌, map, find, Cut, Has, Node, Puts}
+use common.{refl, Bool, true, false, ◌&&◌, ◌||◌, Memory, handle, place, serves, Plain, Erases, IsFull, IsPut, is_key}
+use common.{subst, bytes_of, IsTreeOf, is_value, spelling, IsErased, Releases, node_len, put_pair, FindsItem, IsSomeMap}
+use common.{ℕ, MatchResult, option_map, length-map, IsExchanged, IsBesideMap, remove_pair, FindsLastItem, value_of_pair}
+use common.{ℤ, ScalarKind, IsChanged, IsPutAgain, is_rising, NumberPair, FindsValue, first_pair, numbers_in, numbers_of}
+use common.{Option, Result, IsTrue, int_lt, current, LiveSet, live_of, size_of, pair_at, HoldsMap, IsPairIn, item_of}
+use common.{if◌then◌else◌, MatchOption, AllByRecursion, IsNumberPairAt, is_number_pair, FindsItemBefore, nodes_of_pairs}
 use Rattle.raw_region.proofs.Facts.{first, second}
 use mathlib.Core.List.{reverse}
 use Rattle.seg_map.specs.Places.{final_pair, is_passed, last_pair}

@@ -1,16 +1,16 @@
 -- A walk over the pairs of the object of a key, of whatever kinds they are: what each call of it answers, and that none
 -- is left out.
-use Rattle.segment_manager.proofs as own
-use own.Common.{◌≡◌, refl, sym, ap, subst, ◌∙◌, ℕ, zero, suc, ◌+◌, ℤ, Bool, true, ◌&&◌, Option, Some, None, Result, Ok}
-use own.Common.{List, [], ◌∷◌, ◌++◌, slice_get, arith, IsTrue, int_lt, option_map, list_all, eq-eqb, current, Node}
-use own.Common.{ObjectRole, serves, Map, ScalarKind, Refusal, ScalarValue, code_of, is_kind_of, is_value, lowest}
-use own.Common.{same_kind, size_of, Key, kind_of_scalar, value_of_scalar, is_rising, node_len, NumberPair}
-use own.Common.{is_number_pair, item_of, Denotes, Value, Pairs, Object, Directory, has_good_name, is_good_value}
-use own.Common.{is_object, kind_of, object_at, object_len, pair_above, pair_from, told_of, told_of_map, Answers, State}
-use own.Common.{StandsFor, IsMap, first_of, item_of_kinds, item_seen, pairs_at, pairs_of}
-use own.containers.AnyStorage.{IsOfKindAt, kind-told}
-use own.containers.MapWalks.{walk-goes_on, walk-starts}
-use own.{objects.Here.standing, containers.MapSteps.map-only, containers.Refilled.told-some}
+use Rattle.segment_manager.proofs.Common as common
+use common.{◌≡◌, refl, sym, ap, subst, ◌∙◌, ℕ, zero, suc, ◌+◌, ℤ, Bool, true, ◌&&◌, Option, Some, None, Result, Ok}
+use common.{List, [], ◌∷◌, ◌++◌, slice_get, arith, IsTrue, int_lt, option_map, list_all, eq-eqb, current, Node}
+use common.{ObjectRole, serves, Map, ScalarKind, Refusal, ScalarValue, code_of, is_kind_of, is_value, lowest, same_kind}
+use common.{size_of, Key, kind_of_scalar, value_of_scalar, is_rising, node_len, NumberPair, is_number_pair, item_of}
+use common.{Denotes, Value, Pairs, Object, Directory, has_good_name, is_good_value, is_object, kind_of, object_at}
+use common.{object_len, pair_above, pair_from, told_of, told_of_map, Answers, State, StandsFor, IsMap, first_of}
+use common.{item_of_kinds, item_seen, pairs_at, pairs_of}
+use Rattle.segment_manager.proofs.containers.AnyStorage.{IsOfKindAt, kind-told}
+use Rattle.segment_manager.proofs.containers.MapWalks.{walk-goes_on, walk-starts}
+use Rattle.segment_manager.proofs.{objects.Here.standing, containers.MapSteps.map-only, containers.Refilled.told-some}
 use Rattle.raw_region.proofs.Facts.{first, second}
 use Rattle.segment_manager.specs.containers.Walks.{AreOfKinds, numbers_read}
 

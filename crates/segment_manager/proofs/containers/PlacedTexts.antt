@@ -1,11 +1,11 @@
 -- Texts that ask for their blocks one after another get what `place_all` gives, and keep their bytes.
-use Rattle.segment_manager.proofs as own
-use own.Common.{◌≡◌, refl, sym, ap, ◌∙◌, ℕ, Bool, true, false, List, [], ◌∷◌, Option, Some, None, length, ◌==◌, IsTrue}
-use own.Common.{option_map, cond-true, cond-false, Role, Storage, Extent, LiveSet, is_proper, added, place, resized}
-use own.Common.{placed_is_proper, OwnedText, Directory, Answer, Refused, NoSpace, Plan, New, Request, perform}
-use own.Common.{AllByRecursion, are_bytes, if◌then◌else◌, list_all, placed_text, placed_texts, same_Some, subst}
-use own.Order.{live-rises, rising-insert, resized-fresh}
-use own.{Common.with_text, Common.with_owned_texts, containers.TextsHeld.HasBytes}
+use Rattle.segment_manager.proofs.Common as common
+use common.{◌≡◌, refl, sym, ap, ◌∙◌, Bool, true, List, [], ◌∷◌, Some, None, ◌==◌, Role, place, Plan, New, subst}
+use common.{ℕ, option_map, placed_is_proper, AllByRecursion, if◌then◌else◌, placed_text, placed_texts, with_owned_texts}
+use common.{false, Option, length, IsTrue, Extent, LiveSet, added, resized, Answer, Refused, NoSpace, Request, perform}
+use common.{cond-true, cond-false, Storage, is_proper, OwnedText, Directory, are_bytes, list_all, same_Some, with_text}
+use Rattle.segment_manager.proofs.Order.{live-rises, rising-insert, resized-fresh}
+use Rattle.segment_manager.proofs.containers.TextsHeld.{HasBytes}
 use Rattle.raw_region.proofs.Facts.{first, second}
 use Rattle.best_fit.specs.Requests.{place_all, all_added}
 use Rattle.segment_manager.specs.containers.OwnedTexts.{text_needs, owned_texts, with_blocks, TextsArePlaced}

@@ -1,15 +1,16 @@
 -- A call that changes a vector or text of an object is one step of the directory machine.
-use Rattle.segment_manager.proofs as own
-use own.Common.{◌≡◌, refl, sym, ap, ◌∙◌, ℕ, true, false, Bool, Option, Some, None, Result, Ok, Err, List, if◌then◌else◌}
-use own.Common.{◌*◌, ◌&&◌, IsTrue, nat_le, option_map, Cut, live_of, Table, Extent, LiveSet, regrow, Kind, Refusal}
-use own.Common.{NoSpace, NotFound, WrongKind, ReadOnly, same_kind, Key, Command, is_changing, Place, grown_table, Mode}
-use own.Common.{same_Some, Answer, Refused, Contents, IsRefilled, container_at, container_place, contents_of}
-use own.Common.{has_values, Value, Object, Directory, kind_of, live, object_at, Denotes, perform, with_capacity}
-use own.Common.{Request, RegrownNeed, Refuse, Answers, IsSegment, IsStep, IsStepOfKind, State, StandsFor, changed}
-use own.Common.{effect, Plan, is_read_only, step_of_kind, step, arith, le-ltb, lt-ltb, resized, with_array}
-use own.Steps.{IsMove, IsOpenFor, by_no_change, by_no_change_of_kind, by_step_of_kind, open-writing, step-effect}
-use own.Steps.{step_of_kind-found, step_of_kind-not_found, step_of_kind-other, moves-same}
-use own.{Calling.denotes-live, containers.Contained.contents-changed}
+use Rattle.segment_manager.proofs.Common as common
+use common.{◌≡◌, refl, sym, ap, ◌∙◌, ℕ, true, false, Bool, Option, Some, None, Result, Ok, Err, List, if◌then◌else◌}
+use common.{◌*◌, ◌&&◌, IsTrue, nat_le, option_map, Cut, live_of, Table, Extent, LiveSet, regrow, Kind, Refusal, NoSpace}
+use common.{NotFound, WrongKind, ReadOnly, same_kind, Key, Command, is_changing, Place, grown_table, Mode, same_Some}
+use common.{Answer, Refused, Contents, IsRefilled, container_at, container_place, contents_of, has_values, Value}
+use common.{Object, Directory, kind_of, live, object_at, Denotes, perform, with_capacity, Request, RegrownNeed, Refuse}
+use common.{Answers, IsSegment, IsStep, IsStepOfKind, State, StandsFor, changed, effect, Plan, is_read_only}
+use common.{step_of_kind, step, arith, le-ltb, lt-ltb, resized, with_array}
+use Rattle.segment_manager.proofs.Steps.{IsMove, IsOpenFor, by_no_change, by_no_change_of_kind, by_step_of_kind}
+use Rattle.segment_manager.proofs.Steps.{open-writing, step-effect, step_of_kind-found, step_of_kind-not_found}
+use Rattle.segment_manager.proofs.Steps.{step_of_kind-other, moves-same}
+use Rattle.segment_manager.proofs.{Calling.denotes-live, containers.Contained.contents-changed}
 use Rattle.std.proofs.lemmas.Bool.{leb-false}
 
 -- ---- a plan that asks for a block

@@ -1,20 +1,21 @@
 -- What becomes of an object whose contents are released, for each kind of value.
-use Rattle.segment_manager.proofs as own
-use own.Common.{◌≡◌, IsExchanged, StringsKind, IsSomeTexts, container_at, container_place, value_extents, ReleasesPairs}
-use own.Common.{refl, sym, ◌∙◌, ◌+◌, Some, Ok, List, [], Cut, Kind, Map, Key, Head, Texts, true}
-use own.Common.{ap, subst, length, IsTrue, eq-eqb, Extent, handle, Scalar, Place, Value, Pairs, Object, padded, changed}
-use own.Common.{append-nil, same_Some, ScalarKind, IsTextsNow, IsValueAt, HoldsObject, Directory, is_object, numbers_of}
-use own.Common.{ℕ, current, code_of, Denotes, Becomes, Empties, emptied, has_key, kind_of, HasPairs, IsHeadOf, StandsAt}
-use own.Common.{bytes_of, no_table, ByHandle, MapPlace, place_at, object_at, value_len, head_len, HasObject, StandsFor}
-use own.containers.Contained.{good-with, start-place, Shape, contents-shape, value-said}
-use own.containers.Emptied.{IsEmptied, changed-itself, emptied-is, emptied-numbers}
-use own.objects.Exchanged.{Exchange, between, denotes-container}
-use own.containers.MapCalls.{HoldsPairs, as_map, holds-pairs}
-use own.objects.ObjectLists.{all-found, each-true, found-handle, key-found}
-use own.containers.OneLength.{HoldsElements, holds-elements, nothing-left}
-use own.containers.TextsHeld.{HoldsTexts, holds-texts}
-use own.{Frame.object-roomy, objects.Here.IsReadAt, objects.Here.standing, Live.IsIn, objects.Rewritten.value_start}
-use own.{objects.Rewritten.with_value, containers.Refilled.placed, containers.Refilled.told-some}
+use Rattle.segment_manager.proofs.Common as common
+use common.{◌≡◌, IsExchanged, StringsKind, IsSomeTexts, container_at, container_place, value_extents, ReleasesPairs}
+use common.{refl, sym, ◌∙◌, ◌+◌, Some, Ok, List, [], Cut, Kind, Map, Key, Head, Texts, true, ap, subst, length, IsTrue}
+use common.{eq-eqb, Extent, handle, Scalar, Place, Value, Pairs, Object, padded, changed, append-nil, same_Some}
+use common.{ScalarKind, IsTextsNow, IsValueAt, HoldsObject, Directory, is_object, numbers_of, ℕ, current, code_of}
+use common.{Denotes, Becomes, Empties, emptied, has_key, kind_of, HasPairs, IsHeadOf, StandsAt, bytes_of, no_table}
+use common.{ByHandle, MapPlace, place_at, object_at, value_len, head_len, HasObject, StandsFor}
+use Rattle.segment_manager.proofs.containers.Contained.{good-with, start-place, Shape, contents-shape, value-said}
+use Rattle.segment_manager.proofs.containers.Emptied.{IsEmptied, changed-itself, emptied-is, emptied-numbers}
+use Rattle.segment_manager.proofs.objects.Exchanged.{Exchange, between, denotes-container}
+use Rattle.segment_manager.proofs.containers.MapCalls.{HoldsPairs, as_map, holds-pairs}
+use Rattle.segment_manager.proofs.objects.ObjectLists.{all-found, each-true, found-handle, key-found}
+use Rattle.segment_manager.proofs.containers.OneLength.{HoldsElements, holds-elements, nothing-left}
+use Rattle.segment_manager.proofs.containers.TextsHeld.{HoldsTexts, holds-texts}
+use Rattle.segment_manager.proofs.objects.Rewritten.{value_start, with_value}
+use Rattle.segment_manager.proofs.containers.Refilled.{placed, told-some}
+use Rattle.segment_manager.proofs.{Frame.object-roomy, objects.Here.IsReadAt, objects.Here.standing, Live.IsIn}
 use Rattle.seg_map.specs.Changing.{IsGivenUp}
 use Rattle.seg_vector.specs.{Elements.GivesBack, Elements.IsGivenBack, Standing.IsStanding, TextsCalls.ReleasesTexts}
 use Rattle.segment_manager.specs.{containers.Contents.has_storage, containers.Stored.each_of}
@@ -113,8 +114,7 @@ container-released : (old new : Cut) (d : Directory) (key : Key) (o : Object) (p
     → IsValueAt (bytes_of new.bytes) (place_at p) (emptied v) → Becomes old new (changed d o (emptied o.value))
 container-released old new d key o p v k e is at len change said =
     let start : place_at p ≡ value_start o = sym (ap place_at at) ∙ sym (start-place o) in
-    let f : IsIn d o = key-found current d key o k.directory e in
-    let empty : IsEmptied o.value = emptied-is o.value in
+    let f : IsIn d o = key-found current d key o k.directory e in let empty : IsEmptied o.value = emptied-is o.value in
     let was : IsTrue (is_object current o) =
     all-found (λ p. IsTrue (is_object current p)) (has_key (ByHandle (handle o.extent))) d.objects o
     (each-true (is_object current) d.objects k.directory.objects) f.is in

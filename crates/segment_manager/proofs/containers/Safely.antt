@@ -1,12 +1,12 @@
 -- A call on the container of an object that answers nothing: its step, and that it changes nothing where it is refused.
-use Rattle.segment_manager.proofs as own
-use own.Common.{NoSpace, OutOfRange, ◌⊎◌, inl, inr, IsStep, is_read_only, ◌≡◌, ℕ, ◌+◌, sym, ap, subst, ◌∙◌, Bool, true}
-use own.Common.{false, Option, Some, None, Result, Ok, Err, length, if◌then◌else◌, OnErr, eq-eqb, ne_eqb, Cut, handle}
-use own.Common.{Kind, Refusal, NotFound, WrongKind, code_of, same_kind, Key, Command, Place, Head, Answer, Done}
-use own.Common.{Refused, container_at, container_place, place_of_kind, Object, kind_of, padded, handle_at, head_len}
-use own.Common.{IsHeadOf, StandsAt, Answers, IsSegment, IsStepOfKind, State, AnswersSafely, StepsSafely}
-use own.Steps.{step-segment, step_of_kind-segment}
-use own.objects.Here.{IsHere, here, seen-handle}
+use Rattle.segment_manager.proofs.Common as common
+use common.{NoSpace, OutOfRange, ◌⊎◌, inl, inr, IsStep, is_read_only, ◌≡◌, ℕ, ◌+◌, sym, ap, subst, ◌∙◌, Bool, true}
+use common.{false, Option, Some, None, Result, Ok, Err, length, if◌then◌else◌, OnErr, eq-eqb, ne_eqb, Cut, handle, Kind}
+use common.{Refusal, NotFound, WrongKind, code_of, same_kind, Key, Command, Place, Head, Answer, Done, Refused}
+use common.{container_at, container_place, place_of_kind, Object, kind_of, padded, handle_at, head_len, IsHeadOf}
+use common.{StandsAt, Answers, IsSegment, IsStepOfKind, State, AnswersSafely, StepsSafely}
+use Rattle.segment_manager.proofs.Steps.{step-segment, step_of_kind-segment}
+use Rattle.segment_manager.proofs.objects.Here.{IsHere, here, seen-handle}
 
 -- it is refused, and nothing has changed
 pub stays : (s : State) (new : Cut) (key : Key) (kind : Kind) (c : Command) (e why : Refusal) → e ≡ why → new ≡ s.cut

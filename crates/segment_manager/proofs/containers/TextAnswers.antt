@@ -1,18 +1,18 @@
 -- What the calls of seg_vector ensure of the text at the place that was found, as the steps of the calls on the
 -- object's string.
-use Rattle.segment_manager.proofs as own
-use own.Common.{◌++◌, ◌<◌, Err, IsTrue, List, None, Ok, Option, Result, Some, [], ap, arith, false, get_or, length, map}
-use own.Common.{nat_abs, nat_le, nat_lt, pos, refl, slice_get, subst, suc, sym, true, zero, ℕ, ◌∙◌, ◌∷◌, ◌≡◌, and_from}
-use own.Common.{le-leb, lt-ltb, slice_get-get_or, slice_get-map, slice_get_past, option_map, slice_set, Cut, Table}
-use own.Common.{Append, Assign, Get, Quoted, Set, literal_of, is_value, Key, String, U8, Refusal, NotFound, OutOfRange}
-use own.Common.{AssignsText, IsSomeText, IsTextGrown, IsTextNow, capacity_for_text, Place, Done, Element, Refused}
-use own.Common.{are_bytes, bytes_at, container_at, Bytes, Object, Value, kind_of, live, Reply, perform, Answers}
-use own.Common.{IsSegment, IsStepOfKind, State, changed, is_read_only, Command, StepsSafely, done_answer}
-use own.containers.ContentPlans.{append-plan, byte-plan, set_byte-plan, text-plan}
-use own.containers.ItemSteps.{HoldsItems, ListedGrown, ListedNow, Listing, changes-safely, grows-safely, holds-items}
-use own.containers.ItemSteps.{items-stay, one-kind, so-too, some-items}
-use own.containers.Safely.{Answered, answered}
-use own.{Steps.open-reading, objects.Stored.literal-read, containers.ToChange.seen-found}
+use Rattle.segment_manager.proofs.Common as common
+use common.{◌++◌, ◌<◌, Err, IsTrue, List, None, Ok, Option, Result, Some, [], ap, arith, false, get_or, length, map}
+use common.{nat_abs, nat_le, nat_lt, pos, refl, slice_get, subst, suc, sym, true, zero, ℕ, ◌∙◌, ◌∷◌, ◌≡◌, and_from}
+use common.{le-leb, lt-ltb, slice_get-get_or, slice_get-map, slice_get_past, option_map, slice_set, Cut, Table, Append}
+use common.{Assign, Get, Quoted, Set, literal_of, is_value, Key, String, U8, Refusal, NotFound, OutOfRange, AssignsText}
+use common.{IsSomeText, IsTextGrown, IsTextNow, capacity_for_text, Place, Done, Element, Refused, are_bytes, bytes_at}
+use common.{container_at, Bytes, Object, Value, kind_of, live, Reply, perform, Answers, IsSegment, IsStepOfKind, State}
+use common.{changed, is_read_only, Command, StepsSafely, done_answer}
+use Rattle.segment_manager.proofs.containers.ContentPlans.{append-plan, byte-plan, set_byte-plan, text-plan}
+use Rattle.segment_manager.proofs.containers.ItemSteps.{HoldsItems, ListedNow, items-stay, one-kind, so-too, some-items}
+use Rattle.segment_manager.proofs.containers.ItemSteps.{ListedGrown, Listing, changes-safely, grows-safely, holds-items}
+use Rattle.segment_manager.proofs.containers.Safely.{Answered, answered}
+use Rattle.segment_manager.proofs.{Steps.open-reading, objects.Stored.literal-read, containers.ToChange.seen-found}
 use Rattle.raw_region.proofs.Facts.{first, second}
 use Rattle.std.proofs.Common.{Fits, w8}
 use Rattle.seg_vector.specs.TextCalls.{AppendsText, GetsByte, ReadsText, SetsByte}

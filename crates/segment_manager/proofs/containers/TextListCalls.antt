@@ -1,26 +1,28 @@
 -- What the calls of seg_vector ensure of the texts at the place that was found, as the steps of the calls on the
 -- object's vector of texts.
-use Rattle.segment_manager.proofs as own
-use own.Common.{IsSomeTexts, ◌≡◌, refl, sym, ap, subst, ◌∙◌, ℕ, ◌+◌, ◌-◌, ◌<◌, ◌≤◌, inl, inr, true, false, Option, Some}
-use own.Common.{None, Result, Ok, Err, List, [], ◌∷◌, length, map, append-nil, get_or, arith, IsTrue, insert}
-use own.Common.{option_map, option_to_list, remove, slice_get, slice_set, list_all, false≢true, le-ltb, lt-ltb}
-use own.Common.{same_Some, slice_get-get_or, slice_get_past, Bor, current, Cut, LiveSet, live_of, Table, cut_table}
-use own.Common.{StringsKind, Refusal, NoSpace, OutOfRange, Key, Command, Place, AreTextsAssigned, AssignsTexts}
-use own.Common.{IsGivenUp, all_texts, one_more, placed_text, with_array, OwnedText, grown_table, IsOutside, Done}
-use own.Common.{Refused, TextElement, is_untouched, are_bytes, container_at, Change, Clear, Reserve, Shrink, Directory}
-use own.Common.{command_of, Plan, Reply, perform, Answers, IsSegment, IsStepOfKind, State, StandsFor, answer_of}
-use own.Common.{refusal_in, effect, is_read_only, texts_of, StepsSafely, done_answer, with}
-use own.containers.TextMoves.{TextsMove, all-other, in-array, left-out, moved, one-block, Kept, Led, StepsKeeping, kept}
-use own.containers.TextMoves.{led, step-leads-on, texts-lead-on, texts-restored, texts-stay, texts-steps, texts_in}
-use own.containers.TextPlans.{all-met, all-unmet, all_plan, assign-none, assign-some, beside_array, clear-texts}
-use own.containers.TextPlans.{erase-text, got-text, insert-text, insert_in, insert_plan, one-more-met, one-more-unmet}
-use own.containers.TextPlans.{pop-text, push-text, reserve-texts, set-text, set_in, shrink-texts, text-placed}
-use own.containers.TextPlans.{assign_in, text_in, texts_after, then_text}
-use own.containers.Safely.{pick-outside, pick-space, Answered, answered, done-so, stays}
-use own.{containers.TextsHeld.some-texts, containers.TextsHeld.HoldsTexts, containers.TextLists.part-inserted}
-use own.{containers.TextLists.part-set, containers.Refilled.room-grown, containers.Refilled.then_room}
-use own.{containers.PlacedTexts.text-bytes, containers.PlacedTexts.texts-bytes, containers.TextAnswers.fits-bytes}
-use own.{Calling.denotes-live, containers.ToChange.seen-found, Steps.open-reading, Steps.open-writing}
+use Rattle.segment_manager.proofs.Common as common
+use common.{IsSomeTexts, option_to_list, slice_get-get_or, slice_get_past, AreTextsAssigned, AssignsTexts, is_untouched}
+use common.{◌≡◌, refl, subst, true, false, Some, None, arith, Table, Place, Change, Clear, Shrink, Reply, State, effect}
+use common.{sym, ap, ◌∙◌, ℕ, ◌+◌, ◌-◌, ◌<◌, ◌≤◌, inl, inr, Ok, Err, List, [], ◌∷◌, map, Bor, Cut, Key, Done, Plan, with}
+use common.{Option, Result, length, get_or, IsTrue, insert, remove, le-ltb, lt-ltb, Refused, Reserve, perform, Answers}
+use common.{append-nil, option_map, slice_get, false≢true, OutOfRange, with_array, command_of, refusal_in, done_answer}
+use common.{slice_set, list_all, same_Some, cut_table, IsGivenUp, all_texts, OwnedText, IsOutside, are_bytes, Directory}
+use common.{current, LiveSet, live_of, Refusal, NoSpace, Command, one_more, IsSegment, StandsFor, answer_of, texts_of}
+use common.{StringsKind, placed_text, grown_table, TextElement, container_at, IsStepOfKind, is_read_only, StepsSafely}
+use Rattle.segment_manager.proofs.containers.TextMoves.{TextsMove, all-other, moved, one-block, texts-stay, texts-steps}
+use Rattle.segment_manager.proofs.containers.TextMoves.{in-array, left-out, Kept, kept, led, texts_in}
+use Rattle.segment_manager.proofs.containers.TextMoves.{Led, StepsKeeping, step-leads-on, texts-lead-on, texts-restored}
+use Rattle.segment_manager.proofs.containers.TextPlans.{all-met, all-unmet, all_plan, assign-none, assign-some}
+use Rattle.segment_manager.proofs.containers.TextPlans.{beside_array, clear-texts, erase-text, got-text, insert-text}
+use Rattle.segment_manager.proofs.containers.TextPlans.{insert_in, insert_plan, one-more-met, one-more-unmet, pop-text}
+use Rattle.segment_manager.proofs.containers.TextPlans.{push-text, reserve-texts, set-text, set_in, shrink-texts}
+use Rattle.segment_manager.proofs.containers.TextPlans.{text-placed, assign_in, text_in, texts_after, then_text}
+use Rattle.segment_manager.proofs.containers.Safely.{pick-outside, pick-space, Answered, answered, done-so, stays}
+use Rattle.segment_manager.proofs.containers.PlacedTexts.{text-bytes, texts-bytes}
+use Rattle.segment_manager.proofs.{containers.TextsHeld.some-texts, containers.TextsHeld.HoldsTexts, Steps.open-reading}
+use Rattle.segment_manager.proofs.{containers.TextLists.part-inserted, containers.TextAnswers.fits-bytes}
+use Rattle.segment_manager.proofs.{containers.TextLists.part-set, containers.Refilled.then_room, Steps.open-writing}
+use Rattle.segment_manager.proofs.{containers.Refilled.room-grown, Calling.denotes-live, containers.ToChange.seen-found}
 use Rattle.std.proofs.Common.{Fits, w8}
 use Rattle.segment_manager.specs.{containers.Stored.ChangesTexts, containers.ToChange.IsToChange}
 use Rattle.best_fit.specs.Exchange.{IsRestored}

@@ -1,17 +1,18 @@
 -- A call on a vector of texts is one step: what the calls of seg_vector ensure of the texts at its place comes to the
 -- directory.
-use Rattle.segment_manager.proofs as own
-use own.Common.{◌≡◌, refl, sym, ap, subst, ◌∙◌, true, false, Option, None, Result, Ok, List, ◌++◌, IfErr, OnErr}
-use own.Common.{option_to_list, AllByRecursion, current, Cut, Extent, Table, Kind, StringsKind, Refusal, same_kind, Key}
-use own.Common.{Command, Place, IsTextsNow, text_blocks, OwnedText, Answer, Refused, is_untouched, refusal_of, kind_at}
-use own.Common.{container_at, Value, Texts, Directory, kind_of, perform, Answers, IsSegment, IsStepOfKind, LeadsOn}
-use own.Common.{State, StandsFor, done_answer, changed, effect, is_read_only, step_of_kind, LeadsOnOfKind, LiveSet}
-use own.containers.TextsHeld.{HasBytes, HoldsTexts, IsTextsMove, holds-texts, texts-changed}
-use own.Steps.{IsMove, IsOpenFor, by_no_change_of_kind, by_step_of_kind, open-writing, step_of_kind-found}
-use own.containers.TextLists.{part-all, part-none, part-removed}
-use own.{Common.live_of, Common.[], Common.append-nil, Common.remove, Common.ℕ, Steps.step_of_kind-segment}
-use own.{Calling.denotes-live, containers.AnyStorage.kind-told, containers.AnyStorage.of_kind-same}
-use own.{objects.Constructed.restored-denotes, containers.Safely.seen-refused, containers.TextBlocks.IsPartOther}
+use Rattle.segment_manager.proofs.Common as common
+use common.{◌≡◌, sym, ◌∙◌, true, None, Ok, List, ◌++◌, OnErr, Cut, Table, Kind, Key, Place, Value, Texts, State, [], ℕ}
+use common.{refl, option_to_list, AllByRecursion, is_untouched, container_at, IsStepOfKind, is_read_only, LeadsOnOfKind}
+use common.{ap, subst, false, Option, Result, IfErr, Extent, Answer, LeadsOn, changed, effect, LiveSet, live_of, remove}
+use common.{current, StringsKind, same_kind, IsTextsNow, text_blocks, refusal_of, done_answer, step_of_kind, append-nil}
+use common.{Refusal, Command, OwnedText, Refused, kind_at, Directory, kind_of, perform, Answers, IsSegment, StandsFor}
+use Rattle.segment_manager.proofs.containers.TextsHeld.{HasBytes, HoldsTexts, IsTextsMove, holds-texts, texts-changed}
+use Rattle.segment_manager.proofs.Steps.{IsMove, IsOpenFor, by_no_change_of_kind, by_step_of_kind, open-writing}
+use Rattle.segment_manager.proofs.Steps.{step_of_kind-found, step_of_kind-segment}
+use Rattle.segment_manager.proofs.containers.TextLists.{part-all, part-none, part-removed}
+use Rattle.segment_manager.proofs.containers.AnyStorage.{kind-told, of_kind-same}
+use Rattle.segment_manager.proofs.{Calling.denotes-live, objects.Constructed.restored-denotes}
+use Rattle.segment_manager.proofs.{containers.Safely.seen-refused, containers.TextBlocks.IsPartOther}
 use Rattle.std.proofs.lemmas.Result.{IfErr-weaker}
 use Rattle.seg_vector.specs.TextsCalls.{IsTextLeftOut}
 use Rattle.best_fit.specs.Exchange.{IsRestored}

@@ -1,16 +1,17 @@
 -- The plans of the commands on a vector of texts, and what they come to.
-use Rattle.segment_manager.proofs as own
-use own.Common.{◌≡◌, refl, sym, ap, ◌∙◌, ℕ, ◌-◌, ◌*◌, Bool, true, false, Option, Some, None, Result, Ok, Err, List, []}
-use own.Common.{◌∷◌, length, ◌==◌, if◌then◌else◌, insert, remove, slice_get, slice_set, nat_lt, option_map, Storage}
-use own.Common.{LiveSet, place, resized, Table, cut_table, no_table, Refusal, NoSpace, OutOfRange, Key, Literal, Place}
-use own.Common.{all_texts, new_array, one_more, placed_text, placed_texts, with_array, with_text, OwnedText}
-use own.Common.{capacity_for_one, grown_table, Answer, Done, Refused, TextElement, Texts, Object, Directory, Value}
-use own.Common.{found_at, live, New, Plan, Refuse, Reply, Request, perform, with, with_capacity, with_owned_text}
-use own.Common.{with_owned_texts, with_storage, changed, effect, storage_of, texts_of, with_items}
-use own.containers.ContentPlans.{reserve_with, shrink_with}
-use own.containers.Refilled.{asked-met, of_places, room-grown, then_by, then_room}
-use own.{containers.PlacedTexts.in_block, containers.PlacedTexts.unplaced, Steps.with-found}
-use own.{containers.TextLists.pushed-last, containers.TextLists.removed-last, containers.TextsHeld.HoldsTexts}
+use Rattle.segment_manager.proofs.Common as common
+use common.{◌≡◌, refl, sym, ap, ◌∙◌, ℕ, ◌-◌, ◌*◌, Bool, true, false, Option, Some, None, Result, Ok, Err, List, [], ◌∷◌}
+use common.{length, ◌==◌, if◌then◌else◌, insert, remove, slice_get, slice_set, nat_lt, option_map, Storage, LiveSet}
+use common.{place, resized, Table, cut_table, no_table, Refusal, NoSpace, OutOfRange, Key, Literal, Place, all_texts}
+use common.{new_array, one_more, placed_text, placed_texts, with_array, with_text, OwnedText, capacity_for_one}
+use common.{grown_table, Answer, Done, Refused, TextElement, Texts, Object, Directory, Value, found_at, live, New, Plan}
+use common.{Refuse, Reply, Request, perform, with, with_capacity, with_owned_text, with_owned_texts, with_storage}
+use common.{changed, effect, storage_of, texts_of, with_items}
+use Rattle.segment_manager.proofs.containers.ContentPlans.{reserve_with, shrink_with}
+use Rattle.segment_manager.proofs.containers.Refilled.{asked-met, of_places, room-grown, then_by, then_room}
+use Rattle.segment_manager.proofs.containers.PlacedTexts.{in_block, unplaced}
+use Rattle.segment_manager.proofs.containers.TextLists.{pushed-last, removed-last}
+use Rattle.segment_manager.proofs.{Steps.with-found, containers.TextsHeld.HoldsTexts}
 use Rattle.seg_types.specs.Commands as asked
 use Rattle.segment_manager.specs.Step as step
 

@@ -1,22 +1,20 @@
 -- A vector of texts as the value of an object: it stands at its place as the calls of seg_vector see it, and what they
 -- do to it is what becomes of the object.
-use Rattle.segment_manager.proofs.Common.{◌≡◌, refl, sym, true, ◌&&◌, Some, None, List, ◌++◌, Value, Texts, live, State}
-use Rattle.segment_manager.proofs.Common.{ap, ◌∙◌, ◌+◌, ◌≢◌, ◌≤◌, Ok, [], ◌∷◌, Cut, Key, subst, list_all, and_from}
-use Rattle.segment_manager.proofs.Common.{eqb-true, ltb-true, bytes_of, value_len, IsSegment, ℕ, current, Storage}
-use Rattle.segment_manager.proofs.Common.{LiveSet, live_of, is_table, place_at, count_of, StandsAt, Option, extent_at}
-use Rattle.segment_manager.proofs.Common.{same_kind, IsOwnBlock, IsTextsNow, text_blocks, extents_of, length, IsTrue}
-use Rattle.segment_manager.proofs.Common.{nat_le, nat_lt, eq-eqb, Denotes, kind_of, Answers, changed, arith, le-leb}
-use Rattle.segment_manager.proofs.Common.{lt-ltb, Extent, handle, Table, serves, Place, Object, padded, option_to_list}
-use Rattle.segment_manager.proofs.Common.{AllByRecursion, container_place, has_own_block, is_good_value, IsExchanged}
-use Rattle.segment_manager.proofs.Common.{is_proper, StringsKind, IsSomeTexts, container_at, is_owned_text, AreOthers}
-use Rattle.segment_manager.proofs.Common.{OwnedText, are_bytes, IsValueAt, Directory, is_object, object_at}
+use Rattle.segment_manager.proofs.Common as common
+use common.{◌≡◌, sym, true, ◌&&◌, Some, None, List, ◌++◌, live, ◌∙◌, ◌+◌, ◌≢◌, ◌≤◌, Ok, [], ◌∷◌, Cut, Key, ℕ}
+use common.{refl, Storage, LiveSet, live_of, length, IsTrue, nat_le, nat_lt, eq-eqb, Denotes, kind_of, Answers, changed}
+use common.{Value, Texts, State, ap, subst, arith, le-leb, lt-ltb, Extent, handle, Table, serves, Place, Object, padded}
+use common.{list_all, value_len, IsOwnBlock, IsTextsNow, text_blocks, extents_of, IsExchanged, StringsKind, IsSomeTexts}
+use common.{and_from, IsSegment, extent_at, same_kind, is_proper, AreOthers, OwnedText, are_bytes, IsValueAt, Directory}
+use common.{eqb-true, ltb-true, bytes_of, current, is_table, place_at, count_of, StandsAt, Option, is_object, object_at}
+use common.{option_to_list, AllByRecursion, container_place, has_own_block, is_good_value, container_at, is_owned_text}
 use Rattle.segment_manager.proofs.containers.Contained.{good-with, start-place}
 use Rattle.segment_manager.proofs.containers.TextBlocks.{IsPartOther, others-apart, part-exchange}
 use Rattle.segment_manager.proofs.objects.Rewritten.{with_value, value_start}
 use Rattle.segment_manager.proofs.{Frame.object-roomy, Live.live-split, Order.Rising, Order.live-rises}
-use Rattle.segment_manager.proofs.{containers.Refilled.HoldsAt, Live.IsIn, Calling.denotes-heap, Calling.denotes-live}
-use Rattle.segment_manager.proofs.{containers.Refilled.holds-at, objects.Regrown.rest, objects.Regrown.with_extents}
+use Rattle.segment_manager.proofs.{Live.IsIn, containers.Refilled.HoldsAt, Calling.denotes-live, objects.Regrown.rest}
 use Rattle.segment_manager.proofs.{Order.inserted, objects.Exchanged.denotes-container, objects.Standings.standing-room}
+use Rattle.segment_manager.proofs.{containers.Refilled.holds-at, Calling.denotes-heap, objects.Regrown.with_extents}
 use Rattle.segment_manager.proofs.{containers.ItemSteps.one-kind, objects.Here.standing, objects.ObjectLists.key-found}
 use Rattle.raw_region.proofs.Facts.{AllByRecursion-append, AllByRecursion-behind, AllByRecursion-front, first, no_more}
 use Rattle.raw_region.proofs.Facts.{second}

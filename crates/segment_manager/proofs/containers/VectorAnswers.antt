@@ -1,21 +1,24 @@
 -- What the calls of seg_vector ensure of the vector at the place that was found, as the steps of the calls on the
 -- object's vector.
-use Rattle.segment_manager.proofs as own
-use own.containers.Safely.{pick-outside, pick-space, Answered, answered, done-so}
-use own.Common.{◌++◌, slice_get, take-map, slice_set, same_kind, OutOfRange, IsOutside, Directory, IsSegment, answer_of}
-use own.Common.{◌+◌, length-map, map-append, option_map, literal_of, ScalarKind, IsVectorNow, is_read_only, done_answer}
-use own.Common.{◌-◌, ◌<◌, Err, [], ap, inl, inr, map, pos, sym, true, ◌∙◌, ◌∷◌, ◌≡◌, ◌≤◌, Cut, Key, Done, live}
-use own.Common.{Bool, IsTrue, Result, get_or, length, le-ltb, lt-ltb, insert, remove, Vector, Answers, changed, Command}
-use own.Common.{List, None, Some, arith, false, refl, subst, take, Table, Place, Value, Reply, State, effect, Answer}
-use own.Common.{Ok, slice_get-get_or, slice_get-map, slice_get_past, value_of_literal, capacity_for_one, IsWithoutSpace}
-use own.Common.{ℕ, IsSomeVector, IsVectorGrown, container_at, is_good_value, with_capacity, IsStepOfKind, AnswersSafely}
-use own.Common.{ℤ, list_all, flat_map, size_of, Refusal, NoSpace, Assigns, Element, Refused, Elements, kind_of, perform}
-use own.containers.ContentPlans.{assign-plan, erase-plan, get-plan, insert-plan, pop-plan, push-plan, set-plan}
-use own.containers.ItemSteps.{HoldsItems, ListedGrown, ListedNow, Listing, changes-safely, grows-safely, items-full}
-use own.containers.ItemSteps.{items-grown, items-now, items-refused, items-stay, items-steps, so-too, some-items}
-use own.Whole.{IsOfKind, whole-insert, whole-reached, whole-remove, whole-set, whole-spelled, whole-values}
-use own.{containers.ItemSteps.vector-only, containers.Contained.contents-fit, containers.ToChange.seen-found}
-use own.{Steps.open-reading, Steps.open-writing, objects.Stored.literal-read, objects.Stored.literals-read}
+use Rattle.segment_manager.proofs.Common as common
+use common.{◌++◌, slice_get, take-map, slice_set, same_kind, OutOfRange, IsOutside, Directory, IsSegment, answer_of}
+use common.{◌+◌, length-map, map-append, option_map, literal_of, ScalarKind, IsVectorNow, is_read_only, done_answer}
+use common.{◌-◌, ◌<◌, Err, [], ap, inl, inr, map, pos, sym, true, ◌∙◌, ◌∷◌, ◌≡◌, ◌≤◌, Cut, Key, Done, live, Bool}
+use common.{IsTrue, Result, get_or, length, le-ltb, lt-ltb, insert, remove, Vector, Answers, changed, Command, List}
+use common.{None, Some, arith, false, refl, subst, take, Table, Place, Value, Reply, State, effect, Answer, Ok}
+use common.{slice_get-get_or, slice_get-map, slice_get_past, value_of_literal, capacity_for_one, IsWithoutSpace, ℕ}
+use common.{IsSomeVector, IsVectorGrown, container_at, is_good_value, with_capacity, IsStepOfKind, AnswersSafely, ℤ}
+use common.{list_all, flat_map, size_of, Refusal, NoSpace, Assigns, Element, Refused, Elements, kind_of, perform}
+use Rattle.segment_manager.proofs.containers.Safely.{pick-outside, pick-space, Answered, answered, done-so}
+use Rattle.segment_manager.proofs.containers.ContentPlans.{assign-plan, erase-plan, get-plan, insert-plan, pop-plan}
+use Rattle.segment_manager.proofs.containers.ContentPlans.{push-plan, set-plan}
+use Rattle.segment_manager.proofs.containers.ItemSteps.{HoldsItems, ListedGrown, ListedNow, Listing, changes-safely}
+use Rattle.segment_manager.proofs.containers.ItemSteps.{grows-safely, items-full, items-grown, items-now, items-refused}
+use Rattle.segment_manager.proofs.containers.ItemSteps.{items-stay, items-steps, so-too, some-items, vector-only}
+use Rattle.segment_manager.proofs.Whole.{IsOfKind, whole-insert, whole-reached, whole-remove, whole-set, whole-spelled}
+use Rattle.segment_manager.proofs.objects.Stored.{literal-read, literals-read}
+use Rattle.segment_manager.proofs.{Whole.whole-values, containers.Contained.contents-fit}
+use Rattle.segment_manager.proofs.{containers.ToChange.seen-found, Steps.open-reading, Steps.open-writing}
 use Rattle.seg_vector.specs.VectorCalls.{ErasesFrom, Gets, InsertsInto, IsVector, Pops, Pushes, Sets}
 use Rattle.seg_types.specs.Commands as asked
 

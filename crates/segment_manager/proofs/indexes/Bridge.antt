@@ -1,14 +1,13 @@
 -- The bridge from a directory to the two indexes of its heap: what a look-up in them means for the directory, and which
 -- entry an object is when it comes or goes. What the bytes hold stands in HeldIndexes.
-use Rattle.segment_manager.proofs.Common.{◌≡◌, refl, sym, ap, subst, ◌∙◌, ℕ, ◌+◌, ◌<◌, ◌≤◌, ◌≢◌, ◌⊎◌, inl, inr, true}
-use Rattle.segment_manager.proofs.Common.{false, ◌&&◌, ◌==◌, Some, None, List, [], ◌∷◌, length, arith, IsTrue, filter}
-use Rattle.segment_manager.proofs.Common.{find, insert, remove, slice_get, AllByRecursion, nat_cmp, slice_cmp, and_from}
-use Rattle.segment_manager.proofs.Common.{cases_lt, cond-true, cond-false, eq-eqb, ne_eqb, false≢true, same_Some}
-use Rattle.segment_manager.proofs.Common.{current, Cut, Memory, bytes_of, handle, NamedClass, UniqueClass, Kind}
-use Rattle.segment_manager.proofs.Common.{code_of, same_kind, Index, Named, Unique, Name, Code, Found, Absent, IsPlace}
-use Rattle.segment_manager.proofs.Common.{Object, Directory, IsDirectory, has_key, insert_by, is_class, kind_of}
-use Rattle.segment_manager.proofs.Common.{object_at, remove_object, rises_from, same_bytes, with_object, without_object}
-use Rattle.segment_manager.proofs.Common.{Denotes, handles, IsEntry, Seeks, class_of_index, entries_of, objects_of}
+use Rattle.segment_manager.proofs.Common as common
+use common.{◌≡◌, refl, sym, ap, subst, ◌∙◌, ℕ, ◌+◌, ◌<◌, ◌≤◌, ◌≢◌, ◌⊎◌, inl, inr, true, false, ◌&&◌, ◌==◌, Some, None}
+use common.{List, [], ◌∷◌, length, arith, IsTrue, filter, find, insert, remove, slice_get, AllByRecursion, nat_cmp}
+use common.{slice_cmp, and_from, cases_lt, cond-true, cond-false, eq-eqb, ne_eqb, false≢true, same_Some, current, Cut}
+use common.{Memory, bytes_of, handle, NamedClass, UniqueClass, Kind, code_of, same_kind, Index, Named, Unique, Name}
+use common.{Code, Found, Absent, IsPlace, Object, Directory, IsDirectory, has_key, insert_by, is_class, kind_of}
+use common.{object_at, remove_object, rises_from, same_bytes, with_object, without_object, Denotes, handles, IsEntry}
+use common.{Seeks, class_of_index, entries_of, objects_of, order_of, table_of, by_name, by_kind}
 use Rattle.segment_manager.proofs.indexes.HeldIndexes.{IsSort, all-in, denotes-rises, directory-index, entries-in}
 use Rattle.segment_manager.proofs.indexes.HeldIndexes.{objects-ascend, order-strict}
 use Rattle.segment_manager.proofs.indexes.KeyOrder.{Says, code-of, kinds-apart, kinds-class, kinds-say, name-of}
@@ -17,11 +16,11 @@ use Rattle.segment_manager.proofs.indexes.EntryPlaces.{IsPlaceOf, all-at, all_of
 use Rattle.segment_manager.proofs.indexes.EntryPlaces.{insert-at, none-found, of-class, own-found, remove-at, stands-at}
 use Rattle.segment_manager.proofs.objects.RankedPairs.{found-filter, ordered-pairwise}
 use Rattle.segment_manager.proofs.indexes.Indexes.{index-parts, named-more, rises-above, unique-more, one-removed}
-use Rattle.segment_manager.proofs.{Common.order_of, objects.ObjectLists.rises-rest, indexes.Indexes.by_name-strict}
-use Rattle.segment_manager.proofs.{Common.table_of, Common.by_name, Common.by_kind, Faces.ordered-without}
+use Rattle.segment_manager.proofs.indexes.Indexes.{by_name-strict, by_kind-strict}
+use Rattle.segment_manager.proofs.objects.ObjectLists.{rises-rest, all-found}
+use Rattle.segment_manager.proofs.objects.Ranks.{IsRanked, all-ordered}
+use Rattle.segment_manager.proofs.{Faces.ordered-without, Denoted.handles-length, Live.IsIn, blocks.InUse.all-both}
 use Rattle.raw_region.proofs.Facts.{first}
-use Rattle.segment_manager.proofs.{Denoted.handles-length, Live.IsIn, objects.Ranks.IsRanked, objects.Ranks.all-ordered}
-use Rattle.segment_manager.proofs.{blocks.InUse.all-both, objects.ObjectLists.all-found, indexes.Indexes.by_kind-strict}
 use Rattle.seg_index.specs.{declared.keys.Key.Key, Lookups.order}
 use Rattle.seg_types.specs.Names as names
 

@@ -1,11 +1,10 @@
 -- One index of a directory is written, and the other stays.
-use Rattle.segment_manager.proofs.Common.{◌≡◌, refl, sym, ap, subst, ◌∙◌, suc, ◌+◌, ◌<◌, ◌≤◌, true, false, ◌==◌, None}
-use Rattle.segment_manager.proofs.Common.{length, arith, IsTrue, flat_map, AllByRecursion, Memory, Same, Same-part}
-use Rattle.segment_manager.proofs.Common.{IndexRole, Extent, SameBlock, Table, is_table, no_table, class_code, Key}
-use Rattle.segment_manager.proofs.Common.{ByKind, ByName, Index, place_of, IsIndexAt, Object, Directory, extents_of}
-use Rattle.segment_manager.proofs.Common.{is_class, is_index, kind_of, live, object_at, table_extents, with_object}
-use Rattle.segment_manager.proofs.Common.{handles, class_of_index, entries_of, objects_of, order_of, table_of}
-use Rattle.segment_manager.proofs.Common.{with_table_of, by_name, by_kind, NamedClass, UniqueClass}
+use Rattle.segment_manager.proofs.Common as common
+use common.{◌≡◌, refl, sym, ap, subst, ◌∙◌, suc, ◌+◌, ◌<◌, ◌≤◌, true, false, ◌==◌, None, length, arith, IsTrue}
+use common.{flat_map, AllByRecursion, Memory, Same, Same-part, IndexRole, Extent, SameBlock, Table, is_table, no_table}
+use common.{class_code, Key, ByKind, ByName, Index, place_of, IsIndexAt, Object, Directory, extents_of, is_class}
+use common.{is_index, kind_of, live, object_at, table_extents, with_object, handles, class_of_index, entries_of}
+use common.{objects_of, order_of, table_of, with_table_of, by_name, by_kind, NamedClass, UniqueClass}
 use Rattle.segment_manager.proofs.indexes.Indexes.{named-more, unique-more, ordered-more, new-name, new-kind}
 use Rattle.segment_manager.proofs.indexes.Indexes.{by_name-strict, by_kind-strict}
 use Rattle.segment_manager.proofs.Denoted.{HasIndexes, handles-length, index-stays}

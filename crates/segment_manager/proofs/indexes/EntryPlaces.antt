@@ -1,12 +1,13 @@
 -- Objects in order and their places: which stands where, which one has a key, and where one is put in or taken out.
-use Rattle.segment_manager.proofs as own
-use own.Common.{◌≡◌, refl, sym, ap, subst, ◌∙◌, ℕ, zero, suc, ◌+◌, ◌<◌, ◌≤◌, ◌≢◌, Bool, true, false, Some, None, List}
-use own.Common.{[], ◌∷◌, length, arith, cond, IsTrue, filter, find, fold, insert, remove, slice_get, AllByRecursion}
-use own.Common.{cond-true, cond-false, none-some, same_Some, handle, Class, Object, insert_by, is_class, remove_object}
-use own.objects.Ranks.{IsRanked, IsStrict, all_of-insert_by, insert_by-behind, insert_by-front, ranked-sym}
-use own.{Common.rises, Common.handles, Live.remove-here, Live.remove-behind}
+use Rattle.segment_manager.proofs.Common.{◌≡◌, refl, sym, ap, subst, ◌∙◌, ℕ, zero, suc, ◌+◌, ◌<◌, ◌≤◌, ◌≢◌, Bool, true}
+use Rattle.segment_manager.proofs.Common.{false, Some, None, List, [], ◌∷◌, length, arith, cond, IsTrue, filter, find}
+use Rattle.segment_manager.proofs.Common.{fold, insert, remove, slice_get, AllByRecursion, cond-true, cond-false}
+use Rattle.segment_manager.proofs.Common.{none-some, same_Some, handle, Class, Object, insert_by, is_class}
+use Rattle.segment_manager.proofs.objects.Ranks.{IsRanked, IsStrict, all_of-insert_by, insert_by-behind}
+use Rattle.segment_manager.proofs.{Common.remove_object, Common.rises, Common.handles, objects.Ranks.insert_by-front}
+use Rattle.segment_manager.proofs.{objects.Ranks.ranked-sym, Live.remove-here, Live.remove-behind}
+use Rattle.segment_manager.proofs.{objects.RankedPairs.Pairwise, blocks.InUse.all-both, blocks.InUse.all-each}
 use Rattle.raw_region.proofs.Facts.{first, second}
-use own.{objects.RankedPairs.Pairwise, blocks.InUse.all-both, blocks.InUse.all-each}
 
 -- ---- which stands at a place
 

@@ -1,17 +1,19 @@
 -- Bytes that denote a directory hold its two indexes: each stands in its heap with its block, and its entries lead to
 -- rising keys.
-use Rattle.segment_manager.proofs as own
-use own.Common.{◌≡◌, sym, subst, ◌∙◌, ℕ, ◌+◌, ◌≤◌, ◌%◌, true, Some, List, [], ◌∷◌, length, arith, Less, IsTrue, IfSome}
-use own.Common.{AllByRecursion, nat_cmp, slice_cmp, le-leb, current, Cut, Memory, bytes_of, handle, extent_at, has_room}
-use own.Common.{Index, Named, Unique, Name, Code, IsIndexOf, place_of, IsIndexAt, name_len_at, HasKeys, Object}
-use own.Common.{Directory, IsDirectory, is_class, is_index, is_object, live, Denotes, IsObjectAt, handles, IsEntry}
-use own.Common.{class_of_index, entries_of, objects_of, order_of, table_of}
-use own.objects.Heads.{entries_say_objects, entry-name_len, good-name, good_name-short}
-use own.blocks.InUse.{IsInUse, all-both, all-each, named-in_use, objects-in_use, unique-in_use}
-use own.indexes.EntryPlaces.{Ascends, all-at, ascends-at, rises-ascends, stands-at}
-use own.{indexes.KeyOrder.kind-less, indexes.KeyOrder.name-less, indexes.Indexes.index-parts, objects.Ranks.all-ordered}
-use own.{indexes.Indexes.by_kind-strict, indexes.Indexes.by_name-strict, objects.ObjectLists.each-true}
-use own.{Denoted.handles-length, Calling.denotes-heap, Calling.denotes-live, Frame.object-roomy, objects.Ranks.IsStrict}
+use Rattle.segment_manager.proofs.Common.{◌≡◌, sym, ◌∙◌, ℕ, ◌+◌, ◌≤◌, ◌%◌, [], ◌∷◌, Less, Cut, Name, Code, live}
+use Rattle.segment_manager.proofs.Common.{subst, true, Some, List, arith, Memory, handle, Index, Named, Unique, Object}
+use Rattle.segment_manager.proofs.Common.{length, bytes_of, has_room, place_of, is_class, is_index, is_object, order_of}
+use Rattle.segment_manager.proofs.Common.{IsTrue, IfSome, le-leb, current, HasKeys, Denotes, handles, IsEntry, table_of}
+use Rattle.segment_manager.proofs.Common.{AllByRecursion, nat_cmp, name_len_at, IsDirectory, IsObjectAt, class_of_index}
+use Rattle.segment_manager.proofs.Common.{slice_cmp, extent_at, IsIndexOf, IsIndexAt, Directory, entries_of, objects_of}
+use Rattle.segment_manager.proofs.objects.Heads.{entries_say_objects, entry-name_len, good-name, good_name-short}
+use Rattle.segment_manager.proofs.blocks.InUse.{IsInUse, all-both, all-each, named-in_use, objects-in_use}
+use Rattle.segment_manager.proofs.indexes.EntryPlaces.{Ascends, all-at, ascends-at, rises-ascends, stands-at}
+use Rattle.segment_manager.proofs.indexes.KeyOrder.{kind-less, name-less}
+use Rattle.segment_manager.proofs.indexes.Indexes.{index-parts, by_kind-strict, by_name-strict}
+use Rattle.segment_manager.proofs.objects.Ranks.{all-ordered, IsStrict}
+use Rattle.segment_manager.proofs.{blocks.InUse.unique-in_use, objects.ObjectLists.each-true, Denoted.handles-length}
+use Rattle.segment_manager.proofs.{Calling.denotes-heap, Calling.denotes-live, Frame.object-roomy}
 use Rattle.raw_region.proofs.Facts.{AllByRecursion-filter}
 use Rattle.seg_index.specs.{declared.keys.Key.Key, Lookups.HasKey, Lookups.Rises, Lookups.key_end, Lookups.order_of_two}
 

@@ -1,17 +1,19 @@
 -- The two indexes after an object comes or goes, whatever its class.
-use Rattle.segment_manager.proofs as own
-use own.Common.{◌≡◌, refl, sym, ap, subst, ◌∙◌, ℕ, ◌+◌, ◌<◌, ◌≤◌, ◌≢◌, Bool, true, false, ◌&&◌, Option, Some, None}
-use own.Common.{List, [], ◌∷◌, length, arith, if◌then◌else◌, cond, IsTrue, nat_le, find, filter, AllByRecursion}
-use own.Common.{Ordering, Less, Equal, Greater, nat_cmp, is_lt, is_eq, ordering_reverse, slice_cmp, texts_ties}
-use own.Common.{nat_list_cmp_total, and_from, ltb-true, ltb-false, lt-ltb, le-ltb, le-leb, eqb-false, handle, is_proper}
-use own.Common.{Table, is_table, Class, code_of, same_kind, ByName, ByKind, Object, Directory, IsDirectory, live}
-use own.Common.{kind_of, same_bytes, has_key, object_at, is_class, is_object, is_index, rises, rises_from}
-use own.Common.{remove_object, with_object, without_object, by_name, by_kind, insert_by, named_objects, unique_objects}
-use own.Live.{IsFound, IsIn, Place, here, behind, found-place, remove-here, remove-behind}
-use own.objects.ObjectLists.{list_all-remove, remove-rises, rises-weak, rises-front, rises-rest}
-use own.objects.Ranks.{IsStrict, IsRanked, before, after, AllRanked, ordered-put, remove-more, all-ordered}
-use own.objects.RankedPairs.{ordered-pairwise, pairwise-remove, insert_by-rises, without-rises, insert_by-length}
-use own.{Faces.ordered-without, Faces.ordered}
+use Rattle.segment_manager.proofs.Common as common
+use common.{◌≡◌, refl, sym, ap, subst, ◌∙◌, ℕ, ◌+◌, ◌<◌, ◌≤◌, ◌≢◌, Bool, true, false, ◌&&◌, Option, Some, None, List}
+use common.{[], ◌∷◌, length, arith, if◌then◌else◌, cond, IsTrue, nat_le, find, filter, AllByRecursion, Ordering, Less}
+use common.{Equal, Greater, nat_cmp, is_lt, is_eq, ordering_reverse, slice_cmp, texts_ties, nat_list_cmp_total}
+use common.{and_from, ltb-true, ltb-false, lt-ltb, le-ltb, le-leb, eqb-false, handle, is_proper, Table, is_table, Class}
+use common.{code_of, same_kind, ByName, ByKind, Object, Directory, IsDirectory, live, kind_of, same_bytes, has_key}
+use common.{object_at, is_class, is_object, is_index, rises, rises_from, remove_object, with_object, without_object}
+use common.{by_name, by_kind, insert_by, named_objects, unique_objects}
+use Rattle.segment_manager.proofs.Live.{IsFound, IsIn, Place, here, behind, found-place, remove-here, remove-behind}
+use Rattle.segment_manager.proofs.objects.ObjectLists.{list_all-remove, remove-rises, rises-weak, rises-front}
+use Rattle.segment_manager.proofs.objects.Ranks.{IsStrict, IsRanked, before, after, AllRanked, ordered-put, remove-more}
+use Rattle.segment_manager.proofs.objects.RankedPairs.{ordered-pairwise, pairwise-remove, insert_by-rises}
+use Rattle.segment_manager.proofs.objects.RankedPairs.{without-rises, insert_by-length}
+use Rattle.segment_manager.proofs.Faces.{ordered-without, ordered}
+use Rattle.segment_manager.proofs.{objects.ObjectLists.rises-rest, objects.Ranks.all-ordered}
 use Rattle.raw_region.proofs.Facts.{AllByRecursion-filter, first, second, no_more}
 use Rattle.block_tags.specs.declared.tile.Role.TheVariants.{Index}
 use Rattle.seg_types.specs.declared.kinds.Class.TheVariants.{Named, Unique}

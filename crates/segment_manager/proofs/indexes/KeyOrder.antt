@@ -1,11 +1,12 @@
 -- How the keys that an index compares stand to the objects of a directory: an order of keys says which object has the
 -- key and which comes first.
-use Rattle.segment_manager.proofs as own
-use own.Common.{◌≡◌, refl, sym, ap, ◌∙◌, ℕ, ◌<◌, ◌≢◌, Bool, true, false, ◌&&◌, ◌==◌, List, arith, cond, Ordering, Less}
-use own.Common.{Equal, Greater, nat_lt, nat_cmp, is_lt, is_eq, ordering_reverse, slice_cmp, texts_ties, and_from}
-use own.Common.{and_right, eq-eqb, eqb-true, ne_eqb, lt-ltb, ltb-true, le-ltb, nat_list_cmp_total, NamedClass}
-use own.Common.{UniqueClass, Kind, code_of, same_kind, Object, by_kind, by_name, has_key, is_class, kind_of, same_bytes}
-use own.{indexes.Indexes.lt-less, objects.Ranks.IsRanked, objects.Ranks.before, objects.Ranks.after}
+use Rattle.segment_manager.proofs.Common.{◌≡◌, refl, sym, ap, ◌∙◌, ℕ, ◌<◌, ◌≢◌, Bool, true, false, ◌&&◌, ◌==◌, List}
+use Rattle.segment_manager.proofs.Common.{arith, cond, Ordering, Less, Equal, Greater, nat_lt, nat_cmp, is_lt, is_eq}
+use Rattle.segment_manager.proofs.Common.{ordering_reverse, slice_cmp, texts_ties, and_from, and_right, eq-eqb}
+use Rattle.segment_manager.proofs.Common.{eqb-true, ne_eqb, lt-ltb, ltb-true, le-ltb, nat_list_cmp_total, NamedClass}
+use Rattle.segment_manager.proofs.Common.{UniqueClass, Kind, code_of, same_kind, Object, by_kind, by_name, has_key}
+use Rattle.segment_manager.proofs.objects.Ranks.{IsRanked, before, after}
+use Rattle.segment_manager.proofs.{Common.is_class, Common.kind_of, Common.same_bytes, indexes.Indexes.lt-less}
 use Rattle.raw_region.proofs.Facts.{second}
 use Rattle.std.specs.{Cmp.Equal-is, Cmp.Lexicographic.nat_list_eq_equiv}
 use Rattle.std.proofs.{lemmas.Cmp.nat_cmp_total, lemmas.Map.Lookups.exact_bytes, lemmas.Map.Lookups.exact_unsigned}

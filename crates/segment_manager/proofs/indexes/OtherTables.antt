@@ -1,21 +1,22 @@
 -- What the bytes denote where an index has another table, and where one object is gone.
-use Rattle.segment_manager.proofs as own
-use own.Common.{◌≡◌, refl, sym, ap, subst, ◌∙◌, ℕ, ◌+◌, ◌≤◌, Some, None, Option, List, arith, IsTrue, flat_map}
-use own.Common.{AllByRecursion, Cut, Memory, bytes_of, current, Same-part, Same-trans, IndexRole, Extent, LiveSet}
-use own.Common.{handle, is_proper, added, others, Keeps, LaysOut, SameBlock, live_of, Table, no_table, blocks-trans}
-use own.Common.{Index, beside_table, unlinked, without_link, IsIndexOf, place_of, Object, Directory, extents_of}
-use own.Common.{is_object, live, Denotes, IsObjectAt, class_of_index, entries_of, table_of, with_table_of, ◌*◌, Bool}
-use own.Common.{true, false, ◌&&◌, ◌==◌, [], length, if◌then◌else◌, ◌||◌, option_map, nat_le, nat_lt, list_all, eq-eqb}
-use own.Common.{eqb-true, place, released, resized, cut_table, is_table, serves, placed_is_proper, IsReserved, IsShrunk}
-use own.Common.{KeepsRest, IsIndexAt, link_at, IsHeader, is_index, rises_from, objects_of, order_of, ◌∷◌, lay_out_one}
-use own.Common.{handles, remove_object, table_extents, without_object}
-use own.indexes.Entered.{HasOne, has_both, of_rest, other, other-stays, other-words, other_class}
-use own.indexes.Tables.{index-left_out, left_out, live-moved_index, live-no_index, live-resized_index, live-same_index}
-use own.indexes.Tabled.{same-size, same-objects, has-one, place-high}
-use own.Live.{IsIn, OfEach, live-without, of_each, removing}
-use own.{Order.live-rises, Frame.header-same, Frame.any_index-same, Frame.any_objects-same, Denoted.KeepsFront}
-use own.{Denoted.denotes-taken, Denoted.handles-length, Calling.denotes-live, indexes.Indexes.index-from}
-use own.{indexes.Indexes.index-parts, indexes.HeldIndexes.denotes-index, indexes.Bridge.no-entry-removed}
+use Rattle.segment_manager.proofs.Common as common
+use common.{◌≡◌, Same-part, IndexRole, is_proper, SameBlock, entries_of, option_map, IsReserved, rises_from, objects_of}
+use common.{refl, Option, IsTrue, Memory, Extent, LiveSet, handle, LaysOut, live_of, Denotes, resized, link_at, handles}
+use common.{sym, ◌∙◌, ◌+◌, ◌≤◌, Some, None, List, Cut, live, ◌*◌, Bool, true, ◌&&◌, ◌==◌, [], ◌||◌, place, ◌∷◌}
+use common.{ap, subst, arith, added, others, Keeps, Table, Index, Object, false, length, nat_le, nat_lt, eq-eqb, serves}
+use common.{ℕ, flat_map, bytes_of, no_table, unlinked, IsIndexOf, Directory, is_object, cut_table, KeepsRest, IsIndexAt}
+use common.{AllByRecursion, class_of_index, with_table_of, if◌then◌else◌, placed_is_proper, lay_out_one, without_object}
+use common.{current, place_of, table_of, list_all, eqb-true, released, is_table, IsShrunk, IsHeader, is_index, order_of}
+use common.{Same-trans, blocks-trans, beside_table, without_link, extents_of, IsObjectAt, remove_object, table_extents}
+use Rattle.segment_manager.proofs.indexes.Entered.{HasOne, has_both, of_rest, other, other-stays, other-words}
+use Rattle.segment_manager.proofs.indexes.Tables.{index-left_out, left_out, live-moved_index, live-no_index}
+use Rattle.segment_manager.proofs.indexes.Tabled.{same-size, same-objects, has-one, place-high}
+use Rattle.segment_manager.proofs.Live.{IsIn, OfEach, live-without, of_each, removing}
+use Rattle.segment_manager.proofs.Denoted.{KeepsFront, denotes-taken, handles-length}
+use Rattle.segment_manager.proofs.{indexes.Entered.other_class, indexes.Indexes.index-from, indexes.Indexes.index-parts}
+use Rattle.segment_manager.proofs.{indexes.Tables.live-resized_index, indexes.HeldIndexes.denotes-index}
+use Rattle.segment_manager.proofs.{indexes.Tables.live-same_index, Frame.header-same, indexes.Bridge.no-entry-removed}
+use Rattle.segment_manager.proofs.{Order.live-rises, Frame.any_index-same, Frame.any_objects-same, Calling.denotes-live}
 use Rattle.raw_region.proofs.Facts.{AllByRecursion-behind, AllByRecursion-front, AllByRecursion-append}
 use Rattle.seg_index.proofs.Laws.{place_behind}
 use Rattle.best_fit.specs.Fit.{gap_after, room, shorter}

@@ -1,13 +1,14 @@
 -- The calls that give the indexes other capacities, as steps of the machine.
-use Rattle.segment_manager.proofs as own
-use own.Common.{◌≡◌, cases_lt, IndexRole, IsRefused, cut_table, IsIndexOf, Directory, objects_of, reserve_of, IsSegment}
-use own.Common.{refl, if◌then◌else◌, SamePlace-trans, is_changing, capacity_at, entries_of, with_table_of, is_read_only}
-use own.Common.{sym, ap, ◌∙◌, ◌*◌, ◌<◌, ◌≤◌, ◌⊎◌, inl, inr, List, Cut, Done, live, Plan, New, Bool}
-use own.Common.{subst, true, false, arith, nat_le, le-leb, lt-leb, place, Table, Index, Reply, IsStep, State, effect}
-use own.Common.{ℕ, length, current, NoSpace, IsRoomy, IsShrunk, HasIndex, place_of, Refused, Denotes, table_of, Request}
-use own.indexes.OtherTables.{places_in, reserved-tabled, shrunk-tabled, tabled-denotes}
-use own.Steps.{by_no_change, by_step, lands, open-writing, perform-new, perform-no_space, step-plan, step-reply}
-use own.{containers.Safely.Stepped, containers.Safely.stepped, Calling.denotes-live, indexes.HeldIndexes.denotes-index}
+use Rattle.segment_manager.proofs.Common as common
+use common.{◌≡◌, cases_lt, IndexRole, IsRefused, cut_table, IsIndexOf, Directory, objects_of, reserve_of, IsSegment}
+use common.{refl, if◌then◌else◌, SamePlace-trans, is_changing, capacity_at, entries_of, with_table_of, is_read_only}
+use common.{sym, ap, ◌∙◌, ◌*◌, ◌<◌, ◌≤◌, ◌⊎◌, inl, inr, List, Cut, Done, live, Plan, New, Bool, subst, true, false}
+use common.{arith, nat_le, le-leb, lt-leb, place, Table, Index, Reply, IsStep, State, effect, ℕ, length, current}
+use common.{NoSpace, IsRoomy, IsShrunk, HasIndex, place_of, Refused, Denotes, table_of, Request}
+use Rattle.segment_manager.proofs.indexes.OtherTables.{places_in, reserved-tabled, shrunk-tabled, tabled-denotes}
+use Rattle.segment_manager.proofs.Steps.{by_no_change, by_step, lands, open-writing, perform-new, perform-no_space}
+use Rattle.segment_manager.proofs.{Steps.step-plan, Steps.step-reply, containers.Safely.Stepped}
+use Rattle.segment_manager.proofs.{containers.Safely.stepped, Calling.denotes-live, indexes.HeldIndexes.denotes-index}
 use Rattle.segment_manager.specs.Step.{shrunk_indexes}
 use Rattle.seg_types.specs.Commands as asked
 use Rattle.seg_index.specs.declared.index.Index.TheVariants as index

@@ -1,16 +1,18 @@
 -- What the bytes denote after an index has an entry more or less, or another capacity.
-use Rattle.segment_manager.proofs as own
-use own.Common.{◌≡◌, refl, sym, ap, subst, ◌∙◌, ℕ, ◌+◌, ◌≤◌, Some, None, Option, List, arith, IsTrue, flat_map, insert}
-use own.Common.{AllByRecursion, Cut, Same, SamePlace, bytes_of, current, Same-part, Same-trans, IndexRole, Extent}
-use own.Common.{LiveSet, handle, is_proper, added, others, IsAllocated, Keeps, LaysOut, SameBlock, extent_at, live_of}
-use own.Common.{Table, no_table, allocated-live, blocks-trans, Index, AddKeeps, Adds, beside_table, unlinked}
-use own.Common.{without_link, IsIndexOf, place_of, grown_capacity, Object, Directory, extents_of, is_object, live}
-use own.Common.{object_at, with_object, Denotes, IsObjectAt, class_of_index, entries_of, table_of, with_table_of, place}
-use own.objects.Taking.{IsMade, allocated-found, taken-found, taken-live}
-use own.indexes.Entered.{HasOne, OfRest, entered-other, entered-own, has_both, key_in, of_all, of_rest, other}
-use own.indexes.Tables.{index-left_out, last-table, left_out, live-moved_index, same-table, table-of}
-use own.{Denoted.KeepsFront, Denoted.denotes-put, Order.inserted, Order.live-rises, Live.adding, Calling.denotes-live}
-use own.{Order.all_of-inserted, indexes.Entered.other-stays, indexes.Entered.other-words, Frame.any_object-same}
+use Rattle.segment_manager.proofs.Common as common
+use common.{◌≡◌, refl, sym, ap, subst, ◌∙◌, ℕ, ◌+◌, ◌≤◌, Some, None, Option, List, arith, IsTrue, flat_map, insert}
+use common.{AllByRecursion, Cut, Same, SamePlace, bytes_of, current, Same-part, Same-trans, IndexRole, Extent, LiveSet}
+use common.{handle, is_proper, added, others, IsAllocated, Keeps, LaysOut, SameBlock, extent_at, live_of, Table}
+use common.{no_table, allocated-live, blocks-trans, Index, AddKeeps, Adds, beside_table, unlinked, without_link}
+use common.{IsIndexOf, place_of, grown_capacity, Object, Directory, extents_of, is_object, live, object_at, with_object}
+use common.{Denotes, IsObjectAt, class_of_index, entries_of, table_of, with_table_of, place}
+use Rattle.segment_manager.proofs.objects.Taking.{IsMade, allocated-found, taken-found, taken-live}
+use Rattle.segment_manager.proofs.indexes.Entered.{HasOne, OfRest, entered-other, entered-own, has_both, key_in, of_all}
+use Rattle.segment_manager.proofs.indexes.Entered.{of_rest, other, other-stays, other-words}
+use Rattle.segment_manager.proofs.indexes.Tables.{index-left_out, last-table, left_out, live-moved_index, same-table}
+use Rattle.segment_manager.proofs.Denoted.{KeepsFront, denotes-put}
+use Rattle.segment_manager.proofs.Order.{inserted, live-rises, all_of-inserted}
+use Rattle.segment_manager.proofs.{indexes.Tables.table-of, Live.adding, Calling.denotes-live, Frame.any_object-same}
 use Rattle.seg_index.proofs.Laws.{place_behind}
 use Rattle.seg_index.specs.declared.index.Index.TheVariants as index
 

@@ -1,11 +1,12 @@
 -- The live set after one of the two indexes takes another block, loses its block, or has it shortened.
-use Rattle.segment_manager.proofs as own
-use own.Common.{◌≡◌, refl, sym, ap, subst, ◌∙◌, ℕ, ◌+◌, ◌≢◌, Some, None, Option, List, [], ◌∷◌, ◌++◌, append_assoc}
-use own.Common.{IsTrue, flat_map, option_to_list, option_map, AllByRecursion, Extent, LiveSet, handle, is_proper}
-use own.Common.{others, added, released, resized, Table, no_table, Index, without_link, Directory, sorted, live}
-use own.Common.{extents_of, table_extents, table_of, with_table_of}
-use own.Order.{Differs, Rising, inserted, insert-inserted, sorted-append, all_of-sorted, live-rises, rising-insert}
-use own.{Order.rising-inserted, Order.apart-inserted, Order.others-insert, Live.adding, objects.Regrown.differs-flip}
+use Rattle.segment_manager.proofs.Common.{◌≡◌, refl, sym, ap, subst, ◌∙◌, ℕ, ◌+◌, ◌≢◌, Some, None, Option, List, []}
+use Rattle.segment_manager.proofs.Common.{◌∷◌, ◌++◌, append_assoc, IsTrue, flat_map, option_to_list, option_map}
+use Rattle.segment_manager.proofs.Common.{AllByRecursion, Extent, LiveSet, handle, is_proper, others, added, released}
+use Rattle.segment_manager.proofs.Common.{resized, Table, no_table, Index, without_link, Directory, sorted, live}
+use Rattle.segment_manager.proofs.Common.{extents_of, table_extents, table_of, with_table_of}
+use Rattle.segment_manager.proofs.Order.{Differs, Rising, inserted, insert-inserted, sorted-append, all_of-sorted}
+use Rattle.segment_manager.proofs.Order.{live-rises, rising-insert, rising-inserted, apart-inserted, others-insert}
+use Rattle.segment_manager.proofs.{Live.adding, objects.Regrown.differs-flip}
 use Rattle.raw_region.proofs.Facts.{AllByRecursion-front, AllByRecursion-behind}
 use Rattle.std.proofs.lemmas.List.{append-nil}
 use Rattle.best_fit.specs.{Fit.insert, Table.table_link}

@@ -1,18 +1,17 @@
 -- Calls on elements whose kind is what the object says: then the step of the kind is the command's own.
-use Rattle.segment_manager.proofs.Common.{◌≡◌, refl, sym, ap, subst, ◌∙◌, ℕ, ℤ, pos, true, false, Option, Some, None}
-use Rattle.segment_manager.proofs.Common.{Result, Ok, Err, List, map, slice_set, eq-eqb, same_Some, Kind, ScalarOf}
-use Rattle.segment_manager.proofs.Common.{StringKind, VectorKind, StringsKind, ScalarKind, U8, Refusal, NotFound}
-use Rattle.segment_manager.proofs.Common.{WrongKind, code_of, is_value, Key, ByHandle, Command, Literal, literal_of}
-use Rattle.segment_manager.proofs.Common.{value_of_literal, Mode, Located, Answer, Done, Refused, elements_at}
-use Rattle.segment_manager.proofs.Common.{elements_of, kind_at, Value, Numbers, Elements, Bytes, Pairs, Texts, Object}
-use Rattle.segment_manager.proofs.Common.{Directory, kind_of, live, object_at, IsMissing, IsLocated, Plan, Refuse}
-use Rattle.segment_manager.proofs.Common.{Reply, perform, with, Answers, IsReply, IsReplyOfKind, IsStep, State}
-use Rattle.segment_manager.proofs.Common.{StandsFor, changed, effect, element_at, get, is_read_only, set, step}
+use Rattle.segment_manager.proofs.Common as common
+use common.{◌≡◌, refl, sym, ap, subst, ◌∙◌, ℕ, ℤ, pos, true, false, Option, Some, None, Result, Ok, Err, List, map}
+use common.{slice_set, eq-eqb, same_Some, Kind, ScalarOf, StringKind, VectorKind, StringsKind, ScalarKind, U8, Refusal}
+use common.{NotFound, WrongKind, code_of, is_value, Key, ByHandle, Command, Literal, literal_of, value_of_literal, Mode}
+use common.{Located, Answer, Done, Refused, elements_at, elements_of, kind_at, Value, Numbers, Elements, Bytes, Pairs}
+use common.{Texts, Object, Directory, kind_of, live, object_at, IsMissing, IsLocated, Plan, Refuse, Reply, perform}
+use common.{with, Answers, IsReply, IsReplyOfKind, IsStep, State, StandsFor, changed, effect, element_at, get}
+use common.{is_read_only, set, step, with_items}
 use Rattle.segment_manager.proofs.objects.Locating.{kind-by_key, reply_of_kind-by_key}
 use Rattle.segment_manager.proofs.containers.Refilled.{refused-steps, same_plan-steps}
 use Rattle.segment_manager.proofs.Steps.{open-reading, step-refuse, step_of_kind-step, with-found, with-not_found}
-use Rattle.segment_manager.proofs.{Common.with_items, containers.AnyStorage.IsOfKindAt, containers.AnyStorage.kind-told}
-use Rattle.segment_manager.proofs.{objects.Stored.literal-read}
+use Rattle.segment_manager.proofs.containers.AnyStorage.{IsOfKindAt, kind-told}
+use Rattle.segment_manager.proofs.objects.Stored.{literal-read}
 use Rattle.segment_manager.specs.Calls.{scalar_reply}
 use Rattle.seg_types.specs.Commands as asked
 

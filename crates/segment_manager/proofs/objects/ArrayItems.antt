@@ -1,13 +1,13 @@
 -- An array that is made of items: the call takes all of them, or none.
-use Rattle.segment_manager.proofs as own
-use own.Common.{◌≡◌, refl, sym, ap, subst, ◌∙◌, ℕ, ◌+◌, ◌*◌, ◌≤◌, ℤ, Bool, true, false, if◌then◌else◌, Option, Some}
-use own.Common.{None, Result, Ok, Err, List, [], ◌∷◌, ◌++◌, length, map, replicate, arith, IfErr, MatchResult, nat_lt}
-use own.Common.{pos, take, Yields, le-ltb, lt-ltb, length-map, length-replicate, take_all, ObjectRole, Extent, LiveSet}
-use own.Common.{handle, resized, Class, Anonymous, ScalarKind, Refusal, Exists, NoSpace, OutOfRange, size_of, Key, Mode}
-use own.Common.{Write, CopyOnWrite, Answer, Made, Refused, is_untouched, Numbers, Object, Directory, live}
-use own.Common.{named_objects, object_at, object_len, padded, unique_objects, with_object, TakesItems, head_len, Need}
-use own.Common.{New, Plan, Refuse, Reply, Request, class_of, met, name_of, perform, with_entry, with_new_object, IsStep}
-use own.Common.{KeepsRefused, State, StandsFor, handle_answer, step}
+use Rattle.segment_manager.proofs.Common as common
+use common.{◌≡◌, refl, sym, ap, subst, ◌∙◌, ℕ, ◌+◌, ◌*◌, ◌≤◌, ℤ, Bool, true, false, if◌then◌else◌, Option, Some, None}
+use common.{Result, Ok, Err, List, [], ◌∷◌, ◌++◌, length, map, replicate, arith, IfErr, MatchResult, nat_lt, pos, take}
+use common.{Yields, le-ltb, lt-ltb, length-map, length-replicate, take_all, ObjectRole, Extent, LiveSet, handle}
+use common.{resized, Class, Anonymous, ScalarKind, Refusal, Exists, NoSpace, OutOfRange, size_of, Key, Mode, Write}
+use common.{CopyOnWrite, Answer, Made, Refused, is_untouched, Numbers, Object, Directory, live, named_objects}
+use common.{object_at, object_len, padded, unique_objects, with_object, TakesItems, head_len, Need, New, Plan, Refuse}
+use common.{Reply, Request, class_of, met, name_of, perform, with_entry, with_new_object, IsStep, KeepsRefused, State}
+use common.{StandsFor, handle_answer, step}
 use Rattle.std.specs.Iterator.{YieldsFirst, YieldsThen}
 use Rattle.std.proofs.lemmas.List.{append-nil, length-append}
 use Rattle.seg_types.specs.declared.kinds.Class.TheVariants.{Named, Unique}

@@ -1,19 +1,19 @@
 -- An object made under a key with an entry: what the bytes denote, and what the machine does.
-use Rattle.segment_manager.proofs as own
-use own.Common.{◌≡◌, refl, sym, ap, subst, ◌∙◌, ℕ, ◌*◌, ◌<◌, ◌≤◌, inl, inr, ℤ, Some, None, Option, List, length, arith}
-use own.Common.{insert, Cut, bytes_of, current, ObjectRole, IndexRole, Extent, LiveSet, handle, added, place, resized}
-use own.Common.{Keeps, LaysOut, live_of, Table, allocated-live, keeps-trans, Kind, Scalar, ScalarKind, Content, Index}
-use own.Common.{Absent, AddKeeps, Adds, IsGrowth, grown_bytes, IsIndexOf, entry_count, place_of, grown_capacity}
-use own.Common.{IsPlace, Refused, Denotes, Value, Numbers, Object, Directory, count_of, extents_of, kind_of, live}
-use own.Common.{object_len, with_object, IsDenied, IsGiven, class_of_index, entries_of, objects_of, table_of}
-use own.Common.{with_table_of, IsNewKeyOf, IsRequested, IsRestored, Plan, New, Request, bare, class_of, name_of}
-use own.Common.{perform, with_entry, with_new_object, with_value, NoSpace}
-use own.objects.Requests.{entry-grows, entry-refused, entry-room}
-use own.indexes.Tabled.{IsEntered, entered-denotes, entered-none, entered-some, grown_into}
-use own.objects.NewKeys.{key-class, key-has, key-name, key-own, key-seeks, object_of}
-use own.{indexes.Bridge.entry-added, indexes.Bridge.lookup-absent, Calling.denotes-live, Kept.denotes-kept}
-use own.{objects.Taking.IsMade, objects.Taking.taken-index, objects.Taking.growth-index, Steps.perform-new}
-use own.{Steps.perform-no_space, indexes.Tables.same-table, indexes.HeldIndexes.denotes-index, Denoted.handles-length}
+use Rattle.segment_manager.proofs.Common as common
+use common.{◌≡◌, sym, ◌∙◌, ◌*◌, ◌<◌, ◌≤◌, inl, inr, Some, None, List, Cut, Kind, Adds, Value, live, Plan, New, bare}
+use common.{refl, IndexRole, AddKeeps, IsIndexOf, Directory, objects_of, IsNewKeyOf, IsRestored, with_entry, with_value}
+use common.{ap, current, LiveSet, resized, LaysOut, live_of, IsGrowth, place_of, count_of, IsDenied, table_of, class_of}
+use common.{subst, ℤ, length, arith, insert, Extent, handle, added, place, Keeps, Table, Scalar, Index, Absent, Object}
+use common.{ℕ, allocated-live, keeps-trans, grown_bytes, grown_capacity, class_of_index, with_table_of, with_new_object}
+use common.{Option, Content, IsPlace, Refused, Denotes, Numbers, kind_of, IsGiven, Request, name_of, perform, NoSpace}
+use common.{bytes_of, ObjectRole, ScalarKind, entry_count, extents_of, object_len, with_object, entries_of, IsRequested}
+use Rattle.segment_manager.proofs.objects.Requests.{entry-grows, entry-refused, entry-room}
+use Rattle.segment_manager.proofs.indexes.Tabled.{IsEntered, entered-denotes, entered-none, entered-some, grown_into}
+use Rattle.segment_manager.proofs.objects.NewKeys.{key-class, key-has, key-name, key-own, key-seeks, object_of}
+use Rattle.segment_manager.proofs.indexes.Bridge.{entry-added, lookup-absent}
+use Rattle.segment_manager.proofs.objects.Taking.{IsMade, taken-index, growth-index}
+use Rattle.segment_manager.proofs.{Calling.denotes-live, Kept.denotes-kept, Steps.perform-new, Steps.perform-no_space}
+use Rattle.segment_manager.proofs.{indexes.Tables.same-table, indexes.HeldIndexes.denotes-index, Denoted.handles-length}
 use Rattle.best_fit.proofs.Laws.{AllByRecursion-insert}
 use Rattle.seg_index.specs.{declared.keys.Key.Key, Growth.grown_live}
 use Rattle.segment_manager.specs.objects.NewObjects.{FindsNone}

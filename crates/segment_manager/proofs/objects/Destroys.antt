@@ -1,13 +1,12 @@
 -- The object of a handle and its own entry, and what it is to destroy an object.
-use Rattle.segment_manager.proofs.Common.{◌≡◌, sym, ap, ◌∙◌, ◌<◌, [], ◌∷◌, Cut}
-use Rattle.segment_manager.proofs.Common.{refl, true, ◌==◌, Some, None, List, Table, Found, Truth, Seeks, Plan, Reply}
-use Rattle.segment_manager.proofs.Common.{subst, Directory, IsReleased, is_live_in, HoldsObject, entries_of, objects_of}
-use Rattle.segment_manager.proofs.Common.{ℕ, Option, handle, Class, Index, Absent, Object, State, arith, remove, IsStep}
-use Rattle.segment_manager.proofs.Common.{false, LaysOut, live_of, Refused, Denotes, Becomes, Empties, emptied, changed}
-use Rattle.segment_manager.proofs.Common.{bytes_of, IsAnonymousAt, lay_out_one, beside_table, entry_count, is_read_only}
-use Rattle.segment_manager.proofs.Common.{current, IsPlace, is_class, NotFound, HasIndex, place_of, order_of, table_of}
-use Rattle.segment_manager.proofs.Common.{class_code, slice_get_within, SamePlace-trans, without_object, class_of_index}
-use Rattle.segment_manager.proofs.Common.{object_at, IsSegment, StandsFor, slice_get, same_Some, KeepsRest, IsIndexOf}
+use Rattle.segment_manager.proofs.Common as common
+use common.{◌≡◌, sym, ap, ◌∙◌, ◌<◌, [], ◌∷◌, Cut, refl, true, ◌==◌, Some, None, List, Table, Found, Truth, Seeks, Plan}
+use common.{Reply, subst, Directory, IsReleased, is_live_in, HoldsObject, entries_of, objects_of, ℕ, Option, handle}
+use common.{Class, Index, Absent, Object, State, arith, remove, IsStep, false, LaysOut, live_of, Refused, Denotes}
+use common.{Becomes, Empties, emptied, changed, bytes_of, IsAnonymousAt, lay_out_one, beside_table, entry_count}
+use common.{is_read_only, current, IsPlace, is_class, NotFound, HasIndex, place_of, order_of, table_of, class_code}
+use common.{slice_get_within, SamePlace-trans, without_object, class_of_index, object_at, IsSegment, StandsFor}
+use common.{slice_get, same_Some, KeepsRest, IsIndexOf}
 use Rattle.segment_manager.proofs.indexes.Bridge.{lookup-absent, IsEntryFor, entry-removed, in-handles, lookup-found}
 use Rattle.segment_manager.proofs.containers.Emptied.{changed-entries, changed-in, changed-others, emptied-is}
 use Rattle.segment_manager.proofs.Steps.{by_no_change, by_step, lands, open-writing, step-refuse, step-reply}

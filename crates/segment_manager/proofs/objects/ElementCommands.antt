@@ -1,12 +1,11 @@
 -- Commands on elements by literals: which call is the step of the command, by the kind of the object.
-use Rattle.segment_manager.proofs.Common.{◌≡◌, true, Some, None, List, Kind, Value, Pairs, Texts, Refuse, IsStep, State}
-use Rattle.segment_manager.proofs.Common.{refl, NotFound, is_value, ByHandle, Elements, Directory, IsLocated, StandsFor}
-use Rattle.segment_manager.proofs.Common.{sym, ap, ◌∙◌, ◌⊎◌, inl, inr, ℕ, ℤ, Ok, Err, Key}
-use Rattle.segment_manager.proofs.Common.{subst, literal_of, OwnedText, elements_at, elements_of, IsToChange, IsValueOf}
-use Rattle.segment_manager.proofs.Common.{false, MapKind, Refusal, Literal, Located, Refused, kind_at, kind_of, Answers}
-use Rattle.segment_manager.proofs.Common.{Option, Result, length, nat_lt, Table, Scalar, Vector, Quoted, Answer, Object}
-use Rattle.segment_manager.proofs.Common.{StringsKind, WrongKind, ScalarValue, IsChangeable, IsStepOfKind, is_read_only}
-use Rattle.segment_manager.proofs.Common.{ScalarKind, value_of_literal, kind_of_scalar, value_of_scalar, IsUnchangeable}
+use Rattle.segment_manager.proofs.Common as common
+use common.{◌≡◌, true, Some, None, List, Kind, Value, Pairs, Texts, Refuse, IsStep, State, refl, NotFound, is_value}
+use common.{ByHandle, Elements, Directory, IsLocated, StandsFor, sym, ap, ◌∙◌, ◌⊎◌, inl, inr, ℕ, ℤ, Ok, Err, Key, subst}
+use common.{literal_of, OwnedText, elements_at, elements_of, IsToChange, IsValueOf, false, MapKind, Refusal, Literal}
+use common.{Located, Refused, kind_at, kind_of, Answers, Option, Result, length, nat_lt, Table, Scalar, Vector, Quoted}
+use common.{Answer, Object, StringsKind, WrongKind, ScalarValue, IsChangeable, IsStepOfKind, is_read_only, ScalarKind}
+use common.{value_of_literal, kind_of_scalar, value_of_scalar, IsUnchangeable}
 use Rattle.segment_manager.proofs.containers.AnyStorage.{IsOfKindAt, kind-told, of_kind-steps}
 use Rattle.segment_manager.proofs.containers.ContentPlans.{erase-other, insert-other, insert-plan, is_no_vector}
 use Rattle.segment_manager.proofs.containers.ContentPlans.{pop-other, push-other, push-plan}

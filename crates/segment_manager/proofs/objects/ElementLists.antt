@@ -1,13 +1,13 @@
 -- The elements of the object of a key, one after another: what a reading of one says of the list, and how long it is.
-use Rattle.segment_manager.proofs as own
-use own.Common.{◌≡◌, refl, sym, ap, ◌∙◌, ℕ, zero, suc, ℤ, Bool, true, false, Option, Some, None, Result, Ok, Err, List}
-use own.Common.{[], ◌∷◌, length, map, if◌then◌else◌, option_map, slice_get, Kind, ScalarOf, StringsKind, ScalarKind}
-use own.Common.{Refusal, NotFound, OutOfRange, WrongKind, same_kind, Key, OwnedText, Mode, Answer, Element, Refused}
-use own.Common.{TextElement, sizes_of, sizes_of_kind, Value, Object, Directory, count_of, kind_of, live, object_at}
-use own.Common.{first_size, length_at_kind, number_or_none, Reply, perform, with, answer_of, get, step_of_kind}
-use own.Steps.{open-reading, step_of_kind-found, step_of_kind-not_found, step_of_kind-other, with-found}
-use own.{Codes.numbers-only, containers.TextsHeld.texts-only, containers.ItemSteps.vector-only}
-use own.{containers.ContentPlans.of_slice, containers.TextPlans.text_in}
+use Rattle.segment_manager.proofs.Common as common
+use common.{◌≡◌, refl, sym, ap, ◌∙◌, ℕ, zero, suc, ℤ, Bool, true, false, Option, Some, None, Result, Ok, Err, List, []}
+use common.{◌∷◌, length, map, if◌then◌else◌, option_map, slice_get, Kind, ScalarOf, StringsKind, ScalarKind, Refusal}
+use common.{NotFound, OutOfRange, WrongKind, same_kind, Key, OwnedText, Mode, Answer, Element, Refused, TextElement}
+use common.{sizes_of, sizes_of_kind, Value, Object, Directory, count_of, kind_of, live, object_at, first_size}
+use common.{length_at_kind, number_or_none, Reply, perform, with, answer_of, get, step_of_kind}
+use Rattle.segment_manager.proofs.Steps.{open-reading, step_of_kind-found, step_of_kind-not_found, step_of_kind-other}
+use Rattle.segment_manager.proofs.{Steps.with-found, containers.ItemSteps.vector-only, containers.ContentPlans.of_slice}
+use Rattle.segment_manager.proofs.{Codes.numbers-only, containers.TextsHeld.texts-only, containers.TextPlans.text_in}
 use Rattle.seg_types.specs.declared.kinds.Kind.TheVariants.{Vector as VectorOf}
 use Rattle.segment_manager.specs.objects.ElementLists.{array_at, array_length_at, list_at, numbers_in, texts_at}
 use Rattle.segment_manager.specs.objects.ElementLists.{texts_in, vector_at}

@@ -1,12 +1,11 @@
 -- An object in the place of one like it, whose value has other blocks: the blocks of all other objects stay.
-use Rattle.segment_manager.proofs.Common.{◌≡◌, refl, sym, ap, subst, ◌∙◌, ℕ, ◌+◌, ◌≤◌, ◌≢◌, inl, inr, List, [], ◌∷◌}
-use Rattle.segment_manager.proofs.Common.{◌++◌, length, arith, IsTrue, AllByRecursion, Memory, Cut, Same, bytes_of}
-use Rattle.segment_manager.proofs.Common.{exchanged, SameBlockBut, IsExchanged, Extent, LiveSet, handle, end_of}
-use Rattle.segment_manager.proofs.Common.{is_proper, LaysOut, SameBlock, Keeps, live_of, Value, Object, Directory, live}
-use Rattle.segment_manager.proofs.Common.{extents_of, padded, count_of, kind_of, value_len, value_extents, is_object}
-use Rattle.segment_manager.proofs.Common.{remove_object, with_changed, without_object, Denotes, IsObjectAt, IsValueAt}
-use Rattle.segment_manager.proofs.Common.{changed, SameSpread, inserted-append, live-spaced, middle-first}
-use Rattle.segment_manager.proofs.Common.{spaced-insert, ◌-◌, current, Some, IsChanged, extent_at}
+use Rattle.segment_manager.proofs.Common as common
+use common.{◌≡◌, refl, sym, ap, subst, ◌∙◌, ℕ, ◌+◌, ◌≤◌, ◌≢◌, inl, inr, List, [], ◌∷◌, ◌++◌, length, arith, IsTrue}
+use common.{AllByRecursion, Memory, Cut, Same, bytes_of, exchanged, SameBlockBut, IsExchanged, Extent, LiveSet, handle}
+use common.{end_of, is_proper, LaysOut, SameBlock, Keeps, live_of, Value, Object, Directory, live, extents_of, padded}
+use common.{count_of, kind_of, value_len, value_extents, is_object, remove_object, with_changed, without_object}
+use common.{Denotes, IsObjectAt, IsValueAt, changed, SameSpread, inserted-append, live-spaced, middle-first}
+use common.{spaced-insert, ◌-◌, current, Some, IsChanged, extent_at}
 use Rattle.segment_manager.proofs.Live.{adding, IsFound, IsIn, live-split, live-changed}
 use Rattle.segment_manager.proofs.objects.Regrown.{InPlace, differs-flip, rest, with_extents}
 use Rattle.segment_manager.proofs.objects.Rewritten.{object-held, value_start, with_value}

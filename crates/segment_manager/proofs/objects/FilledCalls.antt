@@ -1,15 +1,17 @@
 -- Calls that construct an object, of what fills it or of numbers from items, as the code makes them.
-use Rattle.segment_manager.proofs as own
-use own.Common.{false≢true, ◌≡◌, refl, sym, ap, subst, ◌∙◌, ℕ, true, false, Some, None, Option, Ok, Err, Result, List}
-use own.Common.{IfErr, none-some, Cut, Kind, Refusal, Exists, NoSpace, Command, Content, Index, NewEntry, Mode, Answer}
-use own.Common.{Made, Refused, is_untouched, Begins, IsAbsentAt, IsNotBegun, Object, Directory, count_of, kind_of}
-use own.Common.{object_at, value_len, Constructs, FindsOrConstructs, IsBegunFor, MakesValue, with_count, handle_at}
-use own.Common.{pair_answer, IsNewKeyOf, bare, StandsAt, pair_of_kind, Answers, IsSegment, IsStep, State, answer_of}
-use own.Common.{handle_answer, is_read_only, Reply, effect, found, with_new_object, handle, place, step}
-use own.objects.FoundOrMade.{constructs-exists, finds, found-there, made_for, made_handle, makes, makes-nothing}
-use own.objects.NewValues.{IsMadeNever, IsMadeNow, away-in, value-built, value-loose, value-not_built, value-ready}
-use own.objects.NotBegun.{key-taken, value-not_begun}
-use own.{Steps.step-segment, indexes.Bridge.lookup-absent, objects.NewKeys.key-seeks}
+use Rattle.segment_manager.proofs.Common as common
+use common.{false≢true, ◌≡◌, refl, sym, ap, subst, ◌∙◌, ℕ, true, false, Some, None, Option, Ok, Err, Result, List}
+use common.{IfErr, none-some, Cut, Kind, Refusal, Exists, NoSpace, Command, Content, Index, NewEntry, Mode, Answer}
+use common.{Made, Refused, is_untouched, Begins, IsAbsentAt, IsNotBegun, Object, Directory, count_of, kind_of}
+use common.{object_at, value_len, Constructs, FindsOrConstructs, IsBegunFor, MakesValue, with_count, handle_at}
+use common.{pair_answer, IsNewKeyOf, bare, StandsAt, pair_of_kind, Answers, IsSegment, IsStep, State, answer_of}
+use common.{handle_answer, is_read_only, Reply, effect, found, with_new_object, handle, place, step}
+use Rattle.segment_manager.proofs.objects.FoundOrMade.{constructs-exists, finds, found-there, made_for, made_handle}
+use Rattle.segment_manager.proofs.objects.FoundOrMade.{makes, makes-nothing}
+use Rattle.segment_manager.proofs.objects.NewValues.{IsMadeNever, IsMadeNow, away-in, value-built, value-loose}
+use Rattle.segment_manager.proofs.objects.NewValues.{value-not_built, value-ready}
+use Rattle.segment_manager.proofs.objects.NotBegun.{key-taken, value-not_begun}
+use Rattle.segment_manager.proofs.{Steps.step-segment, indexes.Bridge.lookup-absent, objects.NewKeys.key-seeks}
 use Rattle.segment_manager.specs.containers.Filled.{HasBegun, Builds, IsShapeOf}
 use Rattle.segment_manager.specs.{objects.Begun.Ends, objects.Begun.IsEnding, objects.Found.pair_found, Answers.Found}
 use Rattle.segment_manager.specs.{declared.objects.beginning.Begun.Begun, declared.containers.fillings.Shape.Shape}

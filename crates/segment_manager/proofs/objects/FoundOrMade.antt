@@ -1,11 +1,12 @@
 -- An object found under a key, or constructed where there is none, as a step of the machine.
-use Rattle.segment_manager.proofs as own
-use own.Common.{◌≡◌, refl, sym, ap, ◌∙◌, ℕ, false, Some, None, Option, Result, if◌then◌else◌, Cut, SamePlace, handle}
-use own.Common.{Refusal, NoSpace, WrongKind, Exists, same_kind, Key, Content, Answer, Refused, Made, Object, Directory}
-use own.Common.{kind_of, object_at, handle_at, pair_answer, Plan, Refuse, Reply, bare, with_new_object, StandsAt}
-use own.Common.{pair_of_kind, Answers, IsStep, StandsFor, State, found, is_read_only, Command, effect}
-use own.Steps.{by_no_change, by_step, lands, open-writing, step-plan, step-refuse}
-use own.{objects.Constructed.IsNewObject, objects.Constructed.IsNoObject, objects.Here.here, objects.KeyCalls.kind-step}
+use Rattle.segment_manager.proofs.Common.{◌≡◌, sym, ap, ◌∙◌, ℕ, None, Cut, Key, Made, Plan, Reply, bare, State, found}
+use Rattle.segment_manager.proofs.Common.{refl, if◌then◌else◌, pair_answer, with_new_object, pair_of_kind, is_read_only}
+use Rattle.segment_manager.proofs.Common.{false, Option, Result, handle, Exists, Answer, Object, Refuse, IsStep, effect}
+use Rattle.segment_manager.proofs.Common.{Some, Refusal, NoSpace, Content, Refused, kind_of, StandsAt, Answers, Command}
+use Rattle.segment_manager.proofs.Common.{SamePlace, WrongKind, same_kind, Directory, object_at, handle_at, StandsFor}
+use Rattle.segment_manager.proofs.Steps.{by_no_change, by_step, lands, open-writing, step-plan, step-refuse}
+use Rattle.segment_manager.proofs.objects.Constructed.{IsNewObject, IsNoObject}
+use Rattle.segment_manager.proofs.{objects.Here.here, objects.KeyCalls.kind-step}
 use Rattle.seg_types.specs.Commands as asked
 
 -- ---- an object that is constructed

@@ -1,11 +1,11 @@
 -- What the words of an index entry are of an object that stands in its block.
-use Rattle.segment_manager.proofs as own
-use own.Common.{◌≡◌, ap, ◌∙◌, ℕ, zero, suc, ◌+◌, ◌*◌, ◌-◌, ◌<◌, ◌≤◌, Bool, true, false, ◌&&◌, not, List, [], ◌∷◌, ◌++◌}
-use own.Common.{length, replicate, ◌==◌, if◌then◌else◌, arith, IsTrue, nat_le, AllByRecursion, list_all, is_utf8, chars}
-use own.Common.{and_parts, eqb-true, leb-true, Memory, bytes_of, read, Has, word_at, handle, serves, ObjectRole}
-use own.Common.{ScalarKind, BoolKind, Kind, Scalar, Vector, Map, scalar_code, code_of, class_code, is_kind_of, is_name}
-use own.Common.{is_printable_name, is_text_name, is_control, name_len_at, Object, kind_of, count_of, padded, is_class}
-use own.Common.{has_good_name, is_good_value, is_object, object_len, IsObjectAt, IsEntry, subst, length-append}
+use Rattle.segment_manager.proofs.Common as common
+use common.{◌≡◌, ap, ◌∙◌, ℕ, zero, suc, ◌+◌, ◌*◌, ◌-◌, ◌<◌, ◌≤◌, Bool, true, false, ◌&&◌, not, List, [], ◌∷◌, ◌++◌}
+use common.{length, replicate, ◌==◌, if◌then◌else◌, arith, IsTrue, nat_le, AllByRecursion, list_all, is_utf8, chars}
+use common.{and_parts, eqb-true, leb-true, Memory, bytes_of, read, Has, word_at, handle, serves, ObjectRole, ScalarKind}
+use common.{BoolKind, Kind, Scalar, Vector, Map, scalar_code, code_of, class_code, is_kind_of, is_name}
+use common.{is_printable_name, is_text_name, is_control, name_len_at, Object, kind_of, count_of, padded, is_class}
+use common.{has_good_name, is_good_value, is_object, object_len, IsObjectAt, IsEntry, subst, length-append}
 use Rattle.raw_region.proofs.{Facts.first, Facts.second, Bytes.Has-take}
 use Rattle.seg_types.specs.declared.kinds.Class.TheVariants.{Named}
 use Rattle.segment_manager.specs.objects.Heads.{EntriesSayObjects}

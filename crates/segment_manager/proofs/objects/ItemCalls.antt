@@ -1,21 +1,23 @@
 -- Calls that construct an object of numbers from items, as the code makes them.
-use Rattle.segment_manager.proofs as own
-use own.Common.{◌≡◌, refl, sym, ap, subst, ◌∙◌, ℕ, true, false, Some, None, Option, Ok, Err, Result, List, Cut, Refusal}
-use own.Common.{Exists, NoSpace, Command, NewEntry, Made, Refused, IsNotBegun, Object, Directory, object_at, IsSegment}
-use own.Common.{IsStep, State, is_read_only, Reply, effect, with_new_object, ◌+◌, ◌*◌, ◌≤◌, ℤ, Bool, [], length, map}
-use own.Common.{replicate, arith, ◌<◌, if◌then◌else◌, mul-le-mul_left, IsTrue, pos, take, nat_lt, list_all, lt-ltb}
-use own.Common.{le-ltb, length-map, length-replicate, take_all, SamePlace, current, ObjectRole, Extent, handle, place}
-use own.Common.{resized, IsAllocated, IsChanged, Scalar, ScalarKind, Anonymous, OutOfRange, ReadOnly, is_value, size_of}
-use own.Common.{IsBegun, IsLoose, IsTakenKey, LeadsThere, Denotes, Numbers, is_good_value, live, object_len, padded}
-use own.Common.{with_object, entries_of, table_of, TakesItems, head_len, IsRestored, room_for, StandsFor, step, Plan}
-use own.Steps.{step-segment, perform-new, refuses-read_only, by_no_change, by_step, lands, open-writing, step-plan}
-use own.objects.Constructed.{IsMet, IsNewObject, numbers-met, restored-denotes, IsNoObject}
-use own.{Common.perform, Common.has_room, Common.live_of, objects.Loose.begun-room, objects.Loose.loose-ready}
-use own.{objects.FoundOrMade.made_handle, objects.KeyCalls.segment-index, objects.NewNumbers.numbers-made}
-use own.{objects.FoundOrMade.makes, objects.NewValues.away-in, objects.NotBegun.key-taken, objects.NewKeys.key-seeks}
-use own.{objects.NewValues.value-built, objects.NewValues.no_key-none, Steps.step-refuse, objects.NewKeys.numbers-value}
-use own.{objects.NotBegun.value-not_begun, indexes.HeldIndexes.denotes-index, objects.MadeValues.headed-change}
-use own.{indexes.Bridge.lookup-absent, objects.ArrayItems.by-items, objects.ArrayItems.from-items, Calling.denotes-live}
+use Rattle.segment_manager.proofs.Common as common
+use common.{◌≡◌, sym, ap, ◌∙◌, Ok, Err, Cut, ◌+◌, ◌*◌, ◌≤◌, ℤ, [], map, ◌<◌, pos, live, step, Plan}
+use common.{refl, true, Some, None, List, Made, State, Reply, Bool, arith, take, Extent, handle, place, Scalar, padded}
+use common.{subst, Directory, object_at, IsSegment, replicate, SamePlace, IsChanged, entries_of, TakesItems, IsRestored}
+use common.{ℕ, Option, Result, Exists, Object, IsStep, effect, length, IsTrue, nat_lt, lt-ltb, le-ltb, perform, live_of}
+use common.{false, NewEntry, list_all, take_all, Anonymous, ReadOnly, is_value, table_of, head_len, room_for, StandsFor}
+use common.{Refusal, NoSpace, Command, Refused, current, resized, size_of, IsBegun, IsLoose, Denotes, Numbers, has_room}
+use common.{IsNotBegun, length-map, ObjectRole, ScalarKind, OutOfRange, IsTakenKey, LeadsThere, object_len, with_object}
+use common.{is_read_only, with_new_object, if◌then◌else◌, mul-le-mul_left, length-replicate, IsAllocated, is_good_value}
+use Rattle.segment_manager.proofs.Steps.{step-segment, perform-new, refuses-read_only, by_no_change, by_step, lands}
+use Rattle.segment_manager.proofs.objects.Constructed.{IsMet, IsNewObject, numbers-met, restored-denotes, IsNoObject}
+use Rattle.segment_manager.proofs.objects.NewValues.{away-in, value-built, no_key-none}
+use Rattle.segment_manager.proofs.objects.NotBegun.{key-taken, value-not_begun}
+use Rattle.segment_manager.proofs.objects.ArrayItems.{by-items, from-items}
+use Rattle.segment_manager.proofs.{Steps.open-writing, objects.FoundOrMade.made_handle, objects.NewNumbers.numbers-made}
+use Rattle.segment_manager.proofs.{Steps.step-plan, indexes.HeldIndexes.denotes-index, objects.MadeValues.headed-change}
+use Rattle.segment_manager.proofs.{Steps.step-refuse, objects.Loose.begun-room, objects.NewKeys.key-seeks}
+use Rattle.segment_manager.proofs.{objects.Loose.loose-ready, objects.FoundOrMade.makes, indexes.Bridge.lookup-absent}
+use Rattle.segment_manager.proofs.{objects.KeyCalls.segment-index, objects.NewKeys.numbers-value, Calling.denotes-live}
 use Rattle.segment_manager.specs.objects.Begun.{Ends, IsEnding, Fills}
 use Rattle.segment_manager.specs.{containers.Filled.numbers_shape, declared.containers.fillings.Shape.Shape}
 use Rattle.seg_index.specs.declared.keys.Key.{Key}

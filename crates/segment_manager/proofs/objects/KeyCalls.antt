@@ -1,19 +1,20 @@
 -- What calls that look a key up find, and what they say of it, for each directory that the bytes stand for.
-use Rattle.segment_manager.proofs as own
-use own.Common.{◌≡◌, Option, ne_eqb, Extent, handle, Absent, Object, length, Unique, IsBelow, IsReply, Command, Refusal}
-use own.Common.{refl, none-some, same_Some, extent_at, same_role, IsIndexOf, Directory, object_at, handle_at, IsSegment}
-use own.Common.{sym, ◌∙◌, ℕ, ◌+◌, ◌<◌, [], ◌∷◌, Cut, Key, live, Kind, Plan, Mode, step, Err, Ok}
-use own.Common.{ap, Bool, true, ◌&&◌, ◌||◌, ◌==◌, Some, None, List, cond, find, Role, State, subst, Named, Reply, found}
-use own.Common.{false, arith, Table, Index, Entry, Found, Seeks, Answer, Number, Refuse, Result, effect, SaysAt, SaysOf}
-use own.Common.{is_some, option_map, slice_get, ObjectRole, is_live_in, entries_of, objects_of, pair_answer, IsInstance}
-use own.Common.{list_any, eqb-true, bytes_of, ByHandle, HasIndex, place_of, StandsFor, WrongKind, same_kind, HasObject}
-use own.Common.{slice_get_within, entry_count, is_object_at, if◌then◌else◌, named_objects, unique_objects, pair_of_kind}
-use own.Common.{current, live_of, IsPlace, has_key, Denotes, table_of, Answers, kind_of, StandsAt, count_of, Instance}
-use own.indexes.Bridge.{lookup-absent, lookup-found, in-handles}
-use own.{Steps.open-reading, Steps.IsOpenFor, Steps.step-refuse, Steps.step-reply, objects.Here.here}
-use own.{objects.Here.nothing-if, objects.Here.standing, Calling.denotes-live, blocks.OwnBlocks.handle-is-object}
-use own.{blocks.OwnBlocks.or-none, indexes.HeldIndexes.denotes-index, objects.ObjectLists.found-handle, Order.Rising}
-use own.{Order.live-rises, Denoted.handles-length, indexes.EntryPlaces.all-at, indexes.EntryPlaces.stands-at}
+use Rattle.segment_manager.proofs.Common as common
+use common.{◌≡◌, Option, ne_eqb, Extent, handle, Absent, Object, length, Unique, IsBelow, IsReply, Command, Refusal}
+use common.{refl, none-some, same_Some, extent_at, same_role, IsIndexOf, Directory, object_at, handle_at, IsSegment}
+use common.{sym, ◌∙◌, ℕ, ◌+◌, ◌<◌, [], ◌∷◌, Cut, Key, live, Kind, Plan, Mode, step, Err, Ok, ap, Bool, true, ◌&&◌, ◌||◌}
+use common.{◌==◌, Some, None, List, cond, find, Role, State, subst, Named, Reply, found, false, arith, Table, Index}
+use common.{Entry, Found, Seeks, Answer, Number, Refuse, Result, effect, SaysAt, SaysOf, is_some, option_map, slice_get}
+use common.{ObjectRole, is_live_in, entries_of, objects_of, pair_answer, IsInstance, list_any, eqb-true, bytes_of}
+use common.{ByHandle, HasIndex, place_of, StandsFor, WrongKind, same_kind, HasObject, slice_get_within, entry_count}
+use common.{is_object_at, if◌then◌else◌, named_objects, unique_objects, pair_of_kind, current, live_of, IsPlace}
+use common.{has_key, Denotes, table_of, Answers, kind_of, StandsAt, count_of, Instance}
+use Rattle.segment_manager.proofs.indexes.Bridge.{lookup-absent, lookup-found, in-handles}
+use Rattle.segment_manager.proofs.{Steps.open-reading, objects.ObjectLists.found-handle, indexes.EntryPlaces.stands-at}
+use Rattle.segment_manager.proofs.{Steps.IsOpenFor, objects.Here.standing, Calling.denotes-live, Denoted.handles-length}
+use Rattle.segment_manager.proofs.{Steps.step-refuse, Steps.step-reply, objects.Here.here, Order.live-rises}
+use Rattle.segment_manager.proofs.{objects.Here.nothing-if, blocks.OwnBlocks.or-none, indexes.EntryPlaces.all-at}
+use Rattle.segment_manager.proofs.{blocks.OwnBlocks.handle-is-object, indexes.HeldIndexes.denotes-index, Order.Rising}
 use Rattle.std.specs.Bool.{then_some}
 use Rattle.block_tags.specs.contracts.tile.Role.{the_type}
 use denote.Enum.Bare.{sameb}
@@ -273,8 +274,7 @@ pub record IsEntered (s : State) (d : Directory) (i : Index) (n h : ℕ) : Type 
 pub entered : (s : State) {i : Index} {n h : ℕ} → ForIndex s.cut i (λ hs. slice_get hs n ≡ Some h) → {d : Directory}
     → StandsFor s.cut.bytes d → IsEntered s d i n h
 entered s {i} {n} {h} f {d} k =
-    let at = stands-at (objects_of i d) n (of-directory s i (λ hs. slice_get hs n ≡ Some h) k f) in
-    let o = at.object in
+    let at = stands-at (objects_of i d) n (of-directory s i (λ hs. slice_get hs n ≡ Some h) k f) in let o = at.object in
     record {
       object = o;
       is = at.is;

@@ -1,13 +1,13 @@
 -- An object that was located: it is that of the key, and what a command does under its handle it does under the key.
-use Rattle.segment_manager.proofs as own
-use own.Common.{◌≡◌, refl, sym, ap, subst, ◌∙◌, ℕ, ◌&&◌, Option, Some, None, Result, Ok, Err, if◌then◌else◌, is_some}
-use own.Common.{option_map, same_Some, Kind, Refusal, NotFound, ReadOnly, WrongKind, same_kind, Key, ByHandle, Command}
-use own.Common.{is_changing, Head, Change, Clear, Reserve, Shrink, Located, Answer, kind_at, sizes_at, sizes_at_kind}
-use own.Common.{sizes_of, sizes_of_kind, Object, Directory, kind_of, live, object_at, handle_at, HasPlaces, KeepsWhere}
-use own.Common.{IsLocated, Plan, Refuse, perform, with, IsHeadOf, StandsAt, Answers, IsReplyOfKind, IsStep}
-use own.Common.{IsStepOfKind, State, StandsFor, effect, is_read_only, step, step_of_kind, HasEnough, command_of}
-use own.containers.AnyStorage.{measures-kind, of_kind-steps}
-use own.{indexes.Bridge.by-handle, objects.Here.here, Steps.moves-same}
+use Rattle.segment_manager.proofs.Common as common
+use common.{◌≡◌, refl, sym, ap, subst, ◌∙◌, ℕ, ◌&&◌, Option, Some, None, Result, Ok, Err, if◌then◌else◌, is_some}
+use common.{option_map, same_Some, Kind, Refusal, NotFound, ReadOnly, WrongKind, same_kind, Key, ByHandle, Command}
+use common.{is_changing, Head, Change, Clear, Reserve, Shrink, Located, Answer, kind_at, sizes_at, sizes_at_kind}
+use common.{sizes_of, sizes_of_kind, Object, Directory, kind_of, live, object_at, handle_at, HasPlaces, KeepsWhere}
+use common.{IsLocated, Plan, Refuse, perform, with, IsHeadOf, StandsAt, Answers, IsReplyOfKind, IsStep, IsStepOfKind}
+use common.{State, StandsFor, effect, is_read_only, step, step_of_kind, HasEnough, command_of}
+use Rattle.segment_manager.proofs.containers.AnyStorage.{measures-kind, of_kind-steps}
+use Rattle.segment_manager.proofs.{indexes.Bridge.by-handle, objects.Here.here, Steps.moves-same}
 use Rattle.segment_manager.specs.Laws.{HandlesMeanObjects, KeysMeanObjects, KeysOfKindMeanObjects, at_key}
 use Rattle.segment_manager.specs.objects.Located.{located}
 use Rattle.seg_types.specs.Commands as asked

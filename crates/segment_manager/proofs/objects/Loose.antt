@@ -1,11 +1,11 @@
 -- The blocks of an object that no entry leads to yet: what an index wants to lead there, and how they are given back.
-use Rattle.segment_manager.proofs as own
-use own.Common.{◌∙◌, sym, subst, ◌+◌, ◌≤◌, Some, None, List, arith, IsTrue, Cut, IsHeap, Kind, Class, Key, Role}
-use own.Common.{ℕ, Option, IfSome, current, LiveSet, live_of, IsBegun, IsHeaded, IsLoose, IsWanted, room_for, IsGrowth}
-use own.Common.{[], ObjectRole, IsReleased, has_room, is_live_in, GivesBack, place_of, NewEntry, IsReadyFor, IsRestored}
-use own.Common.{IsAllocated, allocated-is_live, allocated-room, changed-room, lay_out_one, IsLooseAlone, IsLooseEntry}
-use own.objects.Taking.{growth-held, ready, requested-aligned, restored-taken, written-taken}
-use own.objects.Pieces.{changed-heap}
+use Rattle.segment_manager.proofs.Common.{◌∙◌, sym, subst, ◌+◌, ◌≤◌, Some, None, List, arith, IsTrue, Cut, IsHeap, Kind}
+use Rattle.segment_manager.proofs.Common.{Class, Key, Role, ℕ, Option, IfSome, current, LiveSet, live_of, IsBegun}
+use Rattle.segment_manager.proofs.Common.{IsHeaded, IsLoose, IsWanted, room_for, IsGrowth, [], ObjectRole, IsReleased}
+use Rattle.segment_manager.proofs.Common.{has_room, is_live_in, GivesBack, place_of, NewEntry, IsReadyFor, IsRestored}
+use Rattle.segment_manager.proofs.Common.{IsAllocated, allocated-is_live, allocated-room, changed-room, lay_out_one}
+use Rattle.segment_manager.proofs.objects.Taking.{growth-held, ready, requested-aligned, restored-taken, written-taken}
+use Rattle.segment_manager.proofs.{Common.IsLooseAlone, Common.IsLooseEntry, objects.Pieces.changed-heap}
 use Rattle.best_fit.proofs.Laws.{taken-back}
 
 -- ---- begun: the value has room behind the head

@@ -1,15 +1,14 @@
 -- A value made in the block of a new object, by the heap's contracts: its blocks are taken and written, and it stands
 -- there.
-use Rattle.segment_manager.proofs.Common.{◌≡◌, Has-same, IsChanged, no_table, same_role, IsHeaded, IsValueAt, Directory}
-use Rattle.segment_manager.proofs.Common.{refl, zero, Some, None, List, arith, holds, added, place, Table, Class, Value}
-use Rattle.segment_manager.proofs.Common.{sym, ◌∙◌, suc, ◌+◌, ◌*◌, ◌≤◌, inl, [], ◌∷◌, Cut, Has, Same, Kind, Plan, New}
-use Rattle.segment_manager.proofs.Common.{ap, word_at, Storage, LiveSet, resized, LaysOut, count_of, IsHeadAt, room_for}
-use Rattle.segment_manager.proofs.Common.{subst, lt-leb, ne_eqb, Memory, Extent, end_of, handle, regrow, Answer, padded}
-use Rattle.segment_manager.proofs.Common.{ℕ, option_map, Same-trans, IsAllocated, grown_table, padded_name, live-spaced}
-use Rattle.segment_manager.proofs.Common.{Option, length, live_of, NoSpace, code_of, Refused, kind_of, Request, perform}
-use Rattle.segment_manager.proofs.Common.{if◌then◌else◌, AllByRecursion, SamePlace-trans, allocated-live, spaced-insert}
-use Rattle.segment_manager.proofs.Common.{current, Same-word, ObjectRole, exchanged, class_code, IsObjectAt, two_halves}
-use Rattle.segment_manager.proofs.Common.{bytes_of, SameBut-Same, SameBlockBut, IsExchanged, blocks-trans, with_storage}
+use Rattle.segment_manager.proofs.Common as common
+use common.{◌≡◌, Has-same, IsChanged, no_table, same_role, IsHeaded, IsValueAt, Directory, refl, zero, Some, None, List}
+use common.{arith, holds, added, place, Table, Class, Value, sym, ◌∙◌, suc, ◌+◌, ◌*◌, ◌≤◌, inl, [], ◌∷◌, Cut, Has, Same}
+use common.{Kind, Plan, New, ap, word_at, Storage, LiveSet, resized, LaysOut, count_of, IsHeadAt, room_for, subst}
+use common.{lt-leb, ne_eqb, Memory, Extent, end_of, handle, regrow, Answer, padded, ℕ, option_map, Same-trans}
+use common.{IsAllocated, grown_table, padded_name, live-spaced, Option, length, live_of, NoSpace, code_of, Refused}
+use common.{kind_of, Request, perform, if◌then◌else◌, AllByRecursion, SamePlace-trans, allocated-live, spaced-insert}
+use common.{current, Same-word, ObjectRole, exchanged, class_code, IsObjectAt, two_halves, bytes_of, SameBut-Same}
+use common.{SameBlockBut, IsExchanged, blocks-trans, with_storage}
 use Rattle.segment_manager.proofs.objects.Taking.{IsTaken, requested-taken, taken-live, written-taken}
 use Rattle.segment_manager.proofs.{objects.Exchanged.all-but-beside, blocks.NewBlocks.allocated-serves, Order.inserted}
 use Rattle.segment_manager.proofs.{objects.Exchanged.put-first, blocks.NewBlocks.changed-trans, Order.all_of-insert}

@@ -1,11 +1,11 @@
 -- The key of a new object that gets an entry.
-use Rattle.segment_manager.proofs as own
-use own.Common.{◌≡◌, sym, ◌∙◌, zero, suc, ◌≤◌, Bool, true, ◌&&◌, ◌==◌, None, List, Kind, Name, Code, Seeks}
-use own.Common.{refl, subst, arith, IsTrue, nat_le, eq-eqb, le-leb, Extent, serves, Index, Named, Unique, Value, Object}
-use own.Common.{ap, length, and_from, current, code_of, is_value, is_name, Numbers, has_key, kind_of, class_of, name_of}
-use own.Common.{ℕ, length-replicate, ObjectRole, ScalarKind, is_text_name, has_good_name, is_good_value, class_of_index}
-use own.Common.{ℤ, replicate, list_all, is_kind_of, Directory, is_object, object_at, object_len, same_bytes, IsNewKeyOf}
-use own.{indexes.Entered.key_in, indexes.KeyOrder.same-itself, objects.Heads.name-short}
+use Rattle.segment_manager.proofs.Common as common
+use common.{◌≡◌, sym, ◌∙◌, zero, suc, ◌≤◌, Bool, true, ◌&&◌, ◌==◌, None, List, Kind, Name, Code, Seeks, refl, subst}
+use common.{arith, IsTrue, nat_le, eq-eqb, le-leb, Extent, serves, Index, Named, Unique, Value, Object, ap, length}
+use common.{and_from, current, code_of, is_value, is_name, Numbers, has_key, kind_of, class_of, name_of, ℕ}
+use common.{length-replicate, ObjectRole, ScalarKind, is_text_name, has_good_name, is_good_value, class_of_index, ℤ}
+use common.{replicate, list_all, is_kind_of, Directory, is_object, object_at, object_len, same_bytes, IsNewKeyOf}
+use Rattle.segment_manager.proofs.{indexes.Entered.key_in, indexes.KeyOrder.same-itself, objects.Heads.name-short}
 use Rattle.seg_index.specs.declared.keys.Key.{Key}
 use Rattle.seg_types.specs.Names as names
 

@@ -1,17 +1,15 @@
 -- An object made under a key whose value takes blocks of its own, whatever it is, as a step of the machine: its
 -- requests are met in order, or one is refused and all is given back.
-use Rattle.segment_manager.proofs.Common.{◌≡◌, sym, true, ◌&&◌, Some, None, List, find, Kind, Value, live, Plan, bare}
-use Rattle.segment_manager.proofs.Common.{refl, LiveSet, resized, LaysOut, live_of, Refusal, Content, IsPlace, room_for}
-use Rattle.segment_manager.proofs.Common.{ap, Extent, place, Keeps, Table, serves, Class, Index, Absent, Object, padded}
-use Rattle.segment_manager.proofs.Common.{subst, IsAbsentAt, IsReadyFor, LeadsThere, extents_of, object_len, entries_of}
-use Rattle.segment_manager.proofs.Common.{◌∙◌, ℕ, ◌+◌, ◌≤◌, [], ◌∷◌, Cut}
-use Rattle.segment_manager.proofs.Common.{Option, length, IsTrue, IsBegun, IsLoose, Denotes, has_key, kind_of, IsGiven}
-use Rattle.segment_manager.proofs.Common.{and_from, SamePlace, IsChanged, laid-heap, IsNewKeyOf, IsRestored, with_value}
-use Rattle.segment_manager.proofs.Common.{current, NewEntry, IsHeaded, IsWanted, count_of, IsDenied, table_of, head_len}
-use Rattle.segment_manager.proofs.Common.{bytes_of, added, place_of, AddKeeps, IsGrowth, prepared, IsSegment, StandsFor}
-use Rattle.segment_manager.proofs.Common.{SamePlace-trans, IsBegunAlone, is_good_value, value_extents, class_of_index}
-use Rattle.segment_manager.proofs.Common.{ObjectRole, IsAllocated, is_kind_of, IsBegunEntry, with_object, IsMadeValue}
-use Rattle.segment_manager.proofs.Common.{Anonymous, IsIndexOf, Directory, is_object, object_at, value_len, IsNoValue}
+use Rattle.segment_manager.proofs.Common as common
+use common.{◌≡◌, sym, true, ◌&&◌, Some, None, List, find, Kind, Value, live, Plan, bare, refl, LiveSet, resized}
+use common.{LaysOut, live_of, Refusal, Content, IsPlace, room_for, ap, Extent, place, Keeps, Table, serves, Class}
+use common.{Index, Absent, Object, padded, subst, IsAbsentAt, IsReadyFor, LeadsThere, extents_of, object_len}
+use common.{entries_of, ◌∙◌, ℕ, ◌+◌, ◌≤◌, [], ◌∷◌, Cut, Option, length, IsTrue, IsBegun, IsLoose, Denotes, has_key}
+use common.{kind_of, IsGiven, and_from, SamePlace, IsChanged, laid-heap, IsNewKeyOf, IsRestored, with_value, current}
+use common.{NewEntry, IsHeaded, IsWanted, count_of, IsDenied, table_of, head_len, bytes_of, added, place_of, AddKeeps}
+use common.{IsGrowth, prepared, IsSegment, StandsFor, SamePlace-trans, IsBegunAlone, is_good_value, value_extents}
+use common.{class_of_index, ObjectRole, IsAllocated, is_kind_of, IsBegunEntry, with_object, IsMadeValue, Anonymous}
+use common.{IsIndexOf, Directory, is_object, object_at, value_len, IsNoValue}
 use Rattle.segment_manager.proofs.objects.Taking.{IsMade, IsTaken, taken-growth, taken-index, growth-index}
 use Rattle.segment_manager.proofs.objects.Taking.{requested-aligned, restored-taken}
 use Rattle.segment_manager.proofs.objects.MadeValues.{empty-taken, made-object, made-taken, placed-next}

@@ -1,11 +1,12 @@
 -- The object of a handle, and the entry that it has.
-use Rattle.segment_manager.proofs as own
-use own.Common.{◌≡◌, refl, sym, ap, subst, ◌∙◌, ℕ, true, false, ◌==◌, Some, None, Option, List, is_some, none-some}
-use own.Common.{bytes_of, handle, Class, class_code, code_of, Index, Absent, IsPlace, Head, Object, Directory, is_class}
-use own.Common.{kind_of, object_at, handle_at, is_object_at, HasEntries, HasEntry, IsAnonymousAt, Answers, IsSegment}
-use own.{Common.State, Common.HasObject, Common.StandsAt, objects.Here.IsHere, objects.Here.IsReadAt, objects.Here.here}
-use own.{Common.StandsFor, indexes.Bridge.lookup-absent, objects.KeyCalls.handle-answers, objects.KeyCalls.of-directory}
-use own.{indexes.Bridge.own-kind, indexes.Bridge.own-name, objects.Here.has-object, objects.KeyCalls.ForIndex}
+use Rattle.segment_manager.proofs.Common.{◌≡◌, refl, sym, ap, subst, ◌∙◌, ℕ, true, false, ◌==◌, Some, None, Option}
+use Rattle.segment_manager.proofs.Common.{List, is_some, none-some, bytes_of, handle, Class, class_code, code_of, Index}
+use Rattle.segment_manager.proofs.Common.{Absent, IsPlace, Head, Object, Directory, is_class, kind_of, object_at}
+use Rattle.segment_manager.proofs.Common.{handle_at, is_object_at, HasEntries, HasEntry, IsAnonymousAt, Answers}
+use Rattle.segment_manager.proofs.Common.{IsSegment, State, HasObject, StandsAt, StandsFor}
+use Rattle.segment_manager.proofs.objects.Here.{IsHere, IsReadAt, here, has-object}
+use Rattle.segment_manager.proofs.indexes.Bridge.{lookup-absent, own-kind, own-name}
+use Rattle.segment_manager.proofs.objects.KeyCalls.{handle-answers, of-directory, ForIndex}
 use Rattle.seg_index.specs.declared.keys.Key.{Key}
 use Rattle.seg_types.specs.declared.kinds.Class.TheVariants as class
 use Rattle.seg_types.specs.Names as names

@@ -1,11 +1,12 @@
 -- The payload of a block, as it is lent and as contracts count its room, and an object written there piece by piece:
 -- the words of its head, its name, its elements.
-use Rattle.segment_manager.proofs as own
-use own.Common.{◌≡◌, sym, ap, subst, ◌∙◌, ℕ, ◌+◌, ◌-◌, ◌≤◌, inl, List, length, arith, IsTrue, Cut, Has, bytes_of, part}
-use own.Common.{read, word_at, current, LiveSet, IsChanged, IsHeap, LaysOut, has_room, is_live_in, live_of, Has-same}
-use own.Common.{Same-word, SameBut-Same, changed-live, room_block, ◌*◌, ◌<◌, ◌++◌, replicate, take, mul-le-mul_left}
-use own.Common.{length-replicate, Kind, Class, class_code, code_of, padded, padded_name, two_halves, IsHeadAt, repeated}
-use own.{Common.changed-room, blocks.NewBlocks.changed-trans, objects.Rows.repeated-length, objects.Rows.repeated-more}
+use Rattle.segment_manager.proofs.Common.{◌≡◌, sym, ap, subst, ◌∙◌, ℕ, ◌+◌, ◌-◌, ◌≤◌, inl, List, length, arith, IsTrue}
+use Rattle.segment_manager.proofs.Common.{Cut, Has, bytes_of, part, read, word_at, current, LiveSet, IsChanged, IsHeap}
+use Rattle.segment_manager.proofs.Common.{LaysOut, has_room, is_live_in, live_of, Has-same, Same-word, SameBut-Same}
+use Rattle.segment_manager.proofs.Common.{changed-live, room_block, ◌*◌, ◌<◌, ◌++◌, replicate, take, mul-le-mul_left}
+use Rattle.segment_manager.proofs.Common.{length-replicate, Kind, Class, class_code, code_of, padded, padded_name}
+use Rattle.segment_manager.proofs.{Common.two_halves, Common.IsHeadAt, Common.repeated, objects.Rows.repeated-more}
+use Rattle.segment_manager.proofs.{Common.changed-room, blocks.NewBlocks.changed-trans, objects.Rows.repeated-length}
 use Rattle.best_fit.specs.Heap.{payload_at}
 use Rattle.raw_region.proofs.{Laws.length-part, Laws.part-part, Laws.read-part, Bytes.Has-append}
 use Rattle.best_fit.proofs.Laws.{block_payload, room-less}
@@ -125,8 +126,7 @@ name-written {a} {b} {c} {h} {name} {zeros} e s w t v =
     let len = length name in
     let long : length zeros ≡ padded len - len =
     ap (λ (l : List ℕ). length l) e ∙ length-replicate (padded len - len) 0 in
-    let to : h + (16 + len) ≡ h + 16 + len = omega arith in
-    let sum : len + length zeros ≡ padded len = omega arith in
+    let to : h + (16 + len) ≡ h + 16 + len = omega arith in let sum : len + length zeros ≡ padded len = omega arith in
     let t' : IsChanged current b c (h + 16 + len) (length zeros) =
     subst (λ from. IsChanged current b c from (length zeros)) to t in
     record {

@@ -1,10 +1,10 @@
 -- What is ranked, each two: what rises, with one more or less.
-use Rattle.segment_manager.proofs as own
-use own.Common.{◌≡◌, refl, sym, subst, ◌∙◌, ℕ, suc, Bool, true, false, ◌&&◌, List, [], ◌∷◌, cond, Class, Object, rises}
-use own.Common.{ap, length, if◌then◌else◌, IsTrue, filter, AllByRecursion, and_from, is_class, remove_object, insert_by}
-use own.Live.{IsFound, Place, here, behind, found-place, found-nothing, remove-here, remove-behind}
-use own.objects.Ranks.{before, after, ranked-sym, AllRanked, put_all, all_of-insert_by, IsStrict, IsRanked}
-use own.{Faces.ordered}
+use Rattle.segment_manager.proofs.Common.{◌≡◌, refl, sym, subst, ◌∙◌, ℕ, suc, Bool, true, false, ◌&&◌, List, [], ◌∷◌}
+use Rattle.segment_manager.proofs.Common.{cond, Class, Object, rises, ap, length, if◌then◌else◌, IsTrue, filter}
+use Rattle.segment_manager.proofs.Common.{AllByRecursion, and_from, is_class, remove_object, insert_by}
+use Rattle.segment_manager.proofs.Live.{IsFound, Place, here, behind, found-place, found-nothing, remove-here}
+use Rattle.segment_manager.proofs.objects.Ranks.{before, after, ranked-sym, AllRanked, put_all, all_of-insert_by}
+use Rattle.segment_manager.proofs.{Live.remove-behind, objects.Ranks.IsStrict, objects.Ranks.IsRanked, Faces.ordered}
 use Rattle.raw_region.proofs.Facts.{first, second}
 
 -- ---- what rises is ranked, each two

@@ -1,11 +1,11 @@
 -- What destroys no object leaves each where it is.
-use Rattle.segment_manager.proofs as own
-use own.Common.{◌≡◌, refl, sym, ap, not, subst, ◌∙◌, ℕ, ◌==◌, Bool, true, false, Option, Some, None, List, [], ◌∷◌}
-use own.Common.{if◌then◌else◌, is_some, find, cond, eqb-true, false≢true, Extent, LiveSet, handle, resized, Refusal}
-use own.Common.{NoSpace, Kind, Key, ByHandle, Command, Mode, Object, Directory, has_key, live, replace_object, Answer}
-use own.Common.{Refused, is_object_at, Plan, met, perform, is_elementwise, IsSegment, Moves, State, plan, step}
-use own.Refusals.{Leaves, by_change, by_other, by_refusal, by_request, by_same, plan-leaves, plan_of_kind-leaves}
-use own.{Common.step_of_kind, Common.LeadsOnOfKind, objects.KeyCalls.object-passes}
+use Rattle.segment_manager.proofs.Common as common
+use common.{◌≡◌, sym, not, ◌∙◌, ℕ, None, List, [], ◌∷◌, find, cond, Kind, Key, Mode, live, Plan, met, plan, step}
+use common.{refl, ◌==◌, Bool, true, false, Option, Some, Extent, handle, Object, Answer, Refused, perform, Moves, State}
+use common.{ap, is_some, eqb-true, LiveSet, resized, Refusal, NoSpace, ByHandle, Command, Directory, has_key, IsSegment}
+use common.{subst, if◌then◌else◌, false≢true, replace_object, is_object_at, is_elementwise, step_of_kind, LeadsOnOfKind}
+use Rattle.segment_manager.proofs.Refusals.{Leaves, by_change, by_other, by_refusal, by_request, by_same, plan-leaves}
+use Rattle.segment_manager.proofs.{Refusals.plan_of_kind-leaves, objects.KeyCalls.object-passes}
 use Rattle.segment_manager.specs.Staying.{KeepsObjects, ObjectsStay}
 
 -- ---- an object of another value

@@ -1,18 +1,18 @@
 -- The elements of the object of a key: where each stands and its number, what reading one answers, and writing one.
-use Rattle.segment_manager.proofs as own
-use own.Common.{◌≡◌, refl, sym, ap, subst, ◌∙◌, ℕ, zero, suc, ◌+◌, ◌*◌, ◌<◌, ◌≤◌, ℤ, pos, get_or, Bool, true, false}
-use own.Common.{Option, Some, None, Result, Ok, Err, List, [], ◌∷◌, length, if◌then◌else◌, arith, IsTrue, nat_lt}
-use own.Common.{slice_get, list_all, mul-le-mul_left, ltb-true, slice_get-get_or, slice_get_within, current, Has}
-use own.Common.{bytes_of, read, handle, has_room, live_of, ScalarKind, Scalar, Refusal, NotFound, WrongKind, OutOfRange}
-use own.Common.{is_value, same_kind, size_of, spelling, Key, spelled, Numbers, Object, Directory, count_of}
-use own.Common.{is_good_value, is_object, kind_of, object_at, padded, value_len, Denotes, IsValueAt, handle_at}
-use own.Common.{StandsAt, Answers, State, MatchOption, slice_set, eq-eqb, false≢true, ltb-false, slice_get_past}
-use own.Common.{code_of, Literal, value_of_literal, Mode, Answer, Element, Refused, Done, live, perform, Refuse, Reply}
-use own.Common.{with, IsReplyOfKind, IsSegment, answer_of, step_of_kind, effect, get, set as set_element, changed}
-use own.Common.{Command, BoolKind, and_then, map, values_of, literal_of}
-use own.Steps.{open-reading, step_of_kind-found, step_of_kind-not_found, step_of_kind-other, with-found, IsOpenFor}
-use own.{objects.Here.here, objects.Here.standing, Codes.numbers-only, Frame.object-roomy, objects.Rows.Has-element}
-use own.{blocks.Blocks.spelling-length, objects.Standings.standing-room, containers.ContentPlans.of_slice}
+use Rattle.segment_manager.proofs.Common as common
+use common.{◌≡◌, Option, Result, length, IsTrue, nat_lt, handle, Scalar, Object, padded, eq-eqb, Answer, Refuse, effect}
+use common.{refl, subst, zero, Bool, true, false, Some, None, List, arith, read, State, Mode, Done, live, Reply, with}
+use common.{sym, ap, ◌∙◌, suc, ◌+◌, ◌*◌, ◌<◌, ◌≤◌, pos, Ok, Err, [], ◌∷◌, Has, Key, get, map}
+use common.{ℕ, list_all, ltb-true, bytes_of, has_room, handle_at, slice_set, ltb-false, IsSegment, answer_of, values_of}
+use common.{ℤ, live_of, Refusal, NotFound, is_value, size_of, spelling, spelled, count_of, StandsAt, BoolKind, and_then}
+use common.{get_or, Numbers, kind_of, Denotes, Answers, code_of, Literal, Element, Refused, perform, changed, Command}
+use common.{if◌then◌else◌, ScalarKind, OutOfRange, is_good_value, MatchOption, false≢true, IsReplyOfKind, step_of_kind}
+use common.{slice_get, current, WrongKind, same_kind, Directory, is_object, object_at, value_len, IsValueAt, literal_of}
+use common.{mul-le-mul_left, slice_get-get_or, slice_get_within, slice_get_past, value_of_literal, set as set_element}
+use Rattle.segment_manager.proofs.Steps.{open-reading, step_of_kind-found, step_of_kind-not_found, step_of_kind-other}
+use Rattle.segment_manager.proofs.{Steps.with-found, Steps.IsOpenFor, Codes.numbers-only, Frame.object-roomy}
+use Rattle.segment_manager.proofs.{objects.Here.here, objects.Standings.standing-room, containers.ContentPlans.of_slice}
+use Rattle.segment_manager.proofs.{objects.Here.standing, objects.Rows.Has-element, blocks.Blocks.spelling-length}
 use Rattle.raw_region.proofs.Facts.{first, second}
 use Rattle.seg_vector.specs.declared.places.Place.{Place}
 use Rattle.segment_manager.specs.objects.Standing.{element_at, place_at, place_in}

@@ -1,14 +1,14 @@
 -- The blocks of a new object: they are taken, and written whatever its value, so that the indexes stay; or given back
 -- where one of them is refused.
-use Rattle.segment_manager.proofs as own
-use own.Common.{◌≡◌, sym, ap, subst, ◌∙◌, ℕ, ◌+◌, ◌-◌, ◌/◌, ◌%◌, ◌==◌, inr, Some, None, Option, List, arith, Role}
-use own.Common.{LiveSet, SameBlock, allocated-live, bytes_of, keeps-trans, word_at, IfSome, IsTrue, Cut, current}
-use own.Common.{ObjectRole, IndexRole, IsAllocated, IsChanged, IsHeap, IsRefused, Keeps, LaysOut, is_live_in, live_of}
-use own.Common.{Table, added, allocated-is_live, allocated-room, keeps-refl, laid-heap, room_block, Index, CanGrow}
-use own.Common.{GivesBack, IsGrowth, grown_bytes, IsIndexOf, place_of, prepared, IsRequested, IsRestored, IsUnmet, ◌≤◌}
-use own.Common.{Bool, [], ◌∷◌, find, Same-part, Same-word, Same-link, Extent, handle, extent_at, lay_out_one}
-use own.Common.{grown_capacity, Object, extents_of, is_object, IsObjectAt}
-use own.{Order.all_of-insert, Order.live-rises, Order.rising-insert, Live.adding}
+use Rattle.segment_manager.proofs.Common as common
+use common.{◌≡◌, sym, ap, subst, ◌∙◌, ℕ, ◌+◌, ◌-◌, ◌/◌, ◌%◌, ◌==◌, inr, Some, None, Option, List, arith, Role, LiveSet}
+use common.{SameBlock, allocated-live, bytes_of, keeps-trans, word_at, IfSome, IsTrue, Cut, current, ObjectRole}
+use common.{IndexRole, IsAllocated, IsChanged, IsHeap, IsRefused, Keeps, LaysOut, is_live_in, live_of, Table, added}
+use common.{allocated-is_live, allocated-room, keeps-refl, laid-heap, room_block, Index, CanGrow, GivesBack, IsGrowth}
+use common.{grown_bytes, IsIndexOf, place_of, prepared, IsRequested, IsRestored, IsUnmet, ◌≤◌, Bool, [], ◌∷◌, find}
+use common.{Same-part, Same-word, Same-link, Extent, handle, extent_at, lay_out_one, grown_capacity, Object, extents_of}
+use common.{is_object, IsObjectAt}
+use Rattle.segment_manager.proofs.{Order.all_of-insert, Order.live-rises, Order.rising-insert, Live.adding}
 use Rattle.best_fit.proofs.Laws.{block_aligned, still_allocated-block, found-inserted, found-new, found-none}
 use Rattle.seg_index.proofs.Laws.{place_behind, place_small, Around-kept, stays}
 use Rattle.best_fit.specs.Fit.{insert}

@@ -1,18 +1,19 @@
 -- A number of the object of a key is written: what the bytes denote then, and that it is the step.
-use Rattle.segment_manager.proofs as own
-use own.Common.{◌≡◌, refl, sym, ap, subst, ◌∙◌, ℕ, zero, suc, ◌+◌, ◌*◌, ◌<◌, ◌≤◌, ℤ, Bool, true, false, Some, None, Ok}
-use own.Common.{Err, List, [], ◌∷◌, length, arith, IsTrue, list_all, mul-le-mul_left, slice_get_within, current, Has}
-use own.Common.{bytes_of, handle, ScalarKind, Scalar, Refusal, is_value, size_of, spelling, Key, spelled, Numbers}
-use own.Common.{Object, Directory, count_of, is_object, kind_of, padded, value_len, Denotes, IsValueAt, Answers, State}
-use own.Common.{Literal, value_of_literal, Mode, Refused, Done, live, perform, IsSegment, step_of_kind, done_answer}
-use own.Common.{◌&&◌, nat_le, and_from, Cut, SameBut, ObjectRole, IsChanged, serves, literal_of, has_good_name}
-use own.Common.{value_extents, with_changed, IsStepOfKind, is_read_only}
-use own.Steps.{step_of_kind-found, by_no_change_of_kind, by_step_of_kind, lands, open-writing}
-use own.objects.Stored.{ElementAt, numbers-good, element-found, element-missing, numbers-stand, set-effect}
-use own.objects.Stored.{element-kind, missing-steps, literal-read}
-use own.containers.Safely.{Answered, answered, done-so}
-use own.{objects.Rows.Has-set, objects.Rewritten.value_start, objects.Rewritten.with_value, Frame.object-roomy}
-use own.{blocks.Blocks.spelling-length, objects.ObjectLists.key-found, objects.Exchanged.denotes-rewritten}
+use Rattle.segment_manager.proofs.Common as common
+use common.{◌≡◌, refl, sym, ap, subst, ◌∙◌, ℕ, zero, suc, ◌+◌, ◌*◌, ◌<◌, ◌≤◌, ℤ, Bool, true, false, Some, None, Ok, Err}
+use common.{List, [], ◌∷◌, length, arith, IsTrue, list_all, mul-le-mul_left, slice_get_within, current, Has, bytes_of}
+use common.{handle, ScalarKind, Scalar, Refusal, is_value, size_of, spelling, Key, spelled, Numbers, Object, Directory}
+use common.{count_of, is_object, kind_of, padded, value_len, Denotes, IsValueAt, Answers, State, Literal}
+use common.{value_of_literal, Mode, Refused, Done, live, perform, IsSegment, step_of_kind, done_answer, ◌&&◌, nat_le}
+use common.{and_from, Cut, SameBut, ObjectRole, IsChanged, serves, literal_of, has_good_name, value_extents}
+use common.{with_changed, IsStepOfKind, is_read_only}
+use Rattle.segment_manager.proofs.Steps.{step_of_kind-found, by_no_change_of_kind, by_step_of_kind, lands, open-writing}
+use Rattle.segment_manager.proofs.objects.Stored.{ElementAt, numbers-good, element-found, element-missing}
+use Rattle.segment_manager.proofs.objects.Stored.{numbers-stand, set-effect, element-kind, missing-steps, literal-read}
+use Rattle.segment_manager.proofs.containers.Safely.{Answered, answered, done-so}
+use Rattle.segment_manager.proofs.objects.Rewritten.{value_start, with_value}
+use Rattle.segment_manager.proofs.{objects.Rows.Has-set, Frame.object-roomy, blocks.Blocks.spelling-length}
+use Rattle.segment_manager.proofs.{objects.ObjectLists.key-found, objects.Exchanged.denotes-rewritten}
 use Rattle.raw_region.proofs.Facts.{second, first}
 use Rattle.seg_vector.specs.declared.places.Place.{Place}
 use Rattle.segment_manager.specs.objects.Standing.{place_at}

@@ -12,6 +12,5 @@ release_text-requires c =
 
 pub loop-i-preserved : goal.loop-i-preserved
 loop-i-preserved c ps s =
-    let q = has-element ps c.loop-i.i (omega (arith, c.loop-i-test.true, s.long)) in
-    let x = c.loop-i.invariant ps s in
+    let q = has-element ps c.loop-i.i (omega (arith, c.loop-i-test.true, s.long)) in let x = c.loop-i.invariant ps s in
     releases-next c.loop-i.i ps q.1 x (c.release_text.ensures q.0 (element-left c.loop-i.i s q.1 x))

@@ -47,8 +47,7 @@ set_word-requires c = changed-room _ _ _ _ _ c.args.self.place.handle (c.args.se
 
 pub returns-in-Some : goal.returns-in-Some
 returns-in-Some c ps t s =
-    let n = c.len-len.ensures ps t s in
-    let q = has-element ps c.args.index (omega (arith, c.if-index-len.false, n)) in
+    let n = c.len-len.ensures ps t s in let q = has-element ps c.args.index (omega (arith, c.if-index-len.false, n)) in
     let w = left c.args.heap.now c.release_text.new.heap c.args.index s q.1 (sym c.link_of.ensures ∙ c.in-Some.is) in
     record {
       before = q.0;

@@ -1,10 +1,11 @@
 -- An object is found under the entry, or made with one, or a block is refused.
-use Rattle.segment_manager.proofs as own
-use own.Common.{exit-is, ◌≡◌, sym, subst, Ok, Err, Write, Object, kind_of, Constructs, FindsOrConstructs, with_count}
-use own.Common.{pair_answer, IsNewKeyOf, bare, StandsAt, pair_of_kind, State}
-use own.objects.FilledCalls.{begun-for, found-absent, found-all, found-built, found-not_begun, no-object}
-use own.{objects.Here.has-object, objects.NewKeys.key-seeks, objects.NewKeys.key-short, objects.KeyCalls.place-below}
-use own.{indexes.HeldIndexes.denotes-keys, objects.KeyCalls.found-answers, objects.KeyCalls.segment-index}
+use Rattle.segment_manager.proofs.Common.{exit-is, ◌≡◌, sym, subst, Ok, Err, Write, Object, kind_of, Constructs}
+use Rattle.segment_manager.proofs.Common.{FindsOrConstructs, with_count, pair_answer, IsNewKeyOf, bare, StandsAt}
+use Rattle.segment_manager.proofs.objects.FilledCalls.{begun-for, found-absent, found-all, found-built, found-not_begun}
+use Rattle.segment_manager.proofs.objects.NewKeys.{key-seeks, key-short}
+use Rattle.segment_manager.proofs.objects.KeyCalls.{place-below, found-answers, segment-index}
+use Rattle.segment_manager.proofs.{Common.pair_of_kind, Common.State, objects.FilledCalls.no-object}
+use Rattle.segment_manager.proofs.{objects.Here.has-object, indexes.HeldIndexes.denotes-keys}
 use Rattle.seg_types.specs.Commands as asked
 use Rattle.segment_manager.proofs.objects.finding_or_constructing.find_or_construct_entered.Goals as goal
 

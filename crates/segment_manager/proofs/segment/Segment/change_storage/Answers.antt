@@ -1,15 +1,17 @@
 -- The container of the object of the key is changed as its kind says.
-use Rattle.segment_manager.proofs as own
-use own.Common.{exit-is, ◌≡◌, false, refl, subst, sym, ◌∙◌, Answers, ByHandle, Change, Err, IsStep, Key, Kind, Located}
-use own.Common.{Refusal, Refused, State, StringsKind, command_of, container_at, ap, done_answer, has_storage, inl, inr}
-use own.objects.Locating.{enough-by_key, kind-by_key, located-changes}
-use own.containers.OneLength.{elements-changed, elements-kept, some-elements}
-use own.containers.TextListCalls.{texts-changed, texts-standing}
-use own.segment.Segment.change_storage.Goals.{After-change_elements, After-change_texts}
-use own.{Common.is_read_only, containers.AnyStorage.nowhere-steps, Steps.open-writing, Steps.refuses-read_only}
-use own.{containers.AnyStorage.change-other, containers.KeptContainers.texts-kept, containers.Released.has_storage-left}
-use own.{containers.Refilled.finds-no_container, containers.Safely.Answered, segment.Segment.change_storage.Given.Over}
-use own.{containers.Safely.answered, containers.StorageSteps.change-changes, containers.StorageSteps.change-nowhere}
+use Rattle.segment_manager.proofs.Common.{exit-is, ◌≡◌, false, refl, subst, sym, ◌∙◌, Answers, ByHandle, Change, Err}
+use Rattle.segment_manager.proofs.Common.{IsStep, Key, Kind, Located, Refusal, Refused, State, StringsKind, command_of}
+use Rattle.segment_manager.proofs.Common.{container_at, ap, done_answer, has_storage, inl, inr, is_read_only}
+use Rattle.segment_manager.proofs.objects.Locating.{enough-by_key, kind-by_key, located-changes}
+use Rattle.segment_manager.proofs.containers.OneLength.{elements-changed, elements-kept, some-elements}
+use Rattle.segment_manager.proofs.containers.TextListCalls.{texts-changed, texts-standing}
+use Rattle.segment_manager.proofs.segment.Segment.change_storage.Goals.{After-change_elements, After-change_texts}
+use Rattle.segment_manager.proofs.containers.AnyStorage.{nowhere-steps, change-other}
+use Rattle.segment_manager.proofs.Steps.{open-writing, refuses-read_only}
+use Rattle.segment_manager.proofs.containers.Safely.{Answered, answered}
+use Rattle.segment_manager.proofs.containers.StorageSteps.{change-changes, change-nowhere}
+use Rattle.segment_manager.proofs.{containers.KeptContainers.texts-kept, containers.Released.has_storage-left}
+use Rattle.segment_manager.proofs.{containers.Refilled.finds-no_container, segment.Segment.change_storage.Given.Over}
 use Rattle.segment_manager.specs.objects.Located.{IsLocated}
 use Rattle.segment_manager.specs.containers.Stored.{ChangesElements, IsElements, each_of}
 use Rattle.segment_manager.proofs.segment.Segment.change_storage.Goals as goal

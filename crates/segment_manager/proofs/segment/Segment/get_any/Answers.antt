@@ -1,8 +1,7 @@
 -- The kind of the object that was located says which call it is.
 use Rattle.segment_manager.proofs.Common.{exit-is, refl, U8, ByHandle, Scalar, String, Vector}
 use Rattle.segment_manager.proofs.objects.AnyKind.{located-replies}
-use Rattle.segment_manager.proofs.{containers.StorageSteps.no_container-reply}
-use Rattle.segment_manager.proofs.{containers.StorageSteps.seen-reply}
+use Rattle.segment_manager.proofs.containers.StorageSteps.{no_container-reply, seen-reply}
 use Rattle.segment_manager.proofs.containers.TextAnswers.{text-got, text-standing, text_got-past}
 use Rattle.segment_manager.proofs.segment.Segment.get_any.Goals as goal
 

@@ -15,6 +15,7 @@ use Rattle.seg_types.specs.Kinds.{size_of, same_kind}
 use Rattle.seg_types.specs.Names.{Key, ByHandle}
 use Rattle.seg_types.specs.Commands as asked
 use Rattle.seg_types.specs.Commands.{Command, Literal, value_of_literal, is_changing}
+use Rattle.seg_types.specs.Literals.{pair_of, values_of}
 use Rattle.seg_vector.specs.Vector.{OwnedText, capacity_for_one, capacity_for_text}
 use Rattle.seg_map.specs.Map.{pair_at, put_pair, remove_pair, node_len}
 use Rattle.seg_map.specs.Numbers.{NumberPair}

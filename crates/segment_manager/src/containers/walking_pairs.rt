@@ -65,13 +65,15 @@ fn least(kind: ScalarKind) -> ScalarValue
     ensures kind { kind_of_scalar result ≡ kind }
     ensures value { value_of_scalar result ≡ lowest kind }
 {
-    match kind {
-        ScalarKind::Bool => ScalarValue::Bool(false),
-        ScalarKind::U8 => ScalarValue::U8(u8::MIN),
-        ScalarKind::I32 => ScalarValue::I32(i32::MIN),
-        ScalarKind::I64 => ScalarValue::I64(i64::MIN),
-        ScalarKind::U64 => ScalarValue::U64(u64::MIN),
+    macro_rules! least {
+        (bool, Bool) => {
+            ScalarValue::Bool(false)
+        };
+        ($type:ty, $kind:ident) => {
+            ScalarValue::$kind(<$type>::MIN)
+        };
     }
+    by_kind!(kind, least)
 }
 
 /// The pair with the least key of the map of a key, a map of the two kinds, or `None` where the map is empty.

@@ -1,6 +1,6 @@
 //! Whether links are an ordered red-black tree.
 
-ghost use Rattle.std.specs.Prelude.{◌≡◌, ◌↔◌, ℕ, ◌+◌, ◌*◌, ◌<◌, ◌≤◌, ◌^◌, Bool, true, false, Option, Some, None, List, length, IfSome, is_some, if◌then◌else◌};
+ghost use Rattle.std.specs.Prelude.{◌≡◌, ◌↔◌, ℕ, ◌+◌, ◌*◌, ◌<◌, ◌≤◌, ◌^◌, Bool, true, false, Option, Some, None, List, length, IfSome, is_some, ◌⊎◌, if◌then◌else◌};
 ghost use Rattle.link_tree.specs.Tree.{Cell, Tree, IsSearchTree, nodes_of, height, bits};
 ghost use Rattle.link_tree.specs.Nodes.{leads, is_in};
 ghost use Rattle.link_tree.specs.Between.{is_above, is_below, count_between};
@@ -34,7 +34,11 @@ fn stands_above<N: Nodes>(visits: &mut Visits<N>, low: Option<u64>, node: u64) -
     requires room { visits.old.steps + 2 < 2 ^ 64 }
     ensures value { result ≡ is_above (N.order visits.old.nodes.now) low node }
     ensures nodes { visits.new.nodes.now ≡ visits.old.nodes.now }
+    ensures at { low ≡ None → visits.new.at ≡ visits.old.at }
+    ensures counted { visits.old.steps ≤ visits.new.steps }
     ensures most { visits.new.steps ≤ visits.old.steps + 2 }
+    // No node precedes itself, so two are gone to.
+    ensures goes { result ≡ true → is_some low ≡ true → visits.old.steps < visits.new.steps }
 {
     match low {
         Some(low) => visits.precedes(low, node),
@@ -48,7 +52,10 @@ fn stands_below<N: Nodes>(visits: &mut Visits<N>, node: u64, high: Option<u64>) 
     requires room { visits.old.steps + 2 < 2 ^ 64 }
     ensures value { result ≡ is_below (N.order visits.old.nodes.now) node high }
     ensures nodes { visits.new.nodes.now ≡ visits.old.nodes.now }
+    ensures at { high ≡ None → visits.new.at ≡ visits.old.at }
+    ensures counted { visits.old.steps ≤ visits.new.steps }
     ensures most { visits.new.steps ≤ visits.old.steps + 2 }
+    ensures goes { result ≡ true → is_some high ≡ true → visits.old.steps < visits.new.steps }
 {
     match high {
         Some(high) => visits.precedes(node, high),
@@ -88,6 +95,9 @@ fn check_below<N: Nodes>(
         → visits.new.steps ≤ visits.old.steps
         + 5 * count_between (N.order visits.old.nodes.now) low high ns
         + (if is_some result then 0 else 5) }
+    // A node is gone to anew where the check stands at none, or compares it with a bound.
+    ensures steps_lower { visits.old.at ≡ None ⊎ (is_some low ≡ true ⊎ is_some high ≡ true)
+        → IfSome result (λ part. visits.old.steps + part.nodes ≤ visits.new.steps) }
     ensures blacks { IfSome result (λ part. part.blacks ≤ levels) }
     ensures nodes { visits.new.nodes.now ≡ visits.old.nodes.now }
 {
@@ -148,6 +158,8 @@ pub fn check<N: Nodes>(nodes: &N, root: Option<u64>) -> Checked
     ensures steps { (ns : List ℕ) → IsClosed (N.cells nodes.now) ns
         → leads (λ n. is_in n ns) root ≡ true
         → result.steps ≤ 5 * length ns + 5 }
+    // A check that says yes went to each node at least once.
+    ensures steps_lower { IfSome result.nodes (λ n. n ≤ result.steps) }
 {
     let mut visits = Visits::new(nodes);
     let Some(part) = check_below(&mut visits, root, None, None, true, MOST_LEVELS) else {

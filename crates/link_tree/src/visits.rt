@@ -75,6 +75,7 @@ impl<'a, N: Nodes> Visits<'a, N> {
         requires { self.old.steps + 1 < 2 ^ 64 }
         ensures nodes { self.new.nodes.now ≡ self.old.nodes.now }
         ensures at { self.new.at ≡ Some node }
+        ensures counted { self.old.steps ≤ self.new.steps }
         ensures most { self.new.steps ≤ self.old.steps + 1 }
         ensures stays { self.old.at ≡ Some node → self.new.steps ≡ self.old.steps }
         ensures goes { self.old.at ≢ Some node → self.new.steps ≡ self.old.steps + 1 }
@@ -119,8 +120,10 @@ impl<'a, N: Nodes> Visits<'a, N> {
         ensures value { result ≡ (N.cells self.old.nodes.now node).red }
         ensures nodes { self.new.nodes.now ≡ self.old.nodes.now }
         ensures at { self.new.at ≡ Some node }
+        ensures counted { self.old.steps ≤ self.new.steps }
         ensures most { self.new.steps ≤ self.old.steps + 1 }
         ensures stays { self.old.at ≡ Some node → self.new.steps ≡ self.old.steps }
+        ensures goes { self.old.at ≢ Some node → self.new.steps ≡ self.old.steps + 1 }
     {
         self.go(node);
         self.nodes.red(node)
@@ -133,7 +136,9 @@ impl<'a, N: Nodes> Visits<'a, N> {
         ensures value { result ≡ N.order self.old.nodes.now first second }
         ensures nodes { self.new.nodes.now ≡ self.old.nodes.now }
         ensures at { self.new.at ≡ Some second }
+        ensures counted { self.old.steps ≤ self.new.steps }
         ensures most { self.new.steps ≤ self.old.steps + 2 }
+        ensures goes { first ≢ second → self.old.steps < self.new.steps }
     {
         self.go(first);
         self.go(second);
@@ -307,8 +312,9 @@ impl<'a, N: NodesMut> VisitsMut<'a, N> {
         ensures counted { self.old.steps ≤ self.new.steps }
         ensures most { self.new.steps ≤ self.old.steps + 1 }
         ensures stays { self.old.at ≡ Some node → self.new.steps ≡ self.old.steps }
+        ensures goes { self.old.at ≢ Some node → self.new.steps ≡ self.old.steps + 1 }
     {
-        self.go(node);
         self.nodes.set_red(node, red);
+        self.go(node);
     }
 }

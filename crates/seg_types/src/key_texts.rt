@@ -1,5 +1,5 @@
 //! How names and keys are printed: as the command language prints them.
-ghost use Rattle.std.specs.Prelude.{◌≡◌, Some, flat_map};
+ghost use Rattle.std.specs.Prelude.{◌≡◌, Some, None, flat_map, if◌then◌else◌};
 ghost use Rattle.std.specs.Fmt.{DisplaysOnOk};
 ghost use Rattle.std.specs.List.{list_all};
 ghost use Rattle.seg_types.specs.Keys.{index_key_seen, key_seen, name_seen, new_key_seen};
@@ -39,6 +39,9 @@ fn is_name_byte(byte: u8) -> bool
 /// Bare where it can be spelled bare, else as a text in quotes.
 impl fmt::Display for Name<'_> {
     ghost output = { λ n. Some (name_text (name_seen n)) };
+
+    // A bare name is not padded, whatever the options of a hole say.
+    ghost styled_output = { λ n spec. if is_bare_name (name_seen n) then Some (name_seen n) else None };
 
     fn fmt<W: fmt::Write>(&self, f: &mut fmt::Formatter<W>) -> fmt::Result {
         if is_bare_name(self.as_bytes()) {

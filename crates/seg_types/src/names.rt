@@ -11,7 +11,7 @@ pub const LONGEST_NAME: usize = 255;
 const LONGEST_PRINTABLE_NAME: usize = 63;
 
 /// A name: 1 to 255 bytes of UTF-8 without control characters. It borrows them, and may be copied.
-#[derive(Clone, Copy, Debug, PartialEq, Eq, PartialOrd, Ord, Hash)]
+#[derive(Clone, Copy, Debug, PartialEq, Eq, Hash)]
 pub struct Name<'a> {
     bytes: &'a [u8],
     ghost text: { is_text_name bytes.now ≡ true },

@@ -26,6 +26,9 @@ impl ScalarKind {
 impl fmt::Display for ScalarKind {
     ghost output = { λ k. Some (scalar_text k) };
 
+    // As it is, whatever the options of a hole say.
+    ghost styled_output = { λ k spec. Some (scalar_text k) };
+
     fn fmt<W: fmt::Write>(&self, f: &mut fmt::Formatter<W>) -> fmt::Result {
         f.write_str(self.as_str())
     }
@@ -60,6 +63,8 @@ impl Class {
 
 impl fmt::Display for Class {
     ghost output = { λ c. Some (class_text c) };
+
+    ghost styled_output = { λ c spec. Some (class_text c) };
 
     fn fmt<W: fmt::Write>(&self, f: &mut fmt::Formatter<W>) -> fmt::Result {
         f.write_str(self.as_str())

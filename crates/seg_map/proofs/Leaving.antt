@@ -6,16 +6,25 @@ use common.{sym, current, link_at, without, LiveSet, LaysOut, live_of, IsHeaded,
 use common.{ap, lay_out_one, remove_pair, nodes_of_pairs, AllByRecursion, SameBlockBut, IsBesideMap, false_from_ne_true}
 use common.{subst, length, IsTrue, Option, IfSome, eq-eqb, Extent, pair_at, keys_in, exit_in, word_at, root_of, root_in}
 use common.{◌∙◌, ℕ, ◌+◌, ◌≢◌, None, Cut, Pair, ◌⊎◌, ◌<◌, inl, inr, Bool, true, ◌∷◌, map, Tree, fork, leaf, In, [], not}
-use common.{false, List, arith, ◌==◌, Some, is_in, handle, roomy, ne_eqb, IsTree, others, Chains, is_key, Rising, Plain}
+use common.{false, false≢true, List, arith, comes_before, IsKeyTree, ◌==◌, Some, is_in, handle, roomy, ne_eqb, IsTree, others, Chains, is_key, Rising, Plain}
 use Rattle.seg_map.proofs.PairLists.{without_nodes, in_from, nodes_in, Below, rising_below, rising_rest, each_both}
 use Rattle.seg_map.proofs.PairLists.{pair_of, in_nodes, none_left, other_nodes, removed_all, removed_length, apart_all}
 use Rattle.seg_map.proofs.Entering.{Laws, found_in, good, keys, other_block}
 use Rattle.seg_map.proofs.Staying.{at_node, map_stays, AtNode, beside_then, keeps_beside, relaid}
 use Rattle.seg_map.proofs.PairSteps.{any_at, begins_behind, own_handle}
-use Rattle.seg_map.proofs.{PairLists.removed_rising, Searching.lent_own, Searching.lent_tree}
-use Rattle.seg_map.specs.{Changing.IsTaken, Changing.IsGivenUp, Linking.CanUnlink}
+use Rattle.seg_map.proofs.{PairLists.known, PairLists.removed_rising, Searching.lent_own, Searching.lent_tree}
+use Rattle.seg_map.specs.{Changing.IsTaken, Changing.IsGivenUp}
+use Rattle.link_tree.specs.Ways.{exit_of}
 use Rattle.best_fit.proofs.Laws.{released-live, others-comm, rising-weak}
 use Rattle.best_fit.specs.{Exchange.exchanged, Exchange.without_all, Heap.IsReleased}
+
+-- a node of the tree that can be taken out, from the root on or from where its removal begins
+pub record CanUnlink {K : Type 0} (k : Plain K) (ns : List ℕ) (c : Cut) (root start : Option ℕ) (node : ℕ) : Type 0
+  where
+    pub shape : Tree
+    pub tree : IsKeyTree k ns c root shape
+    pub listed : is_in node (nodes_of shape) ≡ true
+    pub begins : IfSome start (λ n. exit_of (comes_before k.order (keys_in k ns c)) node shape ≡ Some n)
 
 module _ {K V : Type 0} {kp : Plain K} {vp : Plain V} (kl : Laws kp) (c : Cut) {h at : ℕ} {root : Option ℕ}
     {ps : List (Pair K V)} (s : HoldsMap kp vp c.bytes h at ps) (is : root ≡ link_at (bytes_of c.bytes) (h + at))
@@ -26,13 +35,12 @@ module _ {K V : Type 0} {kp : Plain K} {vp : Plain V} (kl : Laws kp) (c : Cut) {
   ns_is : lent ≡ nodes_of s.map.tree.tree
   ns_is = lent_own kl c s is refl
 
-  pub can_unlink : (start : Option ℕ) → IfSome start (λ n. exit_in kp c node s.map.tree.tree ≡ Some n)
-      → CanUnlink kp lent c root start node
+  pub can_unlink : (start : Option ℕ) → start ≡ exit_in kp c node s.map.tree.tree → CanUnlink kp lent c root start node
   can_unlink start begins = record {
     shape = s.map.tree.tree;
     tree = lent_tree kl c s is refl;
     listed = (λ i. is_in (sym here i) (s.map.tree.lists i)) ∙ in_nodes kp.order ps key p has;
-    begins = rw ns_is begins;
+    begins = rw ns_is (known start (exit_in kp c node s.map.tree.tree) begins);
   }
 
   -- the map without the pair
@@ -178,6 +186,12 @@ pub record IsGoing {K V : Type 0} (k : Plain K) (v : Plain V) (old now : Cut) (h
   pub size : (live_of now.bytes).size ≡ (live_of old.bytes).size
   pub left : without_all (map (λ (p : Pair K V). p.node) pairs) (live_of now.bytes).extents ≡ without_all
       (map (λ (p : Pair K V). p.node) ps) (live_of old.bytes).extents
+  pub same : ps ≡ [] → now ≡ old
+
+-- the removal of the node at the root begins there
+exit_of_root : (less : ℕ → ℕ → Bool) (n : ℕ) (t : Tree) → Some n ≡ root_of t → None ≡ exit_of less n t
+exit_of_root less n leaf e = absurd (cc)
+exit_of_root less n (fork red left m right) e = let same : m ≡ n = cc in rw (eq-eqb m n same) refl
 
 module _ {K V : Type 0} {k : Plain K} {v : Plain V} (kl : Laws k) {old now : Cut} {h at : ℕ} {ps : List (Pair K V)}
     (g : IsGoing k v old now h at ps) where
@@ -190,6 +204,13 @@ module _ {K V : Type 0} {k : Plain K} {v : Plain V} (kl : Laws k) {old now : Cut
       (subst (λ (o : Option ℕ). IsTree (cells_of (bytes_of now.bytes)) o s.map.tree.tree) e s.map.tree.linked) in
       at_node (λ (q : Pair K V). pair_at k.order g.pairs q.key ≡ Some q) g.pairs node (ap (λ ms. is_in node ms)
       (sym s.map.tree.lists) ∙ i) (own_found k.order kl.irreflexive kl.transitive g.pairs s.rising)
+
+  -- its removal begins at the root
+  pub root_exit : {node : ℕ} → link_at (bytes_of now.bytes) (h + at) ≡ Some node
+      → None ≡ exit_in k now node g.holds.map.tree.tree
+  root_exit {node} e =
+      let t = g.holds.map.tree.tree in
+      exit_of_root (comes_before k.order (keys_in k (nodes_of t) now)) node t (sym e ∙ g.holds.map.tree.linked.root)
 
   module _ {new : Cut} {key : K} {p : Pair K V} (has : pair_at k.order g.pairs key ≡ Some p)
       (e : IsErased k v now new h at g.pairs p key) where
@@ -221,6 +242,7 @@ module _ {K V : Type 0} {k : Plain K} {v : Plain V} (kl : Laws k) {old now : Cut
       size = ap (λ (l : LiveSet). l.size) live_new ∙ g.size;
       left = ap (λ (l : LiveSet). without_all (blocks_of (remove_pair k.order g.pairs key)) l.extents) live_new
           ∙ without_removed k.order g.pairs key p (live_of now.bytes).extents has ∙ g.left;
+      same = λ none. absurd (false≢true (rw none at (g.among (handle p.node) (in_nodes k.order g.pairs key p has))));
     }
 
     -- there is a pair less
@@ -256,4 +278,5 @@ module _ {K V : Type 0} {k : Plain K} {v : Plain V} (kl : Laws k) {old now : Cut
               g.beside.blocks x (own_handle 128 (live_of old.bytes).extents x rises b.0) b.1);
         };
         empty = subst (λ (qs : List (Pair K V)). HoldsMap k v now.bytes h at qs) none g.holds;
+        same = g.same;
       }

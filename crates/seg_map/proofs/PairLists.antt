@@ -391,10 +391,6 @@ pub narrowed : (r f : Option ℕ) (P : ℕ → Type 0) → IfSome r (λ n. f ≡
 narrowed None f P e h = tt
 narrowed (Some n) f P e h = let k = rw e at h in k
 
-pub begun : (r start : Option ℕ) (n : ℕ) (P : ℕ → Option ℕ) → r ≡ Some n → IfSome r (λ m. start ≡ P m)
-    → IfSome start (λ q. P n ≡ Some q)
-begun r start n P e h = let k = rw e at h in known start (P n) k
-
 -- ---- keys of nodes
 
 -- two ways to read keys that read those of the pairs read the same of their nodes

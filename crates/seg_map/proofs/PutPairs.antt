@@ -3,7 +3,7 @@ use Rattle.seg_map.proofs.Common as common
 use common.{◌≡◌, true, Node, Bool, ◌||◌, List, Some, roomy, Pair, ◌&&◌, leads, Good, Same, Keeps, refl, IsAllocated}
 use common.{comes_before, is_pair_node, links_among, beside_cell, changed-room, subst, entry_in, eqb-true, or_cases}
 use common.{or_right, all_from, cells_of, Relinked, cases_eq, ◌∙◌, ◌+◌, ◌%◌, inl, Cut, ◌≤◌, Has, sym, ap, ◌≢◌, inr, not}
-use common.{◌∷◌, put, ◌⊎◌, ℕ, arith, Plain, false, ne_eqb, is_in, Extent, handle, stands, length, eq-eqb, others}
+use common.{◌∷◌, Tree, put, ◌⊎◌, ℕ, arith, Plain, false, ne_eqb, is_in, Extent, handle, stands, length, eq-eqb, others}
 use common.{IsTrue, Option, LaysOut, live_of, IsMade, IfSome, pair_at, keys_in, IsLoose, or_left, None, IsChanged}
 use common.{laid-heap, entry_same, SameBlock, live-rises, found-room, node_place, current, word_at, link_at, IsPairAt}
 use common.{put_pair, IsPairIn, PairNode, or_parts, not-true, bytes_of, extent_at, IsPlanted, and_parts, has_place}
@@ -18,7 +18,6 @@ use Rattle.seg_map.proofs.PairLists.{put_length, put_nodes, put_rising, HaveKeys
 use Rattle.seg_map.proofs.PairLists.{beside as not_beside, each, each_both, pair_of, replaced_all}
 use Rattle.seg_map.proofs.{Staying.relaid, Searching.lent_own, PairSteps.all_in}
 use Rattle.seg_map.specs.Changing.{IsNew, IsPut, IsPutAgain, CanPutIn, PutsIn}
-use Rattle.seg_map.specs.Linking.{CanLink}
 use Rattle.raw_region.proofs.Laws.{SameBut-trans, SameBut-wider}
 use Rattle.best_fit.proofs.Laws.{still_allocated-block, Differs, allocated-live, allocated-room_before, found-more}
 use Rattle.best_fit.proofs.Laws.{found-new, place-serves, rising-insert}
@@ -193,10 +192,10 @@ module _ {K V : Type 0} {kp : Plain K} {vp : Plain V} (kl : Laws kp) (vl : Laws 
       let before = keys kl c s in let after = keys kl d map_there in
       record {
         there = record { pairs = ps; pair = new_pair; map = map_there; loose = loose; is = sym m.block.at };
-        begins = known start (entry_in kp d key map_there.map.tree.tree) (e ∙ entry_same (stands_before kp.order old
+        begins = e ∙ entry_same (stands_before kp.order old
             false key) (stands_before kp.order new false key) s.map.tree.tree (λ n i. ap (stands kp.order false key)
             (keys_agree old new ps before after n (ap (is_in n) (sym s.map.tree.lists) ∙ i)))
-            ∙ ap (entry_of (stands_before kp.order new false key)) (sym there_tree));
+            ∙ ap (entry_of (stands_before kp.order new false key)) (sym there_tree);
       }
 
   pub is_put : {e : Cut} → PutsIn kp vp d e h at node → IsPut kp vp c e h at ps key value
@@ -214,6 +213,14 @@ module _ {K V : Type 0} {kp : Plain K} {vp : Plain V} (kl : Laws kp) (vl : Laws 
       }
 
 -- ---- a pair whose node is made enters the map
+
+-- a node that has a place in the tree, and is put there from the root on or from where its insertion begins
+pub record CanLink {K : Type 0} (k : Plain K) (ns : List ℕ) (c : Cut) (root start : Option ℕ) (node : ℕ) : Type 0 where
+  pub shape : Tree
+  pub tree : IsKeyTree k ns c root shape
+  pub own : is_pair_node (16 + k.SIZE) ns c node ≡ true
+  pub place : has_place (comes_before k.order (keys_in k ns c)) node (nodes_of shape) ≡ true
+  pub begins : IfSome start (λ n. entry_of (λ m. not (comes_before k.order (keys_in k ns c) node m)) shape ≡ Some n)
 
 -- a link among nodes is one among more of them
 leads_more : (n : ℕ) (ns : List ℕ) (o : Option ℕ) → leads (λ j. is_in j ns) o ≡ true
@@ -280,8 +287,7 @@ module _ {K V : Type 0} {kp : Plain K} {vp : Plain V} (kl : Laws kp) (c : Cut) {
   pub planted_tree : IsKeyTree kp lent c root s.map.tree.tree
   planted_tree = rw (ns_is, is) (tree_among kl s good_all in_all)
 
-  pub can_link : (start : Option ℕ) → IfSome start (λ n. entry_in kp c p.key s.map.tree.tree ≡ Some n)
-      → CanLink kp lent c root start node
+  pub can_link : (start : Option ℕ) → start ≡ entry_in kp c p.key s.map.tree.tree → CanLink kp lent c root start node
   can_link start begins = rw (ns_is, ← here) (record {
     shape = s.map.tree.tree;
     tree = rw is (tree_among kl s good_all in_all);
@@ -294,7 +300,7 @@ module _ {K V : Type 0} {kp : Plain K} {vp : Plain V} (kl : Laws kp) (c : Cut) {
         s.map.tree.tree (λ m i. let j = ap (is_in m) (sym s.map.tree.lists) ∙ i in
         ap (stands kp.order false p.key) (keys_agree (keys_in kp ns c) (keys_in kp all c) ps (keys kl c s) keys_all
         m j) ∙ not_beside kp.order kl.irreflexive kl.transitive (keys_in kp all c) p own_key ps keys_all
-        l.absent m j)) begins;
+        l.absent m j)) (known start (entry_in kp c p.key s.map.tree.tree) begins);
   })
 
   -- the map with the pair
@@ -427,7 +433,6 @@ module _ {K V : Type 0} {kp : Plain K} {vp : Plain V} (c : Cut) {h at : ℕ} {ps
         let behind : handle p.node + (16 + kp.SIZE) ≡ handle p.node + 16 + kp.SIZE = omega arith in
         record {
           change = subst (λ n. IsChanged current c d n vp.SIZE) behind change;
-          live = change.live;
           beside = keeps_beside keeps (λ y f o. block_stays y (handle y) f (λ e. both_ways _ o
               (ap (λ n. is_in n (nodes_of_pairs ps)) e ∙ in_nodes kp.order ps key p has)));
           map = map_after;

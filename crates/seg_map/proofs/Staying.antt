@@ -146,7 +146,7 @@ beside_then p q still = record {
 -- ---- what a call of the tree says of the heap that it was lent
 
 -- the bound of an insertion is below that of a removal
-pub fewer : (n digits : ℕ) → n ≤ 28 * digits + 32 → n ≤ 32 * digits + 32
+pub fewer : (n digits : ℕ) → n ≤ 28 * digits + 32 → n ≤ 30 * digits + 32
 fewer n digits few = omega arith
 
 -- by the nodes as they were, and by the steps that were added
@@ -157,7 +157,7 @@ pub relinked : {K : Type 0} (k : Plain K) (ns ms : List ℕ) {c d e : Cut} (root
     → (s : Tree) × IsSearchTree (comes_before k.order (keys_in k ms d)) (pair_cells (16 + k.SIZE) ms d) top s
     × (nodes_of s ≡ becomes (nodes_of t)))
     → ((t : Tree) → IsSearchTree (comes_before k.order (keys_in k ns c)) (pair_cells (16 + k.SIZE) ns c) root t
-    → steps ≤ 32 * bits (length (nodes_of t) + 1) + 32) → Relinked k ns c e root top becomes (after - before)
+    → steps ≤ 30 * bits (length (nodes_of t) + 1) + 32) → Relinked k ns c e root top becomes (after - before)
 relinked k ns ms {c} {d} {e} root top before {after} steps now kept leads_to added tree few =
     let same = own_stays c d ns ms kept in
     rw now (record {
@@ -289,8 +289,8 @@ module _ {K V : Type 0} {kp : Plain K} {vp : Plain V} {c d : Cut} {h at : ℕ} {
   pub top_whole : IfSome top (λ t. t % 16 ≡ 0)
   top_whole = target_whole (16 + kp.SIZE) ns d top (u.tree s.map.tree.tree tree).1.leads
 
-  pub few_steps : steps ≤ 32 * bits (length ps + 1) + 32
-  few_steps = subst (λ n. steps ≤ 32 * bits (n + 1) + 32) (ap length s.map.tree.lists ∙ length-map ps pair_node)
+  pub few_steps : steps ≤ 30 * bits (length ps + 1) + 32
+  few_steps = subst (λ n. steps ≤ 30 * bits (n + 1) + 32) (ap length s.map.tree.lists ∙ length-map ps pair_node)
       (u.few s.map.tree.tree tree)
 
   -- the words are written; the nodes are those of these pairs

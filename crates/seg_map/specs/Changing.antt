@@ -39,7 +39,7 @@ pub record IsNew {K V : Type 0} (k : Plain K) (v : Plain V) (old new : Cut) (h a
   pub change : IsChanged current old new (h + at) 24
   pub map : let none : List (Pair K V) = [] in HoldsMap k v new.bytes h at none
 
--- the node of a pair of the map, and where its removal begins, if that is known
+-- the node of a pair of the map, and where its removal begins: none where that is at the root
 pub record CanGiveUp {K V : Type 0} (k : Plain K) (v : Plain V) (c : Cut) (h at : ℕ) (start : Option ℕ)
     (node : ℕ) : Type 0 where
   pub pairs : List (Pair K V)
@@ -48,7 +48,7 @@ pub record CanGiveUp {K V : Type 0} (k : Plain K) (v : Plain V) (c : Cut) (h at 
   pub map : HoldsMap k v c.bytes h at pairs
   pub found : pair_at k.order pairs key ≡ Some pair
   pub is : pair_node pair ≡ node
-  pub begins : IfSome start (λ n. exit_in k c node map.map.tree.tree ≡ Some n)
+  pub begins : start ≡ exit_in k c node map.map.tree.tree
 
 -- the map has these pairs now: no block comes or goes, and of all but these nodes no byte changes but the 24 of the map
 pub record IsRelaid {K V : Type 0} (k : Plain K) (v : Plain V) (old new : Cut) (h at : ℕ) (ns : List ℕ)
@@ -64,7 +64,7 @@ IsTaken k v old new h at ps key = IsRelaid k v old new h at (nodes_of_pairs ps) 
 -- the steps of a call of the tree, and so many more
 abbrev pub TreeSteps : {K V : Type 0} → Plain K → Plain V → Cut → ℕ → ℕ → ℕ → ℕ → ℕ → Type 0
 TreeSteps {K} {V} k v old h at more before after = (ps : List (Pair K V)) → HoldsMap k v old.bytes h at ps
-    → after ≤ before + 32 * bits (length ps + 1) + 32 + more
+    → after ≤ before + 30 * bits (length ps + 1) + 32 + more
 
 -- the pair of a key is gone, and its block
 pub record IsErased {K V : Type 0} (k : Plain K) (v : Plain V) (old new : Cut) (h at : ℕ) (ps : List (Pair K V))
@@ -86,11 +86,13 @@ Drops {K} {V} k v old new h at node =
     (ps : List (Pair K V)) (key : K) (p : Pair K V) → HoldsMap k v old.bytes h at ps → pair_at k.order ps key ≡ Some p
     → pair_node p ≡ node → IsErased k v old new h at ps p key
 
--- all pairs are gone, and their blocks; of all other blocks no byte changes but the 24 of the map
+-- all pairs are gone, and their blocks; of all other blocks no byte changes but the 24 of the map, and where there was
+-- no pair, nothing
 pub record IsGivenUp {K V : Type 0} (k : Plain K) (v : Plain V) (old new : Cut) (h at : ℕ)
     (ps : List (Pair K V)) : Type 0 where
   pub change : IsExchanged current old new (h + at) 24 (map (λ (p : Pair K V). p.node) ps) []
   pub empty : let none : List (Pair K V) = [] in HoldsMap k v new.bytes h at none
+  pub same : ps ≡ [] → new ≡ old
 
 abbrev pub Releases : {K V : Type 0} → Plain K → Plain V → Cut → Cut → ℕ → ℕ → Type 0
 Releases {K} {V} k v old new h at = (ps : List (Pair K V)) → HoldsMap k v old.bytes h at ps
@@ -130,11 +132,11 @@ pub record HasLooseNode {K V : Type 0} (k : Plain K) (v : Plain V) (b : List ℕ
   pub loose : IsLoose k v b h pairs pair
   pub is : pair_node pair ≡ node
 
--- the same, and where the insertion of the node begins, if that is known
+-- the same, and where the insertion of the node begins: none where that is at the root
 pub record CanPutIn {K V : Type 0} (k : Plain K) (v : Plain V) (c : Cut) (h at : ℕ) (start : Option ℕ)
     (node : ℕ) : Type 0 where
   pub there : HasLooseNode k v c.bytes h at node
-  pub begins : IfSome start (λ n. entry_in k c there.pair.key there.map.map.tree.tree ≡ Some n)
+  pub begins : start ≡ entry_in k c there.pair.key there.map.map.tree.tree
 
 -- the pair is in the map
 abbrev pub IsPlanted : {K V : Type 0} → Plain K → Plain V → Cut → Cut → ℕ → ℕ → List (Pair K V) → Pair K V → Type 0
@@ -158,7 +160,6 @@ pub record IsPut {K V : Type 0} (k : Plain K) (v : Plain V) (old new : Cut) (h a
 pub record IsPutAgain {K V : Type 0} (k : Plain K) (v : Plain V) (old new : Cut) (h at : ℕ) (ps : List (Pair K V))
     (p : Pair K V) (key : K) (value : V) : Type 0 where
   pub change : IsChanged current old new (handle p.node + 16 + k.SIZE) v.SIZE
-  pub live : LaysOut current new.bytes (live_of old.bytes)
   pub beside : IsBesideMap old new (h + at) (nodes_of_pairs ps)
   pub map : HoldsMap k v new.bytes h at (put_pair k.order (record { key = key; value = value; node = p.node }) ps)
 
@@ -175,8 +176,9 @@ Puts {K} {V} k v old new h at key value result =
     (λ e. IsFull k v old new))
     (λ p. (result ≡ Ok false) × IsPutAgain k v old new h at ps p key value)
 
--- the steps of the two tree calls of a change, and the touches of one call of the heap
+-- the steps of the two tree calls of a change, the one in which what is found is read, and the touches of one call of
+-- the heap
 abbrev pub ChangeSteps : {K V : Type 0} → Plain K → Plain V → Cut → ℕ → ℕ → ℕ → ℕ → Type 0
 ChangeSteps {K} {V} k v old h at before after =
     (ps : List (Pair K V)) → HoldsMap k v old.bytes h at ps
-    → after ≤ before + 34 * bits (length ps + 1) + 36 + heap_touches (live_of old.bytes)
+    → after ≤ before + 32 * bits (length ps + 1) + 33 + heap_touches (live_of old.bytes)

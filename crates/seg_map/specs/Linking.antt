@@ -1,8 +1,7 @@
 -- Nodes that enter and leave the tree of a map.
-use Rattle.std.specs.Prelude.{◌≡◌, ℕ, ◌+◌, ◌*◌, ◌≤◌, true, not, Option, Some, List, length, IfSome}
+use Rattle.std.specs.Prelude.{◌≡◌, ℕ, ◌+◌, ◌*◌, ◌≤◌, true, Option, List, length}
 use Rattle.raw_region.specs.Memory.{Cut}
-use Rattle.link_tree.specs.{Tree.Tree, Tree.IsSearchTree, Tree.bits, Tree.nodes_of, Ways.entry_of, Ways.exit_of}
-use Rattle.link_tree.specs.Nodes.{has_place, is_in, leads}
+use Rattle.link_tree.specs.{Nodes.leads, Tree.Tree, Tree.IsSearchTree, Tree.bits, Tree.nodes_of}
 use Rattle.seg_types.specs.{declared.plain.Plain.Ghosts as Plain, Plain.value_in}
 use Rattle.seg_map.specs.PairNodes.{comes_before, is_pair_node, kept_of, key_of, pair_cells}
 
@@ -20,26 +19,10 @@ abbrev pub HasTree : {K : Type 0} → Plain K → List ℕ → Cut → Option �
 HasTree k ns c root =
     (t : Tree) × IsSearchTree (comes_before k.order (keys_in k ns c)) (pair_cells (16 + k.SIZE) ns c) root t
 
--- a node of the tree that can be taken out, from the root on or from where its removal begins
-pub record CanUnlink {K : Type 0} (k : Plain K) (ns : List ℕ) (c : Cut) (root start : Option ℕ) (node : ℕ) : Type 0
-  where
-    pub shape : Tree
-    pub tree : IsKeyTree k ns c root shape
-    pub listed : is_in node (nodes_of shape) ≡ true
-    pub begins : IfSome start (λ n. exit_of (comes_before k.order (keys_in k ns c)) node shape ≡ Some n)
-
--- a node that has a place in the tree, and is put there from the root on or from where its insertion begins
-pub record CanLink {K : Type 0} (k : Plain K) (ns : List ℕ) (c : Cut) (root start : Option ℕ) (node : ℕ) : Type 0 where
-  pub shape : Tree
-  pub tree : IsKeyTree k ns c root shape
-  pub own : is_pair_node (16 + k.SIZE) ns c node ≡ true
-  pub place : has_place (comes_before k.order (keys_in k ns c)) node (nodes_of shape) ≡ true
-  pub begins : IfSome start (λ n. entry_of (λ m. not (comes_before k.order (keys_in k ns c) node m)) shape ≡ Some n)
-
 -- a link leads to a tree whose nodes became these; nothing changes but links and colours of the nodes
 pub record Relinked {K : Type 0} (k : Plain K) (ns : List ℕ) (old new : Cut) (root top : Option ℕ)
     (becomes : List ℕ → List ℕ) (steps : ℕ) : Type 0 where
   pub kept : kept_of ns new ≡ kept_of ns old
   pub tree : (t : Tree) → IsKeyTree k ns old root t → (s : Tree) × IsKeyTree k ns new top s
       × (nodes_of s ≡ becomes (nodes_of t))
-  pub few : (t : Tree) → IsKeyTree k ns old root t → steps ≤ 32 * bits (length (nodes_of t) + 1) + 32
+  pub few : (t : Tree) → IsKeyTree k ns old root t → steps ≤ 30 * bits (length (nodes_of t) + 1) + 32

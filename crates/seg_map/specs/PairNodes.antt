@@ -1,6 +1,5 @@
 -- The pairs of a map as the nodes of a tree: each is named by the handle of its block, where its two links stand, and
--- its colour
--- is in the block's tag.
+-- its colour is in the block's tag.
 use Rattle.std.specs.Prelude.{ℕ, ◌+◌, ◌-◌, ◌%◌, Bool, true, false, ◌&&◌, ◌||◌, not, Option, Some, None, List, [], ◌∷◌}
 use Rattle.std.specs.Prelude.{◌++◌, ◌==◌, nat_le, nat_lt, if◌then◌else◌}
 use Rattle.std.specs.List.{list_all, list_any}

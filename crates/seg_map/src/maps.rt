@@ -68,7 +68,7 @@ impl<K: Plain, V: Plain> SegMap<K, V> {
         ensures steps { ChangeSteps K.Plain V.Plain heap.old self.place.handle self.place.at steps.old steps.new }
         ensures searched { LooksUpFirst K.Plain V.Plain heap.old self.place key 0 steps.old steps.new }
         ensures went { IfOk result (λ new. new ≡ true
-            → LooksUpFirst K.Plain V.Plain heap.old self.place key 1 steps.old steps.new) }
+            → LooksUpFirst K.Plain V.Plain heap.old self.place key 2 steps.old steps.new) }
         ensures exact { IfOk result (λ new. new ≡ false
             → LookUpTakes K.Plain V.Plain heap.old self.place false key steps.old steps.new) }
     {
@@ -91,7 +91,6 @@ impl<K: Plain, V: Plain> SegMap<K, V> {
         ensures steps { ChangeSteps K.Plain V.Plain heap.old self.place.handle self.place.at steps.old steps.new }
         ensures went { result ≡ true → LooksUpFirst K.Plain V.Plain heap.old self.place key 2 steps.old steps.new }
         ensures exact { result ≡ false → LookUpTakes K.Plain V.Plain heap.old self.place false key steps.old steps.new }
-        ensures absent { result ≡ false → heap.new ≡ heap.old }
     {
         let trace = self.find_out(&*heap, key, steps);
         let Some(node) = trace.node else {

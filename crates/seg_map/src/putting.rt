@@ -1,5 +1,5 @@
 //! Pairs that are put.
-ghost use Rattle.std.specs.Prelude.{◌≡◌, ◌+◌, ◌≤◌, IsTrue, true};
+ghost use Rattle.std.specs.Prelude.{◌≡◌, ◌+◌, ◌<◌, ◌≤◌, IsTrue, is_ok, true};
 ghost use Rattle.raw_region.specs.{Format.current, Memory.Has, Memory.bytes_of};
 ghost use Rattle.best_fit.specs.Heap.{IsChanged, has_room, heap_touches, live_of};
 ghost use Rattle.seg_map.specs.Changing.{Makes};
@@ -57,6 +57,7 @@ pub fn make_node<K: Plain, V: Plain>(
 ) -> Result<u64, NoSpace>
     ensures made { Makes K.Plain V.Plain heap.old heap.new key value result }
     ensures counted { steps.old ≤ steps.new }
+    ensures went { is_ok result ≡ true → steps.old < steps.new }
     ensures steps { steps.new ≤ steps.old + heap_touches (live_of heap.old.bytes) }
 {
     let node = heap.allocate(KEY + K::SIZE + V::SIZE, Role::Node, steps)?;

@@ -192,13 +192,13 @@ module _ (old new : Cut) {d : Directory} {o : Object} {k v : ScalarKind} {ps : L
   again-denotes key value p r same =
       let q : NumberPair = record { key = key; value = value; node = p.node } in
       let qs : List NumberPair = put_pair int_lt q ps in
-      let l : live_of new.bytes ≡ live_of old.bytes = lay_out_one current new.bytes (live_of old.bytes) r.live in
+      let l : live_of new.bytes ≡ live_of old.bytes = lay_out_one current new.bytes (live_of old.bytes) r.change.live in
       let s = object-map den x in
       let one : nodes qs ≡ nodes ps = one-by_handle (live_of old.bytes).extents (nodes qs) (nodes ps) (same-handles qs
       ∙ same ∙ sym (same-handles ps)) (subst (λ (l : LiveSet). AllByRecursion (IsFoundIn l.extents) (nodes qs)) l
       (listed-nodes k v (live_of new.bytes) (handle o.extent) qs r.map.pairs)) (listed-nodes k v (live_of old.bytes)
       (handle o.extent) ps s.pairs) in
-      pairs-changed old new _ den x r.beside r.map [] [] (all-same old new qs den x one) r.live
+      pairs-changed old new _ den x r.beside r.map [] [] (all-same old new qs den x one) r.change.live
 
   -- a pair less
   pub erased-denotes : (key : ℤ) (p : NumberPair) → pair_at int_lt ps key ≡ Some p

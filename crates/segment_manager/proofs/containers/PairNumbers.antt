@@ -285,7 +285,6 @@ module _ {K V : Type 0} {k v : ScalarKind} {kp : Plain K} {vp : Plain V} {kw : K
       record {
         change = subst (λ n. IsChanged current old new (handle p.node + 16 + n) (size_of v)) kl.long
             (subst (λ n. IsChanged current old new (handle p.node + 16 + kp.SIZE) n) vl.long r.1.change);
-        live = r.1.live;
         beside = beside-numbers ps r.1.beside;
         map = put-numbers ps (record { key = x; value = y; node = p.node }) r.1.map;
       },
@@ -319,10 +318,15 @@ module _ {K V : Type 0} {k v : ScalarKind} {kp : Plain K} {vp : Plain V} {kw : K
         subst (ErasesBy (numbers_of k) (numbers_of v) old new h at (number_pairs ps) (kw x) result)
         (sym (numbers-at ps x)) (erases-if ps x result (pair_at kp.order ps x) (each ps s)))
 
+    no-pairs : (ps : List (Pair K V)) → number_pairs ps ≡ [] → ps ≡ []
+    no-pairs [] e = refl
+    no-pairs (p ∷ ps) e = absurd (cc)
+
     pub releases-numbers : Releases kp vp old new h at → Releases (numbers_of k) (numbers_of v) old new h at
     releases-numbers each = of-values old.bytes h at (IsGivenUp (numbers_of k) (numbers_of v) old new h at) (λ ps s.
         let r : IsGivenUp kp vp old new h at ps = each ps s in
         let none : List (Pair K V) = [] in record {
           change = subst (λ xs. IsExchanged current old new (h + at) 24 xs []) (sym (numbers-extents ps)) r.change;
           empty = map-numbers new.bytes h at none r.empty;
+          same = λ e. r.same (no-pairs ps e);
         })

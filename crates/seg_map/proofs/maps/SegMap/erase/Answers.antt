@@ -1,5 +1,5 @@
 -- The pair is found, and given up.
-use Rattle.seg_map.proofs.{exit_in, begun, key_at_node}
+use Rattle.seg_map.proofs.{key_at_node}
 use Rattle.seg_map.proofs.maps.SegMap.erase.Goals as goal
 
 pub give_up-requires : goal.give_up-requires
@@ -13,6 +13,5 @@ give_up-requires g c =
       map = s;
       found = k.holds;
       is = k.at;
-      begins = begun trace.result.node trace.result.start c.in-Some.node
-          (λ n. exit_in g.K.Plain c.args.heap.now n s.map.tree.tree) c.in-Some.is (trace.ensures.exit ps s);
+      begins = rw c.in-Some.is at (trace.ensures.exit ps s);
     }

@@ -6,9 +6,6 @@ use Rattle.link_tree.specs.Nodes.{without}
 use Rattle.best_fit.specs.Heap.{heap_touches}
 use Rattle.seg_map.proofs.maps.SegMap.give_up.Goals as goal
 
-fewer : (n b : ℕ) → n ≤ 30 * b + 32 → n ≤ 32 * b + 32
-fewer n b h = omega arith
-
 pub remove_at-changed-requires : goal.remove_at-changed-requires
 remove_at-changed-requires g c =
     let q = c.requires in let lent = c.lend-pairs.ensures in
@@ -24,7 +21,7 @@ cut g c =
     let f = c.remove_at-changed.ensures in let lent = c.lend-pairs in let r = c.remove_at-changed.result in
     rw (← lent.ensures.own, ← lent.ensures.heap)
     (relinked g.K.Plain lent.result.own c.remove_at-changed.new.nodes.own c.link-root.result r.root c.args.steps.now
-    r.steps (search rules) f.same.kept f.root c.add.ensures f.tree (λ t k. fewer _ _ (f.steps t k)))
+    r.steps (search rules) f.same.kept f.root c.add.ensures f.tree f.steps)
 
 pub write_head-requires : goal.write_head-requires
 write_head-requires g c =

@@ -1,5 +1,5 @@
 -- A pair is given up as long as there is a root.
-use Rattle.seg_map.proofs.{◌≡◌, sym, ◌∙◌, None, laws, given_up, going_on, one_less, root_pair}
+use Rattle.seg_map.proofs.{◌≡◌, sym, ◌∙◌, None, laws, given_up, going_on, one_less, root_exit, root_pair}
 use Rattle.seg_map.proofs.maps.SegMap.release.Goals as goal
 
 pub give_up-requires : goal.give_up-requires
@@ -13,7 +13,7 @@ give_up-requires g c =
       map = going.holds;
       found = n.holds;
       is = n.at;
-      begins = tt;
+      begins = root_exit (laws g.met.K.Plain) going (sym c.link.ensures ∙ c.in-Some.is);
     }
 
 pub pairs-smaller : goal.pairs-smaller

@@ -1,14 +1,17 @@
 -- What calls leave to the last byte, that of gaps too: all, since they find that there is nothing to do, or all but an
 -- element.
-use Rattle.std.specs.Prelude.{◌≡◌, ◌≤◌, ◌+◌, ℕ, ℤ, int_lt, Some, None, Ok, IfOk}
+use Rattle.std.specs.Prelude.{◌≡◌, ◌<◌, ◌≤◌, ◌+◌, ◌⊎◌, ℕ, ℤ, int_lt, List, length, Some, None, Ok, IfOk}
 use Rattle.raw_region.specs.Memory.{SameBut, bytes_of}
 use Rattle.seg_types.specs.declared.kinds.ScalarKind.{ScalarKind}
 use Rattle.seg_types.specs.Kinds.{size_of}
 use Rattle.seg_types.specs.Names.{Key}
 use Rattle.seg_map.specs.Map.{pair_at}
 use Rattle.segment_manager.specs.containers.Contents.{sizes_at}
+use Rattle.best_fit.specs.Table.{Table}
 use Rattle.seg_vector.specs.declared.places.Place.{Place}
-use Rattle.segment_manager.specs.Directory.{Object, Directory, object_at}
+use Rattle.seg_vector.specs.{TextsCalls.new_array, TextsCalls.placed_text}
+use Rattle.seg_vector.specs.Vector.{OwnedText, capacity_for_one, grown_table}
+use Rattle.segment_manager.specs.Directory.{Object, Directory, Texts, live, object_at}
 use Rattle.segment_manager.specs.objects.Standing.{place_at}
 use Rattle.segment_manager.specs.State.{State, StandsFor}
 use Rattle.segment_manager.specs.containers.Walks.{pairs_at}
@@ -35,6 +38,21 @@ pub record HasPlaces (key : Key) (n : ℕ) (d : Directory) : Type 0 where
 -- the map of the key has no such key
 abbrev pub LacksPair : Key → ℤ → Directory → Type 0
 LacksPair key x d = pair_at int_lt (pairs_at d key) x ≡ None
+
+-- The vector of strings of the key has no space for what is asked for first where a text joins it: for the text's block
+-- where it has a place more, and else for its array.
+pub record LacksFirst (key : Key) (bytes : List ℕ) (d : Directory) : Type 0 where
+  pub object : Object
+  pub is : object_at d key ≡ Some object
+  pub texts : List OwnedText
+  pub table : Table
+  pub value : object.value ≡ Texts texts table
+  pub none : ((length texts < table.capacity) × (placed_text (live d) bytes ≡ None))
+      ⊎ (grown_table (live d) 16 (capacity_for_one (length texts) table.capacity) table ≡ None)
+
+-- there is no space for an array of so many texts
+abbrev pub LacksArray : ℕ → Directory → Type 0
+LacksArray n d = new_array (live d) n ≡ None
 
 -- no byte changes but those of the element at an index in the object of the key, an object of scalars of the kind
 abbrev pub ChangesElement : State → State → Key → ScalarKind → ℕ → Type 0

@@ -27,7 +27,10 @@ use Rattle.std.proofs.Common.{Fits, w8}
 use Rattle.segment_manager.specs.{containers.Stored.ChangesTexts, containers.ToChange.IsToChange}
 use Rattle.best_fit.specs.Exchange.{IsRestored}
 use Rattle.seg_vector.specs.TextsCalls.{ClearsTexts, ErasesText, GetsText, InsertsText, IsTextLeftOut, IsTextPutIn}
-use Rattle.seg_vector.specs.TextsCalls.{IsTextSet, IsWithoutFit, PopsText, PushesText, SetsText}
+use Rattle.seg_vector.specs.TextsCalls.{IsStillAtFirst, IsTextSet, IsWithoutFit, PopsText, PushesText, SetsText}
+use Rattle.seg_vector.specs.{TextsCalls.StaysAtFirst, TextsCalls.new_array, Vector.capacity_for_one}
+use Rattle.segment_manager.specs.Keeping.{KeepsWhere, LacksArray, LacksFirst}
+use Rattle.segment_manager.specs.Directory.{Object, Texts, live}
 use Rattle.seg_types.specs.Commands as asked
 
 -- texts as literals are read as them
@@ -177,6 +180,33 @@ module _ {s t : State} (view : s ≡ t) (b : IsSegment s.cut.bytes) {key : Key} 
       let o : IsGivenUp s.cut new (one_more heap some.texts some.table bs) e = a some.texts some.table some.stand in
       seen-kept (given-up o.refusal o.restored
       (λ d h. ap (perform d heap) (push-text h bs) ∙ put-unmet h (length h.texts) bs (a h.texts h.table h.stand).none))
+
+  -- where the first block has no space, nothing changes
+  pub text-first : (bs : List ℕ) → StaysAtFirst s.cut new p bs
+      → KeepsWhere t (record s { cut = new }) (LacksFirst key bs)
+  text-first bs a = subst (λ (u : State). KeepsWhere u (record s { cut = new }) (LacksFirst key bs)) view (λ d l w.
+      let h : Holds d = holds d l in
+      let object : h.object ≡ w.object = same_Some h.object w.object (sym h.is ∙ w.is) in
+      let value : Texts h.texts h.table ≡ Texts w.texts w.table =
+      sym h.value ∙ ap (λ (o : Object). o.value) object ∙ w.value in
+      let texts : h.texts ≡ w.texts = cc in let table : h.table ≡ w.table = cc in
+      let lives : live d ≡ heap = sym (denotes-live current s.cut.bytes d l.denotes) in
+      let still : IsStillAtFirst s.cut new w.texts w.table bs =
+      subst (λ (u : Table). IsStillAtFirst s.cut new w.texts u bs) table
+      (subst (λ (ps : List OwnedText). IsStillAtFirst s.cut new ps h.table bs) texts (a h.texts h.table h.stand)) in
+      let same : new ≡ s.cut = elim w.none [
+        | inl x ↦ still.text x.0 (subst (λ (m : LiveSet). placed_text m bs ≡ None) lives x.1)
+        | inr x ↦ still.array (subst (λ (m : LiveSet).
+            grown_table m 16 (capacity_for_one (length w.texts) w.table.capacity) w.table ≡ None) lives x)
+      ] in
+      (λ i. record s { cut = same i }))
+
+  pub array-first : (n : ℕ) → (new_array heap n ≡ None → new ≡ s.cut)
+      → KeepsWhere t (record s { cut = new }) (LacksArray n)
+  array-first n a = subst (λ (u : State). KeepsWhere u (record s { cut = new }) (LacksArray n)) view (λ d l w.
+      let lives : live d ≡ heap = sym (denotes-live current s.cut.bytes d l.denotes) in
+      let same : new ≡ s.cut = a (subst (λ (m : LiveSet). new_array m n ≡ None) lives w) in
+      (λ i. record s { cut = same i }))
 
   insert-put : {d : Directory} (h : Holds d) (i : ℕ) (bs : List ℕ) → i ≤ length h.texts
       → effect d (asked.Insert key i (asked.Quoted bs)) ≡ insert_plan h i bs

@@ -152,14 +152,6 @@ pub record Kept (s t : State) (new : Cut) (key : Key) (c : Command) (r : Result 
   pub refused : IfErr r (λ why. is_untouched (Refused why) ≡ true → (record s { cut = new }) ≡ t)
   pub segment : IsSegment new.bytes
 
--- what the call ensures
-pub kept-told : {s t : State} {new : Cut} {key : Key} {c : Command} {r : Result (Unit {0}) Refusal}
-    → Kept s t new key c r → record {
-      step : IsStepOfKind t (record s { cut = new }) key StringsKind c (done_answer r);
-      refused : IfErr r (λ why. is_untouched (Refused why) ≡ true → (record s { cut = new }) ≡ t);
-    }
-kept-told k = record { step = k.step; refused = k.refused }
-
 pub kept : (s t : State) (view : s ≡ t) (b : IsSegment s.cut.bytes) (new : Cut) (key : Key) (c : Command)
     (r : Result (Unit {0}) Refusal) → StepsKeeping s new key c r → Kept s t new key c r
 kept s t view b new key c r done = record {

@@ -6,8 +6,12 @@ use common.{NotFound, WrongKind, code_of, is_value, Key, ByHandle, Command, Lite
 use common.{Located, Answer, Done, Refused, elements_at, elements_of, kind_at, Value, Numbers, Elements, Bytes, Pairs}
 use common.{Texts, Object, Directory, kind_of, live, object_at, IsMissing, IsLocated, Plan, Refuse, Reply, perform}
 use common.{with, Answers, IsReply, IsReplyOfKind, IsStep, State, StandsFor, changed, effect, element_at, get}
-use common.{is_read_only, set, step, with_items}
-use Rattle.segment_manager.proofs.objects.Locating.{kind-by_key, reply_of_kind-by_key}
+use common.{is_read_only, set, step, with_items, ne_eqb, scalar_code, size_of, same_kind, handle, arith, bytes_of}
+use common.{◌+◌, ◌≤◌, ◌==◌, SameBut, Place}
+use Rattle.std.specs.Prelude.{IfOk, OnOk}
+use Rattle.segment_manager.specs.{Keeping.ChangesElement, objects.Standing.place_in}
+use Rattle.segment_manager.proofs.objects.Locating.{kind-by_key, reply_of_kind-by_key, same-object}
+use Rattle.segment_manager.proofs.objects.Heads.{scalar-small}
 use Rattle.segment_manager.proofs.containers.Refilled.{refused-steps, same_plan-steps}
 use Rattle.segment_manager.proofs.Steps.{open-reading, step-refuse, step_of_kind-step, with-found, with-not_found}
 use Rattle.segment_manager.proofs.containers.AnyStorage.{IsOfKindAt, kind-told}
@@ -16,6 +20,9 @@ use Rattle.segment_manager.specs.Calls.{scalar_reply}
 use Rattle.seg_types.specs.Commands as asked
 
 -- ---- what an object says of its elements
+
+abbrev told : Option Object → Result Kind Refusal
+told r = elim r as (λ _. Result Kind Refusal) [ None ↦ Err NotFound | Some o ↦ Ok (kind_of o.value) ]
 
 abbrev elements_in : Option Object → Result ScalarKind Refusal
 elements_in r =
@@ -214,3 +221,61 @@ pub kind-no_texts : (s : State) (key : Key) (kind : Kind) → Answers s (λ d. k
 kind-no_texts s key kind a n d l o e =
     let k = kind-told d key kind (a.answers d l) in
     λ f. n (sym (ap (λ (p : Object). kind_of p.value) (sym (same_Some k.object o (sym k.is ∙ e))) ∙ k.kind_is) ∙ f)
+
+-- ---- writing: the bytes
+
+-- where an element stands in the object that a key has, or why there is none
+abbrev place_by : Object → Result ℕ Refusal → Result Place Refusal
+place_by o r = elim r as (λ _. Result Place Refusal) [
+  | Ok at ↦ Ok (record { handle = handle o.extent; at = at })
+  | Err why ↦ Err why
+]
+
+abbrev place_of : Option Object → ScalarKind → ℕ → Result Place Refusal
+place_of r k i =
+    elim r as (λ _. Result Place Refusal) [ None ↦ Err NotFound | Some o ↦ place_by o (place_in o k i) ]
+
+-- a kind whose code is above those of scalars is none of them
+above-scalars : (k : ScalarKind) (n : ℕ) → 6 ≤ n → (scalar_code k == n) ≡ false
+above-scalars k n high = ne_eqb (scalar_code k) n (λ e. let small = scalar-small k in omega arith)
+
+no-place : (P : Place → Type 0) (r : Option Object) (k : ScalarKind) (i : ℕ) (n : Kind)
+    → same_kind (ScalarOf k) n ≡ false → Ok n ≡ told r → IfOk (place_of r k i) P
+no-place P None k i n e f = absurd (cc)
+no-place P (Some o) k i n e f =
+    let same : n ≡ kind_of o.value = cc in
+    let other : same_kind (ScalarOf k) (kind_of o.value) ≡ false = ap (same_kind (ScalarOf k)) (sym same) ∙ e in
+    let none : place_in o k i ≡ Err WrongKind = rw (other, place_in) refl in
+    subst (λ (r : Result ℕ Refusal). IfOk (place_by o r) P) (sym none) tt
+
+-- an object of another kind has no element of scalars
+pub element-elsewhere : (old new : State) (key : Key) (k : ScalarKind) (i : ℕ) (n : Kind)
+    → same_kind (ScalarOf k) n ≡ false → Answers old (λ d. kind_at d key) (Ok n) → ChangesElement old new key k i
+element-elsewhere old new key k i n e a = λ d w.
+    no-place (λ (p : Place). SameBut (bytes_of old.cut.bytes) (bytes_of new.cut.bytes) (p.handle + p.at) (size_of k))
+    (object_at d key) k i n e (a.answers d w)
+
+pub element-of_text : (old new : State) (key : Key) (k : ScalarKind) (i : ℕ)
+    → Answers old (λ d. kind_at d key) (Ok StringKind) → ChangesElement old new key k i
+element-of_text old new key k i a =
+    element-elsewhere old new key k i StringKind (above-scalars k 65536 (omega arith)) a
+
+pub element-of_vector : (old new : State) (key : Key) (k l : ScalarKind) (i : ℕ)
+    → Answers old (λ d. kind_at d key) (Ok (VectorKind l)) → ChangesElement old new key k i
+element-of_vector old new key k l i a =
+    element-elsewhere old new key k i (VectorKind l) (above-scalars k (131072 + scalar_code l) (omega arith)) a
+
+-- the element of an object that was located is that of the key
+pub element-by_key : (old new : State) (key : Key) (o : Located) → IsLocated old key o → (k : ScalarKind) (i : ℕ)
+    → ChangesElement old new (ByHandle o.handle) k i → ChangesElement old new key k i
+element-by_key old new key o l k i m = λ d w.
+    subst (λ (r : Option Object). IfOk (place_of r k i) (λ (p : Place). SameBut (bytes_of old.cut.bytes)
+    (bytes_of new.cut.bytes) (p.handle + p.at) (size_of k))) (sym (same-object old key o l d w)) (m d w)
+
+pub on_ok : {A : Type 0} {P : Type 0} (r : Result A Refusal) → P → OnOk r P
+on_ok (Ok a) p = p
+on_ok (Err why) p = tt
+
+pub on_ok-map : {A : Type 0} {P Q : Type 0} (r : Result A Refusal) → (P → Q) → OnOk r P → OnOk r Q
+on_ok-map (Ok a) f p = f p
+on_ok-map (Err why) f p = tt

@@ -1,9 +1,10 @@
 //! The elements of objects whose kind is not known before: of scalars, of vectors of scalars, and of strings.
-ghost use Rattle.std.specs.Prelude.{◌≡◌, Ok, OnErr};
+ghost use Rattle.std.specs.Prelude.{◌≡◌, Ok, OnErr, OnOk};
 ghost use Rattle.seg_types.specs.declared.kinds.Kind.TheVariants.{Vector as VectorOf};
 ghost use Rattle.seg_types.specs.Commands.{Get, Set, literal_of};
 ghost use Rattle.seg_types.specs.Values.{kind_of_scalar, value_of_scalar};
 ghost use Rattle.segment_manager.specs.Calls.{elements_at, scalar_reply};
+ghost use Rattle.segment_manager.specs.Keeping.{ChangesElement};
 ghost use Rattle.segment_manager.specs.State.{Answers, IsReplyOfKind, IsStep, IsStepOfKind, done_answer, scalar_answer};
 
 use crate::objects::targets::{Target, locate};
@@ -76,7 +77,7 @@ impl Segment {
 }
 
 /// Makes a value the element at `index` in the object of a key, whose elements are of the value's kind: of scalars, of
-/// a vector of scalars, or of a string.
+/// a vector of scalars, or of a string. Of an object of scalars no other byte changes.
 ///
 /// Example: `set_any(&mut segment, &key, 0, ScalarValue::I64(640))?`.
 ///
@@ -100,6 +101,7 @@ pub fn set_any<O: Target>(
     ensures step { IsStep segment.old segment.new
         (Set (O.key key.now) index (literal_of (kind_of_scalar value) (value_of_scalar value))) (done_answer result) }
     ensures refused { OnErr result (segment.new ≡ segment.old) }
+    ensures element { OnOk result (ChangesElement segment.old segment.new (O.key key.now) (kind_of_scalar value) index) }
 {
     let object = locate(segment, key)?;
     match object.kind {

@@ -1,9 +1,10 @@
 //! The texts of objects that are vectors of strings, read and changed.
-ghost use Rattle.std.specs.{Prelude.◌≡◌, Prelude.IsTrue, Prelude.OnErr, Prelude.map, List.list_all};
+ghost use Rattle.std.specs.{Prelude.◌≡◌, Prelude.IsTrue, Prelude.OnErr, Prelude.length, Prelude.map, List.list_all};
 ghost use Rattle.seg_types.specs.declared.kinds.Kind.TheVariants.{Strings as StringsKind};
 ghost use Rattle.seg_types.specs.Commands.{Assign, Erase, Get, Insert, Pop, Push, Quoted, Set};
 ghost use Rattle.segment_manager.specs.{Answers.TextElement, containers.Contents.are_bytes};
 ghost use Rattle.segment_manager.specs.{containers.TextLists.LeadsOnOfKind};
+ghost use Rattle.segment_manager.specs.Keeping.{KeepsWhere, LacksArray, LacksFirst};
 ghost use Rattle.segment_manager.specs.State.{IsReplyOfKind, IsStepOfKind, KeepsRefused, answer_of, done_answer};
 ghost use Rattle.segment_manager.specs.State.{refusal_in};
 
@@ -59,12 +60,13 @@ impl Segment {
     ///
     /// `ReadOnly` where the segment is open for reading, and else `NotFound` where no object has the key, `WrongKind`
     /// where it is of another kind, and nothing changes; `NoSpace` where it is full and its array cannot be regrown, or
-    /// the text has no fit: all objects and blocks are as they were, but bytes of gaps may differ.
+    /// the text has no fit: all objects and blocks are as they were. Bytes of gaps may differ where an array was had.
     pub fn texts_push<O: Target>(&mut self, key: &O, text: &[u8]) -> Result<(), Refusal>
         requires { O.stands key.now self.old }
         ensures step { IsStepOfKind self.old self.new (O.key key.now) StringsKind
             (Push (O.key key.now) (Quoted text.now)) (done_answer result) }
         ensures refused { KeepsRefused self.old self.new result }
+        ensures first { KeepsWhere self.old self.new (LacksFirst (O.key key.now) text.now) }
     {
         let place = self.find_to_change(key, Kind::Strings)?;
         SegTexts { place }.push(&mut self.heap, text)
@@ -79,12 +81,13 @@ impl Segment {
     ///
     /// `ReadOnly` where the segment is open for reading, and else `NotFound` where no object has the key, `WrongKind`
     /// where it is of another kind, and nothing changes; `NoSpace` where the array or a text has no fit: all objects
-    /// and blocks are as they were, but bytes of gaps may differ.
+    /// and blocks are as they were. Bytes of gaps may differ where an array was had.
     pub fn texts_assign<O: Target>(&mut self, key: &O, texts: &[&[u8]]) -> Result<(), Refusal>
         requires { O.stands key.now self.old }
         ensures step { IsStepOfKind self.old self.new (O.key key.now) StringsKind
             (Assign (O.key key.now) (map Quoted (map (λ text. text.now) texts.now))) (done_answer result) }
         ensures refused { KeepsRefused self.old self.new result }
+        ensures first { KeepsWhere self.old self.new (LacksArray (length texts.now)) }
     {
         judge_all(texts);
         let place = self.find_to_change(key, Kind::Strings)?;
@@ -119,7 +122,7 @@ impl Segment {
     /// `ReadOnly` where the segment is open for reading, and else `NotFound` where no object has the key, `WrongKind`
     /// where it is of another kind, `OutOfRange` where there are not so many others, and nothing changes; `NoSpace`
     /// where it is full and its array cannot be regrown, or the text has no fit: all objects and blocks are as they
-    /// were, but bytes of gaps may differ.
+    /// were. Bytes of gaps may differ where an array was had.
     pub fn texts_insert<O: Target>(
         &mut self,
         key: &O,
@@ -130,6 +133,7 @@ impl Segment {
         ensures step { IsStepOfKind self.old self.new (O.key key.now) StringsKind
             (Insert (O.key key.now) index (Quoted text.now)) (done_answer result) }
         ensures refused { KeepsRefused self.old self.new result }
+        ensures first { KeepsWhere self.old self.new (LacksFirst (O.key key.now) text.now) }
     {
         let place = self.find_to_change(key, Kind::Strings)?;
         SegTexts { place }.insert(&mut self.heap, index, text)

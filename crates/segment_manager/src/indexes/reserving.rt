@@ -2,7 +2,7 @@
 ghost use Rattle.std.specs.Prelude.{◌≡◌, ◌≤◌, OnErr};
 ghost use Rattle.seg_types.specs.Commands.{ReserveNamed, ReserveUnique, ShrinkIndexes};
 ghost use Rattle.segment_manager.specs.{indexes.Indexed.reserve_of, indexes.Indexed.table_of, Keeping.KeepsWhere};
-ghost use Rattle.segment_manager.specs.State.{IsStep, KeepsRefused, done_answer};
+ghost use Rattle.segment_manager.specs.State.{IsStep, done_answer};
 
 use crate::segment::Segment;
 use best_fit::NoSpace;
@@ -18,11 +18,10 @@ impl Segment {
     ///
     /// # Errors
     ///
-    /// `ReadOnly` where the segment is open for reading: nothing changes. Else `NoSpace` where no gap is long enough:
-    /// what the segment holds does not change.
+    /// `ReadOnly` where the segment is open for reading, and else `NoSpace` where no gap is long enough. Nothing changes.
     pub fn reserve_named(&mut self, n: u64) -> Result<(), Refusal>
         ensures step { IsStep self.old self.new (ReserveNamed n) (done_answer result) }
-        ensures refused { KeepsRefused self.old self.new result }
+        ensures refused { OnErr result (self.new ≡ self.old) }
         ensures enough { KeepsWhere self.old self.new (λ d. n ≤ d.named.capacity) }
     {
         self.reserve_index(Index::Named, n)
@@ -34,11 +33,10 @@ impl Segment {
     ///
     /// # Errors
     ///
-    /// `ReadOnly` where the segment is open for reading: nothing changes. Else `NoSpace` where no gap is long enough:
-    /// what the segment holds does not change.
+    /// `ReadOnly` where the segment is open for reading, and else `NoSpace` where no gap is long enough. Nothing changes.
     pub fn reserve_unique(&mut self, n: u64) -> Result<(), Refusal>
         ensures step { IsStep self.old self.new (ReserveUnique n) (done_answer result) }
-        ensures refused { KeepsRefused self.old self.new result }
+        ensures refused { OnErr result (self.new ≡ self.old) }
         ensures enough { KeepsWhere self.old self.new (λ d. n ≤ d.unique.capacity) }
     {
         self.reserve_index(Index::Unique, n)
@@ -47,7 +45,7 @@ impl Segment {
     /// The same for either.
     fn reserve_index(&mut self, index: Index, n: u64) -> Result<(), Refusal>
         ensures step { IsStep self.old self.new (reserve_of index n) (done_answer result) }
-        ensures refused { KeepsRefused self.old self.new result }
+        ensures refused { OnErr result (self.new ≡ self.old) }
         ensures enough { KeepsWhere self.old self.new (λ d. n ≤ (table_of index d).capacity) }
     {
         if self.is_read_only() {

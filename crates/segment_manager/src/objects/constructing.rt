@@ -3,6 +3,7 @@ ghost use Rattle.std.specs.Prelude.{◌≡◌, ◌≤◌, true};
 ghost use Rattle.seg_types.specs.declared.kinds.Kind.TheVariants.{Scalar as ScalarOf};
 ghost use Rattle.seg_types.specs.Values.{kind_of_scalar, value_of_scalar};
 ghost use Rattle.segment_manager.specs.{objects.Counted.RefusesCount, objects.Counted.is_count, Directory.kind_of};
+ghost use Rattle.segment_manager.specs.objects.Counted.{refusal_of_count};
 ghost use Rattle.segment_manager.specs.{containers.Filled.Builds, containers.Filled.HasBegun, containers.Filled.Makes};
 ghost use Rattle.segment_manager.specs.{containers.Filled.alike, Plan.bare, State.KeepsRefused};
 
@@ -52,7 +53,8 @@ impl Segment {
     ///
     /// # Conditions and errors
     ///
-    /// `OutOfRange` where `count` is 0 or above 1048576: nothing changes. Else as of `construct`, but for the count.
+    /// `ReadOnly` where the segment is open for reading, and else `OutOfRange` where `count` is 0 or above 1048576:
+    /// nothing changes. Else as of `construct`, but for the count.
     pub fn construct_array<T: Scalar, D: Destination>(
         &mut self,
         key: &D,
@@ -66,7 +68,7 @@ impl Segment {
         ensures refused { KeepsRefused self.old self.new result }
     {
         if count == 0 || count > MOST {
-            return Err(Refusal::OutOfRange);
+            return Err(self.refusal_of_count());
         }
         self.construct(key, count, value)
     }
@@ -88,6 +90,17 @@ impl Segment {
         ensures refused { KeepsRefused self.old self.new result }
     {
         by_value!(value, it => self.construct(key, count, it))
+    }
+
+    /// Why no object is made of a count that is out of range.
+    pub(crate) fn refusal_of_count(&self) -> Refusal
+        ensures { result ≡ refusal_of_count self.now }
+    {
+        if self.is_read_only() {
+            Refusal::ReadOnly
+        } else {
+            Refusal::OutOfRange
+        }
     }
 
     /// The same of what fills an object.

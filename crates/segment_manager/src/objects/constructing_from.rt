@@ -29,7 +29,7 @@ impl Segment {
     ///
     /// # Errors
     ///
-    /// `OutOfRange` where `count` is 0 or above 1048576, else `ReadOnly` where the segment is open for reading, else
+    /// `ReadOnly` where the segment is open for reading, else `OutOfRange` where `count` is 0 or above 1048576, else
     /// `Exists` where an object has the key, and else `NoSpace` where no gap is long enough; then no item is taken.
     /// `OutOfRange` where fewer items come. What the segment holds does not change.
     pub fn construct_it<T: Scalar, I: Iterator<Item = T>, D: Destination>(
@@ -46,7 +46,7 @@ impl Segment {
             (D.key key.now (ScalarOf T.kind)) T.kind count items.old items.new result }
     {
         if count == 0 || count > MOST {
-            return Err(Refusal::OutOfRange);
+            return Err(self.refusal_of_count());
         }
         let key = key.key_for(Kind::Scalar(T::kind()));
         self.construct_items::<OfType, T, I>(&key, T::kind(), count, items)

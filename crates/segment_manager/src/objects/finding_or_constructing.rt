@@ -62,8 +62,8 @@ impl Segment {
     ///
     /// # Conditions and errors
     ///
-    /// `OutOfRange` where `count` is 0 or above 1048576: nothing changes. Else as of `find_or_construct`, but for the
-    /// count.
+    /// `ReadOnly` where the segment is open for reading, and else `OutOfRange` where `count` is 0 or above 1048576:
+    /// nothing changes. Else as of `find_or_construct`, but for the count.
     pub fn find_or_construct_array<T: Scalar, D: IndexDestination>(
         &mut self,
         key: &D,
@@ -79,7 +79,7 @@ impl Segment {
         ensures found { KeepsWhere self.old self.new (HasKey (D.key key.now (ScalarOf T.kind))) }
     {
         if count == 0 || count > MOST {
-            return Err(Refusal::OutOfRange);
+            return Err(self.refusal_of_count());
         }
         self.find_or_construct(key, count, value)
     }

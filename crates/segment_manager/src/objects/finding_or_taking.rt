@@ -35,7 +35,7 @@ impl Segment {
             (D.key key.now (ScalarOf T.kind)) T.kind count items.old items.new result }
     {
         if count == 0 || count > MOST {
-            return Err(Refusal::OutOfRange);
+            return Err(self.refusal_of_count());
         }
         if self.is_read_only() {
             return Err(Refusal::ReadOnly);

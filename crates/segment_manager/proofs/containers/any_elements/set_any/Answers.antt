@@ -1,7 +1,8 @@
 -- The kind of the object that was located says which call it is.
 use Rattle.segment_manager.proofs.Common.{sym, subst, Ok, ScalarKind, Kind, Scalar, String, Vector, Set, literal_of}
 use Rattle.segment_manager.proofs.Common.{Key, ScalarValue, kind_of_scalar, value_of_scalar, kind_at, Answers}
-use Rattle.segment_manager.proofs.objects.AnyKind.{scalar-kind, vector-kind}
+use Rattle.segment_manager.proofs.objects.AnyKind.{element-by_key, element-of_text, element-of_vector, on_ok}
+use Rattle.segment_manager.proofs.objects.AnyKind.{on_ok-map, scalar-kind, vector-kind}
 use Rattle.segment_manager.proofs.objects.Locating.{kind-by_key, step_of_kind-by_key}
 use Rattle.segment_manager.proofs.{Common.IsStepOfKind, Common.done_answer, containers.AnyStorage.of_kind-steps}
 use Rattle.segment_manager.proofs.containers.any_elements.set_any.Goals as goal
@@ -32,3 +33,23 @@ returns-in_default-clause-step g c =
     of_kind-steps _ _ _ (Scalar (kind_of_scalar c.args.value)) (Set key c.args.index _) _ (scalar-kind _ _ _ _
     (kind-by_key _ key _ c.in_ok-object.ensures) c.requires.of_kind c.in_default.not-String c.in_default.not-Vector)
     (step_of_kind-by_key _ key _ c.in_ok-object.ensures _ _ (Set key c.args.index _) _ c.set_value.ensures.step)
+
+pub returns-in-U8-clause-element : goal.returns-in-U8-clause-element
+returns-in-U8-clause-element g c =
+    let key : Key = g.O.Target.key c.args.key.now in
+    on_ok c.string_set.result (element-of_text c.args.segment.now c.string_set.new.self key
+    (kind_of_scalar c.args.value) c.args.index (subst (λ (n : Kind). Answers c.args.segment.now (λ d. kind_at d key)
+    (Ok n)) c.in-String.is (kind-by_key c.args.segment.now key c.in_ok-object.object c.in_ok-object.ensures)))
+
+pub returns-in-Vector-clause-element : goal.returns-in-Vector-clause-element
+returns-in-Vector-clause-element g c =
+    let key : Key = g.O.Target.key c.args.key.now in
+    on_ok c.set_in_vector.result (element-of_vector c.args.segment.now c.set_in_vector.new.self key
+    (kind_of_scalar c.args.value) c.in-Vector.field-0 c.args.index (subst (λ (n : Kind). Answers c.args.segment.now
+    (λ d. kind_at d key) (Ok n)) c.in-Vector.is (kind-by_key _ key _ c.in_ok-object.ensures)))
+
+pub returns-in_default-clause-element : goal.returns-in_default-clause-element
+returns-in_default-clause-element g c =
+    let key : Key = g.O.Target.key c.args.key.now in
+    on_ok-map c.set_value.result (element-by_key c.args.segment.now c.set_value.new.self key c.in_ok-object.object
+    c.in_ok-object.ensures (kind_of_scalar c.args.value) c.args.index) c.set_value.ensures.element

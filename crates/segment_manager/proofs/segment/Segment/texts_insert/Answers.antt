@@ -1,6 +1,6 @@
 -- The text is put among those of the vector of strings that is found.
-use Rattle.segment_manager.proofs.containers.TextListCalls.{text-inserted, texts-standing}
-use Rattle.segment_manager.proofs.{Common.refl, containers.TextMoves.kept-told, containers.ToChange.not-changed}
+use Rattle.segment_manager.proofs.containers.TextListCalls.{text-first, text-inserted, texts-standing}
+use Rattle.segment_manager.proofs.{Common.refl, containers.ToChange.not-changed}
 use Rattle.segment_manager.proofs.segment.Segment.texts_insert.Goals as goal
 
 pub insert-requires : goal.insert-requires
@@ -14,5 +14,11 @@ pub returns-in_err-place-clause-step : goal.returns-in_err-place-clause-step
 returns-in_err-place-clause-step g c = not-changed _ _ _ refl c.from_residual.ensures.1 refl c.in_err-place.ensures
 
 pub returns : goal.returns
-returns g c = kept-told (text-inserted c.self.view_is c.self.invariant c.in_ok-place.ensures _ _ _ _ c.type_inv.text
-    c.insert.ensures.inserted)
+returns g c =
+    let k = text-inserted c.self.view_is c.self.invariant c.in_ok-place.ensures _ _ _ _ c.type_inv.text
+    c.insert.ensures.inserted in
+    record {
+      step = k.step;
+      refused = k.refused;
+      first = text-first c.self.view_is c.self.invariant c.in_ok-place.ensures _ _ c.insert.ensures.first;
+    }

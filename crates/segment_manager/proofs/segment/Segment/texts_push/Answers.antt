@@ -1,6 +1,6 @@
 -- The text is put behind the last of the vector of strings that is found.
-use Rattle.segment_manager.proofs.containers.TextListCalls.{text-pushed, texts-standing}
-use Rattle.segment_manager.proofs.{Common.refl, containers.TextMoves.kept-told, containers.ToChange.not-changed}
+use Rattle.segment_manager.proofs.containers.TextListCalls.{text-first, text-pushed, texts-standing}
+use Rattle.segment_manager.proofs.{Common.refl, containers.ToChange.not-changed}
 use Rattle.segment_manager.proofs.segment.Segment.texts_push.Goals as goal
 
 pub push-requires : goal.push-requires
@@ -14,5 +14,11 @@ pub returns-in_err-place-clause-step : goal.returns-in_err-place-clause-step
 returns-in_err-place-clause-step g c = not-changed _ _ _ refl c.from_residual.ensures.1 refl c.in_err-place.ensures
 
 pub returns : goal.returns
-returns g c = kept-told (text-pushed c.self.view_is c.self.invariant c.in_ok-place.ensures _ _ _ c.type_inv.text
-    c.push.ensures.pushed)
+returns g c =
+    let k = text-pushed c.self.view_is c.self.invariant c.in_ok-place.ensures _ _ _ c.type_inv.text
+    c.push.ensures.pushed in
+    record {
+      step = k.step;
+      refused = k.refused;
+      first = text-first c.self.view_is c.self.invariant c.in_ok-place.ensures _ _ c.push.ensures.first;
+    }

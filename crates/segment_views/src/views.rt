@@ -2,7 +2,7 @@
 ghost use Rattle.std.specs.Prelude.{◌≡◌, IfOk};
 ghost use Rattle.std.specs.Borrow.{sem, RestsIfErr};
 ghost use Rattle.seg_types.specs.declared.kinds.Kind.{Kind as AnyKind};
-ghost use Rattle.segment_manager.specs.objects.Located.{IsObject};
+ghost use Rattle.segment_manager.specs.objects.Located.{IsLocated, IsObject};
 ghost use Rattle.segment_manager.specs.State.{Answers};
 ghost use Rattle.segment_manager.specs.contracts.segment.Segment.{the_row};
 ghost use Rattle.segment_views.specs.Opened.{handle_of, opened_at};
@@ -60,7 +60,7 @@ impl<'a, C: Content> View<'a, C> {
     }
 }
 
-/// The object of a key as it stands in a segment, an object of a kind.
+/// The object of a key as it stands in a segment, an object of a kind, with its handle, kind and count.
 ///
 /// # Errors
 ///
@@ -68,7 +68,7 @@ impl<'a, C: Content> View<'a, C> {
 fn locate_of_kind<O: Target>(segment: &Segment, key: &O, kind: Kind) -> Result<Object, Refusal>
     requires { O.stands key.now segment.now }
     ensures opens { Answers segment.now (λ d. opened_at d (O.key key.now) kind) (handle_of (λ o. o) result) }
-    ensures here { IfOk result (λ o. IsObject o segment.now) }
+    ensures located { IfOk result (IsLocated segment.now (O.key key.now)) }
 {
     let object = locate(segment, key)?;
     if kind.code() != object.kind.code() {

@@ -431,7 +431,7 @@ def _words(code):
     if code is None:
         return ""
     words = _Text()
-    _zx.zx_file_words(code, ctypes.byref(words))
+    (_zx.zx_file_words if NoFile.code <= code <= FileForked.code else _zx.zx_words)(code, ctypes.byref(words))
     return ctypes.string_at(words.at, words.len).decode() if words.len else f"code {code}"
 
 
@@ -529,9 +529,16 @@ def _from(value):
     return value.number if value.kind in (_I32, _I64) else value.natural
 
 
+def _listed(values):
+    try:
+        return list(values)
+    except TypeError:
+        raise WrongKind(f"{values!r} is no list") from None
+
+
 def _checked(code, values, refused):
     """A list of values of one kind; of one that is outside it `refused` is raised, or WrongKind."""
-    listed = list(values)
+    listed = _listed(values)
     least, most = _ranges[code]
     for value in listed:
         if (code == _BOOL) != _is_truth(value):
@@ -557,7 +564,10 @@ def _values(code, values, refused):
 
 def _checked_pairs(code, value):
     """A dict of the pairs of a map of a kind; of one that is outside it WrongKind is raised, or OutOfRange."""
-    pairs = dict(value)
+    try:
+        pairs = dict(value)
+    except (TypeError, ValueError):
+        raise WrongKind(f"{value!r} has no pairs") from None
     _checked(code >> 8 & 255, pairs.keys(), OutOfRange)
     _checked(code & 255, pairs.values(), OutOfRange)
     return pairs
@@ -578,7 +588,7 @@ def _texts(texts, encoding):
     """Texts side by side, and how many."""
     if isinstance(texts, (str, bytes, bytearray)):
         raise WrongKind(f"{texts!r} is one text, and no list of them")
-    kept = [_bytes(text, encoding) for text in texts]
+    kept = [_bytes(text, encoding) for text in _listed(texts)]
     passed = (_Text * max(1, len(kept)))()
     for place, text in zip(passed, kept):
         place.at, place.len = ctypes.cast(ctypes.c_char_p(text), ctypes.c_void_p).value, len(text)
@@ -848,7 +858,7 @@ class Segment(collections.abc.MutableMapping):
             raise
 
     def _make_scalars(self, call, code, count, key, value, told):
-        listed = None if value is None or _is_truth(value) or hasattr(value, "__index__") else list(value)
+        listed = None if value is None or _is_truth(value) or hasattr(value, "__index__") else _listed(value)
         count = count if count is not None else 1 if listed is None else len(listed)
         if listed is not None and len(listed) != count:
             raise BadCount(f"{len(listed)} values for {count}")
@@ -916,7 +926,10 @@ class Segment(collections.abc.MutableMapping):
     def info(self, key):
         """What the object says of itself: Info. NotFound."""
         told, name = _Info(), ctypes.create_string_buffer(255)
-        self._call(_zx.zx_tell, _key_of(key), told, name, 255)
+        try:
+            self._call(_zx.zx_tell, _key_of(key), told, name, 255)
+        except NotFound:
+            raise NotFound(f"no object is {key!r}") from None
         return _info(told, name)
 
     # -- as a mapping
@@ -938,7 +951,7 @@ class Segment(collections.abc.MutableMapping):
 
     def __delitem__(self, key):
         if not self.destroy(key):
-            raise NotFound()
+            raise NotFound(f"no object is {key!r}")
 
     def __contains__(self, key):
         try:
@@ -1051,7 +1064,10 @@ class _Object:
         self._segment, self.key, self._code, self._raw = segment, key, code, _key_of(key)
 
     def _call(self, call, *arguments):
-        self._segment._call(call, self._raw, *arguments)
+        try:
+            self._segment._call(call, self._raw, *arguments)
+        except NotFound:
+            raise NotFound(f"no object is {self.key!r}") from None
 
     @property
     def kind(self):

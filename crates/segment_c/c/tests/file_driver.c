@@ -4,11 +4,12 @@
        open MODE SIZE [FILE]   get   set N   save   close   discard   saveas MODE FILE   fork WORDS, WORDS, ..   sleeper
 
    `fork` runs commands in a child, on the files that are open, and prints what they answer in one line; `sleeper` forks a
-   child that sleeps. With a second word `loop` the program adds 1 to the number of the file, by a zx_file for each time or
-   by one zx_file, until it is killed, and prints each number that is saved. */
+   child that sleeps; `nobody` gives up the rights of root. With a second word, `loop` or `loop-one`, the program adds 1 to
+   the number of the file, by a zx_file for each time or by one, until it is killed, and prints each number that is saved. */
 #define _GNU_SOURCE
 #include "zaluxhoni_files.h"
 
+#include <grp.h>
 #include <inttypes.h>
 #include <signal.h>
 #include <stdio.h>
@@ -133,6 +134,8 @@ static void answer(char *line, char *said, size_t room) {
         return;
     } else if (strcmp(verb, "sleeper") == 0) {
         sleeper();
+    } else if (strcmp(verb, "nobody") == 0) {
+        if (setgroups(0, NULL) != 0 || setgid(65534) != 0 || setuid(65534) != 0) exit(95);
     } else {
         exit(98);
     }
@@ -144,7 +147,10 @@ static void loop(bool by_one_file) {
     zx_file *file = &files[0];
     for (;;) {
         zx_code code = file->segment.at ? ZX_DONE : zx_file_open(file, path, ZX_OPEN_ONLY, 0);
-        if (code == ZX_FILE_IN_USE) continue;
+        if (code == ZX_FILE_IN_USE) {
+            usleep(100);
+            continue;
+        }
         int64_t number = 0;
         if (code == ZX_DONE) code = get(file, &number);
         if (code == ZX_DONE) code = set(file, number + 1);

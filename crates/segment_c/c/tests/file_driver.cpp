@@ -9,6 +9,7 @@
 #include <sstream>
 
 #include <csignal>
+#include <grp.h>
 #include <sys/prctl.h>
 #include <sys/wait.h>
 #include <unistd.h>
@@ -156,6 +157,8 @@ static std::string answer(const std::string &line) {
             file.close();
         } else if (verb == "sleeper") {
             sleeper();
+        } else if (verb == "nobody") {
+            if (setgroups(0, nullptr) != 0 || setgid(65534) != 0 || setuid(65534) != 0) std::exit(95);
         } else {
             std::exit(98);
         }
@@ -184,7 +187,10 @@ static void loop(bool by_one_file) {
 #endif
             return std::string("ok");
         });
-        if (said == "in_use") continue;
+        if (said == "in_use") {
+            usleep(100);
+            continue;
+        }
         if (said != "ok") {
             std::cout << "WRONG " << said << std::endl;
             std::exit(1);

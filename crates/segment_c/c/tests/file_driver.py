@@ -50,6 +50,10 @@ def answer(line):
             return answer_in_child(rest)
         elif verb == "sleeper":
             sleeper()
+        elif verb == "nobody":
+            os.setgroups([])
+            os.setgid(65534)
+            os.setuid(65534)
         elif which in files:
             getattr(files[which], verb)()
         elif verb != "discard":
@@ -100,6 +104,7 @@ def loop(path, by_one_file, said):
                 segment.close()
                 segment = None
         except zaluxhoni.FileInUse:
+            time.sleep(0.0001)
             continue
         except (zaluxhoni.Error, OSError) as error:
             os.write(said, f"WRONG {word_of(error)}\n".encode())

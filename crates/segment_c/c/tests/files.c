@@ -8,10 +8,13 @@
 #include <errno.h>
 #include <fcntl.h>
 #include <pthread.h>
+#include <signal.h>
 #include <stdarg.h>
 #include <stdio.h>
 #include <stdlib.h>
 #include <sys/stat.h>
+#include <sys/syscall.h>
+#include <sys/wait.h>
 #include <unistd.h>
 
 static int wrong, cases;
@@ -36,8 +39,12 @@ enum { AT_ONCE, INTERRUPTED, IN_PART, WAYS };
 
 static __thread int countdown, way, lacks;
 static __thread const char *failed;
-/* Rights that a file may have while it is written. */
-static mode_t most_rights = 0777;
+/* The rights that a file has before a byte goes in, where they are looked at. */
+static mode_t wanted_rights;
+/* A path under which nothing stands while bytes are written. */
+static __thread const char *absent;
+/* Whether stat takes a pipe for a file, as where one is put in the place of the other meanwhile. */
+static bool is_blind;
 
 static const char *of_case(void) {
     static __thread char all[200];
@@ -62,7 +69,6 @@ static bool fails(const char *name, int error) {
     }
 
 WRAPPED(int, fstat, (int file, struct stat *found), file, found)
-WRAPPED(int, stat, (const char *path, struct stat *found), path, found)
 WRAPPED(int, lstat, (const char *path, struct stat *found), path, found)
 WRAPPED(int, fstatat, (int folder, const char *path, struct stat *found, int flags), folder, path, found, flags)
 WRAPPED(int, ftruncate, (int file, off_t len), file, len)
@@ -71,6 +77,15 @@ WRAPPED(int, syncfs, (int file), file)
 WRAPPED(int, fchmod, (int file, mode_t mode), file, mode)
 WRAPPED(int, renameat, (int from, const char *one, int to, const char *other), from, one, to, other)
 WRAPPED(int, unlinkat, (int folder, const char *path, int flags), folder, path, flags)
+
+int __real_stat(const char *path, struct stat *found);
+int __wrap_stat(const char *path, struct stat *found);
+int __wrap_stat(const char *path, struct stat *found) {
+    if (way == AT_ONCE && fails("stat", EIO)) return -1;
+    int answer = __real_stat(path, found);
+    if (is_blind) found->st_mode = S_IFREG | 0644;
+    return answer;
+}
 
 int __real_flock(int file, int how);
 int __wrap_flock(int file, int how);
@@ -109,6 +124,7 @@ int __wrap_openat(int folder, const char *path, int flags, ...) {
     va_start(rest, flags);
     mode_t mode = flags & (O_CREAT | O_TMPFILE) ? va_arg(rest, mode_t) : 0;
     va_end(rest);
+    if (flags & O_CREAT && wanted_rights) IS(mode, 0600);
     if ((flags & O_TMPFILE) == O_TMPFILE && lacks == NO_NAMELESS) return errno = EOPNOTSUPP, -1;
     if (way == AT_ONCE && fails("openat", EIO)) return -1;
     return __real_openat(folder, path, flags, mode);
@@ -128,7 +144,10 @@ ssize_t __real_pwrite(int file, const void *bytes, size_t len, off_t at);
 ssize_t __wrap_pwrite(int file, const void *bytes, size_t len, off_t at);
 ssize_t __wrap_pwrite(int file, const void *bytes, size_t len, off_t at) {
     struct stat found;
-    if (__real_fstat(file, &found) == 0) IS(found.st_mode & 0777 & ~most_rights, 0);
+    if (wanted_rights && __real_fstat(file, &found) == 0) IS(found.st_mode & 07777, wanted_rights);
+    // where a file without a name is refused, it has its name from the start
+    bool has_name = failed && (strcmp(failed, "openat") == 0 || strcmp(failed, "linkat") == 0);
+    if (absent && !has_name) IS(access(absent, F_OK), -1);
     if (fails("pwrite", way == INTERRUPTED ? EINTR : ENOSPC)) {
         if (way != IN_PART) return -1;
         len = len / 2 + 1;
@@ -186,6 +205,17 @@ static int64_t stands(const char *path) {
     return value.number;
 }
 
+/* Whether the file has just the bytes of the segment's image. */
+static bool is_saved(zx_file *file, const char *path) {
+    static uint8_t image[1 << 17], bytes[1 << 17];
+    uint64_t size;
+    if (zx_size(&file->segment, &size) != ZX_DONE || zx_save(&file->segment, image, sizeof image) != ZX_DONE) return false;
+    FILE *from = fopen(path, "rb");
+    size_t len = from ? fread(bytes, 1, sizeof bytes, from) : 0;
+    if (from) fclose(from);
+    return len == size && memcmp(image, bytes, len) == 0;
+}
+
 /* Whether a code of a file comes with the errno of the system, and no other with one. */
 static bool has_errno(const zx_file *file, zx_code code) { return (file->error != 0) == (code >= 40 && code < 60); }
 
@@ -208,37 +238,51 @@ static void seed(int64_t number) {
     countdown = fails_later;
 }
 
+/* How often a save was done, but for the folder. */
+static int unsynced;
+
+/* What stands under the path when a call has answered that it saved. */
+static zx_code looked_at(zx_file *file, zx_code code) {
+    int fails_later = countdown;
+    countdown = 0;
+    IS(has_errno(file, code), true);
+    if (code == ZX_DONE || code == ZX_FILE_UNSYNCED) IS(is_saved(file, the_file()), true);
+    unsynced += code == ZX_FILE_UNSYNCED;
+    countdown = fails_later;
+    return code;
+}
+
 static zx_code save_scene(zx_file *file) {
     zx_code code = zx_file_open(file, the_file(), ZX_OPEN_ONLY, 0);
     IS(has_errno(file, code), true);
     if (code == ZX_DONE) {
         set(file, 6);
-        code = zx_file_save(file);
-        IS(has_errno(file, code), true);
+        code = looked_at(file, zx_file_save(file));
     }
     return code;
 }
 
 static zx_code make_scene(zx_file *file) {
+    absent = lacks == NO_NAMELESS || lacks == NO_NAMING ? NULL : the_file();
     zx_code code = zx_file_open(file, the_file(), ZX_OPEN_OR_CREATE, 66560);
+    absent = NULL;
     IS(has_errno(file, code), true);
     if (code == ZX_DONE) {
         set(file, 6);
         code = zx_file_close(file);
+        unsynced += code == ZX_FILE_UNSYNCED;
     }
     return code;
 }
 
 static zx_code put_scene(zx_file *file) {
     if (zx_create(&file->segment, 66560) != ZX_DONE || set(file, 6) != ZX_DONE) return ZX_NO_MEMORY;
-    zx_code code = zx_file_save_as(file, the_file(), ZX_OPEN_OR_CREATE);
-    IS(has_errno(file, code), true);
-    return code;
+    return looked_at(file, zx_file_save_as(file, the_file(), ZX_OPEN_OR_CREATE));
 }
 
 static zx_code put_new_scene(zx_file *file) {
     if (zx_create(&file->segment, 66560) != ZX_DONE || set(file, 6) != ZX_DONE) return ZX_NO_MEMORY;
-    return zx_file_save_as(file, the_file(), ZX_CREATE_ONLY);
+    return looked_at(file, zx_file_save_as(file, the_file(), ZX_CREATE_ONLY));
 }
 
 static zx_code read_scene(zx_file *file) {
@@ -297,9 +341,11 @@ static void where_the_system_fails(void) {
         for (way = AT_ONCE; way < WAYS; way++) {
             for (size_t i = 0; i < sizeof scenes / sizeof scenes[0]; i++) {
                 int at = 1;
+                unsynced = 0;
                 while (is_tried(&scenes[i], at)) at++;
                 if (lacks == HAS_ALL) printf("%s: %d calls were made to fail, way %d\n", scenes[i].name, at - 1, way);
                 if (way == AT_ONCE) IS(at > 5, true);
+                if (way == AT_ONCE) IS(unsynced > 0, scenes[i].after == 6);
             }
         }
     }
@@ -379,10 +425,62 @@ static void what_is_passed(void) {
     IS(words.len, 8);
 }
 
-/* Of 1 MiB some pages are zeros: they become holes, and come back. */
+/* A pipe that was put in the place of a file, behind the first look: nobody waits for who writes it. */
+static void a_pipe_behind_the_look(void) {
+    zx_file file = ZX_CLOSED_FILE;
+    unlink(the_file());
+    IS(mkfifo(the_file(), 0600), 0);
+    is_blind = true;
+    for (uint32_t mode = ZX_OPEN_ONLY; mode <= ZX_OPEN_COPY_ON_WRITE; mode++)
+        IS(zx_file_open(&file, the_file(), mode, 1024), ZX_FILE_PIPE);
+    is_blind = false;
+    IS(unlink(the_file()), 0);
+}
+
+/* A child that the C library does not know of has a copy of the lock, which ends with the parent's. */
+static void a_child_by_the_system_call(void) {
+    zx_file file = ZX_CLOSED_FILE;
+    seed(5);
+    IS(zx_file_open(&file, the_file(), ZX_OPEN_ONLY, 0), ZX_DONE);
+    pid_t child = (pid_t)syscall(SYS_clone, SIGCHLD, 0, 0, 0, 0);
+    if (child == 0)
+        for (;;) pause();
+    IS(child > 0, true);
+    zx_file_discard(&file);
+    IS(zx_file_open(&file, the_file(), ZX_OPEN_ONLY, 0), ZX_DONE);
+    zx_file_discard(&file);
+    kill(child, SIGKILL);
+    waitpid(child, NULL, 0);
+}
+
+/* A file that begins with the image and goes on is another one. */
+static void a_longer_file(void) {
+    zx_file file = ZX_CLOSED_FILE;
+    seed(5);
+    IS(zx_file_open(&file, the_file(), ZX_OPEN_COPY_ON_WRITE, 0), ZX_DONE);
+    FILE *longer = fopen(the_file(), "ab");
+    if (longer) fputs("more", longer), fclose(longer);
+    IS(is_saved(&file, the_file()), false);
+    IS(zx_file_save_as(&file, the_file(), ZX_OPEN_OR_CREATE), ZX_DONE);
+    IS(is_saved(&file, the_file()), true);
+    zx_file_discard(&file);
+}
+
+/* Pages of zeros become holes, and come back; pages that begin with zeros are none. */
 static void holes(void) {
     zx_file file = ZX_CLOSED_FILE;
     struct stat found;
+    static uint8_t text[20000];
+    zx_key key = zx_name("filling");
+    uint64_t handle;
+    for (size_t i = 0; i < sizeof text; i += 512) text[i] = 1;
+    IS(unlink(the_file()), 0);
+    IS(zx_file_open(&file, the_file(), ZX_CREATE_ONLY, 1 << 17), ZX_DONE);
+    IS(set(&file, 5), ZX_DONE);
+    IS(zx_construct_string(&file.segment, &key, text, sizeof text, &handle), ZX_DONE);
+    IS(zx_file_save(&file), ZX_DONE);
+    IS(is_saved(&file, the_file()), true);
+    zx_file_discard(&file);
     IS(unlink(the_file()), 0);
     IS(zx_file_open(&file, the_file(), ZX_CREATE_ONLY, 1 << 20), ZX_DONE);
     IS(set(&file, 5), ZX_DONE);
@@ -399,24 +497,24 @@ static void rights(void) {
         zx_file file = ZX_CLOSED_FILE;
         struct stat found;
         seed(5);
-        IS(chmod(the_file(), 0600), 0);
-        most_rights = 0600;
+        IS(chmod(the_file(), 0640), 0);
+        wanted_rights = 0640;
         IS(save_scene(&file), ZX_DONE);
         IS(stat(the_file(), &found), 0);
-        IS(found.st_mode & 07777, 0600);
-        most_rights = 0777;
+        IS(found.st_mode & 07777, 0640);
+        wanted_rights = 0;
         zx_file_discard(&file);
-        if (geteuid() == 0) {
+        for (gid_t group = 0; geteuid() == 0 && group <= 4321; group += 4321) {
             bool has_owner = lacks != NO_OWNERS;
-            IS(chown(the_file(), 1234, 4321), 0);
+            IS(chown(the_file(), 1234, group), 0);
             IS(chmod(the_file(), 04664), 0);
             IS(zx_file_open(&file, the_file(), ZX_OPEN_ONLY, 0), ZX_DONE);
-            IS(set(&file, 7), ZX_DONE);
+            IS(set(&file, 8 + (int64_t)group), ZX_DONE);
             IS(zx_file_close(&file), ZX_DONE);
             IS(stat(the_file(), &found), 0);
             IS(found.st_uid, has_owner ? 1234 : 0);
-            IS(found.st_gid, has_owner ? 4321 : 0);
-            IS(found.st_mode & 07777, has_owner ? 04664 : 0644);
+            IS(found.st_gid, has_owner ? group : 0);
+            IS(found.st_mode & 07777, has_owner ? 04664 : group == 0 ? 0664 : 0644);
         }
         IS(unlink(the_file()), 0);
     }
@@ -472,6 +570,9 @@ int main(int count, char **words) {
     if (count < 3) unlink(the_file());
     seed(5);
     what_is_passed();
+    a_pipe_behind_the_look();
+    a_child_by_the_system_call();
+    a_longer_file();
     holes();
     rights();
     threads();

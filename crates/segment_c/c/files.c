@@ -1,4 +1,4 @@
-/* The one file layer, for C, C++ and Python: zaluxhoni_files.h says what each call does. Nothing of it is proved. */
+/* The one file layer, for C, C++ and Python: zaluxhoni_files.h says what each call does. It is tested, not proved. */
 #define _GNU_SOURCE
 #include "zaluxhoni_files.h"
 
@@ -13,7 +13,7 @@
 
 enum { LARGEST = 1 << 30, TRIES = 64, PAGE = 4096, PIECE = 8 * PAGE };
 
-/* The name meanwhile leads elsewhere: no code of the header. */
+/* The name meanwhile leads elsewhere: a code that no caller sees. */
 enum { AGAIN = 1 };
 
 /* A file that is open for writing. */
@@ -21,9 +21,9 @@ struct zx_held_file {
     struct zx_held_file *next; /* in the list of all of this process */
     pid_t owner;               /* the process that opened it */
     int folder;                /* where the name stands */
-    int file;                  /* with its lock; -1 where there is none under the name */
-    bool is_new;               /* made and never saved */
-    bool is_unsynced;          /* saved, but the folder could not be written through */
+    int file;                  /* with its lock; -1 if none exists under the name */
+    bool is_new;               /* created and never saved */
+    bool is_unsynced;          /* saved, but the folder was not synced */
     char name[];               /* leads through no link */
 };
 
@@ -41,7 +41,7 @@ static zx_code faulty(zx_file *file, zx_code code, int error) {
 
 static zx_code fault(zx_file *file) { return faulty(file, ZX_FILE_FAULT, errno); }
 
-/* What a call answers: errno goes with the codes of files alone. */
+/* What a call returns: an errno comes with the codes of files alone. */
 static zx_code answered(zx_file *file, zx_code code) {
     if (code < ZX_FILE_IN_USE || code > ZX_FILE_FORKED) file->error = 0;
     return code;
@@ -61,14 +61,14 @@ void zx_file_words(zx_code code, zx_text *words) {
     }
 }
 
-/* ---- all files that are held: a process that is forked closes its copies, or it would keep the locks of its parent */
+/* ---- all files that are held: a forked process closes its copies, or it would keep its parent's locks */
 
 static pthread_mutex_t guard = PTHREAD_MUTEX_INITIALIZER;
 static pthread_once_t is_watching = PTHREAD_ONCE_INIT;
 static struct zx_held_file *all_held;
 
 static void before_fork(void) { pthread_mutex_lock(&guard); }
-static void behind_fork(void) { pthread_mutex_unlock(&guard); }
+static void after_fork(void) { pthread_mutex_unlock(&guard); }
 
 static void close_all(struct zx_held_file *held) {
     if (held->file >= 0) close(held->file);
@@ -82,7 +82,7 @@ static void in_child(void) {
     pthread_mutex_unlock(&guard);
 }
 
-static void watch(void) { pthread_atfork(before_fork, behind_fork, in_child); }
+static void watch(void) { pthread_atfork(before_fork, after_fork, in_child); }
 
 static void enlist(struct zx_held_file *held) {
     pthread_once(&is_watching, watch);
@@ -92,7 +92,7 @@ static void enlist(struct zx_held_file *held) {
     pthread_mutex_unlock(&guard);
 }
 
-/* Gives the right to write the file back, also where a child has a copy of the descriptor. */
+/* Gives the right to write back, even if a child that fork knows nothing of has a copy of the descriptor. */
 static void release(struct zx_held_file *held) {
     pthread_mutex_lock(&guard);
     struct zx_held_file **at = &all_held;
@@ -111,7 +111,7 @@ static struct image room_for(uint64_t len) {
     return image;
 }
 
-/* The image of the segment; the code is that of what refused. */
+/* Copies the image of the segment into memory of its own. */
 static zx_code image_of(zx_segment *segment, struct image *image) {
     uint64_t size;
     zx_code code = zx_size(segment, &size);
@@ -123,7 +123,7 @@ static zx_code image_of(zx_segment *segment, struct image *image) {
     return code;
 }
 
-/* Reads up to `len` bytes of a place of a file; fewer where it ends. -1 where that fails. */
+/* Reads `len` bytes from an offset on, or fewer at the end of the file. -1 if it fails. */
 static ssize_t read_at(int file, uint8_t *bytes, size_t len, off_t from) {
     size_t count = 0;
     while (count < len) {
@@ -148,7 +148,9 @@ static bool write_at(int file, const uint8_t *bytes, size_t len, off_t from) {
 
 static size_t at_most(size_t len, size_t most) { return len < most ? len : most; }
 
-static bool is_zero(const uint8_t *bytes, size_t len) { return bytes[0] == 0 && memcmp(bytes, bytes + 1, len - 1) == 0; }
+static bool is_zero(const uint8_t *bytes, size_t len) {
+    return bytes[0] == 0 && memcmp(bytes, bytes + 1, len - 1) == 0;
+}
 
 /* Writes an image into an empty file. Pages of zeros are holes. */
 static bool write_image(int file, const struct image *image) {
@@ -170,29 +172,30 @@ static bool has_image(int file, const struct image *image) {
     if (fstat(file, &found) != 0 || (uint64_t)found.st_size != image->len) return false;
     for (size_t at = 0; at < image->len; at += PIECE) {
         size_t len = at_most(image->len - at, PIECE);
-        if (read_at(file, piece, len, (off_t)at) != (ssize_t)len || memcmp(piece, image->bytes + at, len) != 0) return false;
+        if (read_at(file, piece, len, (off_t)at) != (ssize_t)len) return false;
+        if (memcmp(piece, image->bytes + at, len) != 0) return false;
     }
     return true;
 }
 
-/* Writes a file or a folder through. What cannot be asked that is no file on a disk. */
-static bool write_through(int file) { return fsync(file) == 0 || errno == EINVAL; }
+/* Syncs a file or a folder. What does not support that is on no disk. */
+static bool sync_one(int file) { return fsync(file) == 0 || errno == EINVAL; }
 
-/* Writes through what the name leads to: the folder, or all of its disk where the folder may not be read. */
-static zx_code write_name_through(zx_file *file, struct zx_held_file *held) {
+/* Syncs the folder, or all of its disk if the folder may not be read. */
+static zx_code sync_name(zx_file *file, struct zx_held_file *held) {
     int folder = openat(held->folder, ".", O_RDONLY | O_DIRECTORY | O_CLOEXEC);
-    bool is_through = folder >= 0 ? write_through(folder) : syncfs(held->file) == 0;
+    bool is_synced = folder >= 0 ? sync_one(folder) : syncfs(held->file) == 0;
     int error = errno;
     if (folder >= 0) close(folder);
     held->is_new = false;
-    held->is_unsynced = !is_through;
-    return is_through ? (zx_code)ZX_DONE : faulty(file, ZX_FILE_UNSYNCED, error);
+    held->is_unsynced = !is_synced;
+    return is_synced ? (zx_code)ZX_DONE : faulty(file, ZX_FILE_UNSYNCED, error);
 }
 
-/* ---- a new file, which has a name when all of it is written through */
+/* ---- a new file, which gets its name when all of it is synced */
 
-/* Gives a file the owner, group and rights of another, as far as the process may: the owner is else who saves, and another
-   group may do what others may. */
+/* Gives a file the owner, group and rights of another, as far as the process may. Otherwise who saves is the owner, and
+   another group gets what others may do. */
 static bool take_rights(int made, const struct stat *old) {
     struct stat own;
     if (fstat(made, &own) != 0) return false;
@@ -205,13 +208,13 @@ static bool take_rights(int made, const struct stat *old) {
     return fchmod(made, mode) == 0;
 }
 
-/* Fills a new file, of which the lock is taken first. It has the rights of `old`, where that is not null. */
+/* Locks a new file and then fills it. It gets the rights of `old`, if that is not null. */
 static bool fill(int made, const struct image *image, const struct stat *old) {
     if (flock(made, LOCK_EX | LOCK_NB) != 0 && errno == EWOULDBLOCK) return false;
-    return (!old || take_rights(made, old)) && write_image(made, image) && write_through(made);
+    return (!old || take_rights(made, old)) && write_image(made, image) && sync_one(made);
 }
 
-/* Gives a name to a file that has none. EEXIST, where something has it. */
+/* Gives a name to a file that has none. EEXIST if something has it. */
 static bool give_name(int made, int folder, const char *name) {
     char self[40];
     snprintf(self, sizeof self, "/proc/self/fd/%d", made);
@@ -225,8 +228,8 @@ static int closed_with(int file, int error) {
     return -1;
 }
 
-/* Makes a file that is not there. It has its name when it is whole; where the file system has no files without names, from
-   its first byte on, and is removed where it does not become whole. -1 where that fails. */
+/* Creates a file that does not exist. It gets its name when it is whole; on a file system without unnamed files,
+   before its first byte, and is removed if it does not become whole. -1 if it fails. */
 static int make(int folder, const char *name, const struct image *image, const struct stat *old) {
     mode_t mode = old ? 0600 : 0666;
     int made = openat(folder, ".", O_TMPFILE | O_RDWR | O_CLOEXEC, mode);
@@ -243,18 +246,18 @@ static int make(int folder, const char *name, const struct image *image, const s
     return closed_with(made, error);
 }
 
-/* The name of the file that is to take the place of a file: nobody but who holds that one makes it. */
+/* The name of the file that will replace a file: only who holds that one uses it. */
 static void spare_name(char name[40], const struct stat *old) {
     snprintf(name, 40, ".zaluxhoni-%llx", (unsigned long long)old->st_ino);
 }
 
-/* ---- what stands under a path */
+/* ---- what exists at a path */
 
 static bool is_same(const struct stat *one, const struct stat *other) {
     return one->st_dev == other->st_dev && one->st_ino == other->st_ino;
 }
 
-/* Whether the file can be a segment's. */
+/* Whether it can be a segment's file. */
 static zx_code judge(zx_file *file, const struct stat *found) {
     if (S_ISDIR(found->st_mode)) return faulty(file, ZX_FILE_FOLDER, EISDIR);
     if (S_ISCHR(found->st_mode) || S_ISBLK(found->st_mode)) return faulty(file, ZX_FILE_DEVICE, EINVAL);
@@ -263,7 +266,7 @@ static zx_code judge(zx_file *file, const struct stat *found) {
     return ZX_DONE;
 }
 
-/* What stands under the path, where a file is to be opened: ZX_FILE_MISSING only where nothing does. */
+/* What exists at the path, for a call that opens. ZX_FILE_MISSING only if nothing does. */
 static zx_code look(zx_file *file, const char *path) {
     struct stat found;
     if (stat(path, &found) == 0) return judge(file, &found);
@@ -271,7 +274,7 @@ static zx_code look(zx_file *file, const char *path) {
     return faulty(file, lstat(path, &found) == 0 && S_ISLNK(found.st_mode) ? ZX_FILE_DANGLES : ZX_FILE_MISSING, ENOENT);
 }
 
-/* Opens the folder of a path, and takes note of its last name. It has no file yet. */
+/* Opens the folder of a path, and keeps its last name. */
 static zx_code find(zx_file *file, const char *path, struct zx_held_file **found) {
     const char *slash = strrchr(path, '/'), *name = slash ? slash + 1 : path;
     size_t len = strlen(name), before = (size_t)(name - path);
@@ -300,7 +303,7 @@ static zx_code find(zx_file *file, const char *path, struct zx_held_file **found
 
 /* ---- the right to write */
 
-/* Opens and locks the file of a name that was found. AGAIN, where the name meanwhile leads to another one. */
+/* Opens and locks the file of a name that was found. AGAIN if the name meanwhile leads to another one. */
 static zx_code lock(zx_file *file, struct zx_held_file *held) {
     struct stat named, opened;
     held->file = openat(held->folder, held->name, O_RDWR | O_NOFOLLOW | O_NONBLOCK | O_NOCTTY | O_CLOEXEC);
@@ -318,7 +321,7 @@ static zx_code lock(zx_file *file, struct zx_held_file *held) {
     return ZX_DONE;
 }
 
-/* Finds what the mode wants under the path: the file, locked; or, where it is to be made, its folder and name. */
+/* Finds what the mode wants: the file, locked; or, if it is to be created, its folder and name. */
 static zx_code hold_once(zx_file *file, const char *path, uint32_t mode, struct zx_held_file **held) {
     struct stat found;
     if (mode == ZX_CREATE_ONLY && lstat(path, &found) == 0) return faulty(file, ZX_FILE_EXISTS, EEXIST);
@@ -347,7 +350,7 @@ static zx_code hold(zx_file *file, const char *path, uint32_t mode, struct zx_he
 
 /* ---- a file opened */
 
-/* The segment of the file's bytes, which are no more than the file had when it was looked at. */
+/* Opens the segment of the file's bytes. */
 static zx_code read_segment(zx_file *file, int from, uint32_t how) {
     struct stat found;
     if (fstat(from, &found) != 0) return fault(file);
@@ -378,7 +381,7 @@ static zx_code open_unheld(zx_file *file, const char *path, uint32_t how) {
     return code;
 }
 
-/* Makes the file of a name that is not there. AGAIN, where it is there now. */
+/* Creates the file of a name. AGAIN if one exists now. */
 static zx_code make_held(zx_file *file, struct zx_held_file *held, const struct image *image) {
     held->file = make(held->folder, held->name, image, NULL);
     held->is_new = true;
@@ -386,7 +389,7 @@ static zx_code make_held(zx_file *file, struct zx_held_file *held, const struct 
     return errno == EEXIST || errno == EWOULDBLOCK ? (zx_code)AGAIN : fault(file);
 }
 
-/* Makes the file with an empty segment. */
+/* Creates the file with an empty segment. */
 static zx_code make_empty(zx_file *file, struct zx_held_file *held, uint64_t size) {
     struct image image;
     zx_code code = zx_create(&file->segment, size);
@@ -449,12 +452,12 @@ static zx_code replace(zx_file *file, struct zx_held_file *held, const struct im
     held->file = made;
     flock(before, LOCK_UN);
     close(before);
-    return write_name_through(file, held);
+    return sync_name(file, held);
 }
 
 static zx_code save_held(zx_file *file, struct zx_held_file *held, const struct image *image) {
     if (!has_image(held->file, image)) return replace(file, held, image);
-    return held->is_new || held->is_unsynced ? write_name_through(file, held) : (zx_code)ZX_DONE;
+    return held->is_new || held->is_unsynced ? sync_name(file, held) : (zx_code)ZX_DONE;
 }
 
 zx_code zx_file_save(zx_file *file) {
@@ -496,7 +499,7 @@ static zx_code put(zx_file *file, const char *path, uint32_t mode, const struct 
             code = faulty(file, ZX_FILE_REPLACED, ESTALE);
         } else if (held->file < 0) {
             code = make_held(file, held, image);
-            if (code == ZX_DONE) code = write_name_through(file, held);
+            if (code == ZX_DONE) code = sync_name(file, held);
         } else {
             code = save_held(file, held, image);
         }

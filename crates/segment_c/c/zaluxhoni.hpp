@@ -125,7 +125,7 @@ class bad_image : public error {
     }
 }
 
-/// What a file was refused for. `code()` is the error of the system, and `file_code()` one of ZX_FILE_.. in
+/// Why a file was refused. `code()` is the error of the system, and `file_code()` one of ZX_FILE_.. in
 /// zaluxhoni_files.h.
 class file_error : public std::system_error {
   public:
@@ -147,7 +147,7 @@ using file_in_use = file_error_of<ZX_FILE_IN_USE>;
 using file_exists = file_error_of<ZX_FILE_EXISTS>;
 using file_missing = file_error_of<ZX_FILE_MISSING>;
 using file_replaced = file_error_of<ZX_FILE_REPLACED>;
-/// The file is saved, but the system could not say that this lasts.
+/// The file is saved, but its folder was not synced.
 using file_unsynced = file_error_of<ZX_FILE_UNSYNCED>;
 using file_forked = file_error_of<ZX_FILE_FORKED>;
 
@@ -497,11 +497,11 @@ inline zx_code check_image(slice<std::uint8_t> image) {
 
 // ---- the segment
 
-/// A segment, which its destructor frees. What it has is saved by `save`, `save_file` and `close_file` alone. It moves and
-/// is not copied; of one that was moved from, or closed, each call throws `closed`.
+/// A segment, which its destructor frees. Only `save`, `save_file` and `close_file` save what it has. It moves and is
+/// not copied; each call of one that was moved from, or closed, throws `closed`.
 ///
-/// One that was opened from a file for writing, or that made it, holds it until it is closed: another that opens it for
-/// writing, in this program or elsewhere, is told `file_in_use`.
+/// One that was opened from a file for writing, or that created it, holds the file until it is closed: any other that
+/// opens it for writing, in this program or elsewhere, gets `file_in_use`.
 class segment {
   public:
     /// Has no segment.
@@ -539,7 +539,7 @@ class segment {
         return made;
     }
 
-    /// The segment of a file that is there. Where the file is refused it throws `file_error`.
+    /// Opens the segment of a file that exists. Throws `file_error` if the file is refused.
     static segment open_file(const std::string &path, zaluxhoni::mode how = zaluxhoni::mode::write) {
         switch (how) {
         case mode::write: return of_file(path, ZX_OPEN_ONLY, 0);
@@ -548,16 +548,16 @@ class segment {
         }
         throw bad_mode();
     }
-    /// The same for writing, and where there is no such file it is made, with an empty segment of `size` bytes.
+    /// Opens it for writing; creates it with an empty segment of `size` bytes if it does not exist.
     static segment open_or_create_file(const std::string &path, std::uint64_t size) {
         return of_file(path, ZX_OPEN_OR_CREATE, size);
     }
-    /// Makes a file, with an empty segment of `size` bytes. Where something stands there it throws `file_exists`.
+    /// Creates a file with an empty segment of `size` bytes. Throws `file_exists` if something exists there.
     static segment create_file(const std::string &path, std::uint64_t size) {
         return of_file(path, ZX_CREATE_ONLY, size);
     }
 
-    /// Frees the segment, and saves nothing: a file that it made and never saved is removed. What was asked of it throws
+    /// Frees the segment and saves nothing; removes a file that it created and never saved. What was asked of it throws
     /// `closed` from then on.
     void close() noexcept {
         if (file_ != nullptr) zx_file_discard(file_.get());
@@ -576,16 +576,16 @@ class segment {
     /// Copies the image to the front of a buffer: as many bytes as `size()` says.
     void save(std::uint8_t *image, std::size_t room) const { check_code(zx_save(raw(), image, room)); }
 
-    /// Saves the file that the segment was opened from, unless it has just these bytes: a new file takes its place when all
-    /// of it is on the disk. Whatever fails, one of the two stands whole under the name. Where the file is refused it
-    /// throws `file_error`: of these `file_unsynced` alone says that it is saved.
+    /// Saves the file that the segment was opened from, unless it has just these bytes: a new file takes its place when
+    /// all of it is on the disk. Whatever fails, one of the two stands whole under the name. Throws `file_error` if the
+    /// file is refused; after `file_unsynced` alone it is saved.
     void save_file() const { check_file(zx_file_save(&file()), path_); }
     /// The same, and frees the segment.
     void close_file() {
         if (!is_open()) throw closed();
         check_file(zx_file_close(file_.get()), path_);
     }
-    /// Puts the image into a file of this path, which is made where it is not there; its own is saved as above.
+    /// Puts the image into the file of a path, which is created if it does not exist; its own file is saved as above.
     void save_file(const std::string &path) const {
         check_file(zx_file_save_as(&file(), whole(path).c_str(), ZX_OPEN_OR_CREATE), path);
     }
@@ -810,7 +810,7 @@ class segment {
         return made;
     }
 
-    /// A path that ends with no byte before its end.
+    /// A path without a byte 0.
     static const std::string &whole(const std::string &path) {
         if (path.find('\0') != std::string::npos) throw file_error(ZX_FILE_FAULT, EINVAL, path);
         return path;
@@ -877,8 +877,8 @@ class segment {
         return had;
     }
 
-    // the handle itself stays where it is: it is not copied. What was asked of the segment keeps it, and finds it closed
-    // behind the destructor
+    // the handle itself stays where it is: it is not copied. What was asked of the segment keeps it, and finds it
+    // closed behind the destructor
     std::shared_ptr<zx_file> file_;
     std::string path_;
 };

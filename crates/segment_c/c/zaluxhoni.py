@@ -278,17 +278,17 @@ class FileTooLarge(FileError):
 
 
 class FileFault(FileError):
-    """The system refused; it is also the class that Python has for its `errno`, as PermissionError."""
+    """The system refused. It is also of the class that Python has for its `errno`, as PermissionError."""
     code, number = 50, errno.EIO
 
 
 class FileReplaced(FileError):
-    """The name does not lead to the file that was opened: it is left alone."""
+    """The name no longer leads to the file that was opened. What is there is left alone."""
     code, number = 51, errno.ESTALE
 
 
 class FileUnsynced(FileError):
-    """The file is saved, but that this lasts could not be written to the disk."""
+    """The file is saved, but its folder was not synced."""
     code, number = 52, errno.EIO
 
 
@@ -761,9 +761,9 @@ class Segment(collections.abc.MutableMapping):
     # -- its file
 
     def save(self):
-        """Saves the file that the segment was opened from, unless it has just these bytes: a new file takes its place when
-        all of it is on the disk, so that one of the two stands whole under the name whatever fails. ReadOnly, NoFile,
-        FileError; after FileUnsynced alone it is saved."""
+        """Saves the file that the segment was opened from, unless it has just these bytes: a new file takes its place
+        when all of it is on the disk, so that one of the two stands whole under the name whatever fails. ReadOnly,
+        NoFile, FileError; after FileUnsynced alone it is saved."""
         self._file_call(_zx.zx_file_save, self._path)
 
     def save_as(self, path):
@@ -771,12 +771,12 @@ class Segment(collections.abc.MutableMapping):
         self._file_call(_zx.zx_file_save_as, path, _path_bytes(path), _file_modes["x"])
 
     def close(self):
-        """Saves the file, where there is one that is open for writing, and closes the segment. After an error it is still
+        """Saves the file, if there is one that is open for writing, and closes the segment. After an error it is still
         open, but for FileUnsynced."""
         self._file_call(_zx.zx_file_close, self._path)
 
     def discard(self):
-        """Closes the segment and saves nothing. A file that it made, and that was never saved, is removed."""
+        """Closes the segment and saves nothing. Removes a file that it created and never saved."""
         if threading.get_ident() != self._thread:
             raise WrongThread()
         _zx.zx_file_discard(self._file)
@@ -1551,9 +1551,9 @@ def open(path, mode="c", *, size=65536, grow=False, encoding="utf-8"):
         "x"  the file is not there, and is made               (create_only)
         "p"  changes are private, and saved nowhere           (open_copy_on_write)
 
-    A new segment has `size` bytes, and its file stands under the name at once, with an empty segment. With `grow` a segment
-    becomes longer where there is no space. In the modes that save, the file belongs to this segment until it is closed:
-    FileInUse. FileError, where the file is refused; BadImage."""
+    A new segment has `size` bytes, and its file stands under the name at once, with an empty segment. With `grow` a
+    segment becomes longer where there is no space. In the modes that save, the file belongs to this segment until it is
+    closed: FileInUse. FileError, if the file is refused; BadImage."""
     if mode not in _file_modes:
         raise BadMode(f"no mode is {mode!r}")
     opened = Segment(grow=grow, encoding=encoding)

@@ -1,11 +1,13 @@
-/* file_driver FILE..: takes commands from standard input, a line each, and prints a line for each: two_processes.py and
-   killed_savers.py drive it, beside those of C++ and Python. A command is a digit, the zx_file that it is for, and words:
+/* file_driver FILE..: takes commands from standard input, a line each, and prints a line for each: two_processes.py
+   and killed_savers.py drive it, beside those of C++ and Python. A command is a digit, the zx_file that it is for,
+   and words:
 
-       open MODE SIZE [FILE]   get   set N   save   close   discard   saveas MODE FILE   fork WORDS, WORDS, ..   sleeper
+   open MODE SIZE [FILE]   get   set N   save   close   discard   saveas MODE FILE   fork WORDS, WORDS, ..   sleeper
 
-   `fork` runs commands in a child, on the files that are open, and prints what they answer in one line; `sleeper` forks a
-   child that sleeps; `nobody` gives up the rights of root. With a second word, `loop` or `loop-one`, the program adds 1 to
-   the number of the file, by a zx_file for each time or by one, until it is killed, and prints each number that is saved. */
+   `fork` runs commands in a child, on the files that are open, and prints what they answer in one line; `sleeper`
+   forks a child that sleeps; `nobody` gives up the rights of root. With a second word, `loop` or `loop-one`, the
+   program adds 1 to the number of the file, by a zx_file for each time or by one, until it is killed, and prints each
+   number that is saved. */
 #define _GNU_SOURCE
 #include "zaluxhoni_files.h"
 
@@ -23,8 +25,8 @@ static zx_file files[10]; /* all ZX_CLOSED_FILE */
 
 static const char *word(zx_code code, int32_t error) {
     static char made[40];
-    static const char *const of_files[] = { "none", "is_open", "in_use", "exists", "missing", "dangles", "folder", "device",
-                                            "pipe", "too_large", "fault", "replaced", "unsynced", "forked" };
+    static const char *const of_files[] = { "none",   "is_open", "in_use",    "exists", "missing",  "dangles",  "folder",
+                                            "device", "pipe",    "too_large", "fault",  "replaced", "unsynced", "forked" };
     if (code == ZX_FILE_FAULT)
         snprintf(made, sizeof made, "fault %d", error);
     else if (ZX_FILE_NONE <= code && code <= ZX_FILE_FORKED)
@@ -42,7 +44,8 @@ static const char *word(zx_code code, int32_t error) {
 }
 
 static uint32_t mode_of(const char *name) {
-    static const char *const all[] = { "create_only", "open_only", "open_or_create", "open_read_only", "open_copy_on_write" };
+    static const char *const all[] = { "create_only", "open_only", "open_or_create", "open_read_only",
+                                       "open_copy_on_write" };
     for (uint32_t i = 0; i < 5; i++)
         if (strcmp(name, all[i]) == 0) return ZX_CREATE_ONLY + i;
     return 0;

@@ -1,6 +1,7 @@
-/* files FOLDER: zaluxhoni_files.h where the system fails. Each call of files.c that the system can refuse is made to fail
-   once, in each of a few scenes, on a system that has files without names and on ones that lack what they take; and threads
-   have a file each. It is linked over wrappers of these calls, which .ci/c-tests names, and files.c itself. */
+/* files FOLDER: zaluxhoni_files.h where the system fails. Each call of files.c that the system can refuse is made to
+   fail once, in each of a few scenes, on a system that has files without names and on ones that lack what they take;
+   and threads have a file each. It is linked over wrappers of these calls, which .ci/c-tests names, and files.c
+   itself. */
 #define _GNU_SOURCE
 #include "zaluxhoni_files.h"
 
@@ -20,14 +21,14 @@
 static int wrong, cases;
 static char room[400];
 
-#define IS(got, wanted)                                                                                                    \
-    do {                                                                                                                   \
-        long long is = (long long)(got), should = (long long)(wanted);                                                     \
-        cases++;                                                                                                           \
-        if (is != should) {                                                                                                \
-            printf("files.c:%d: WRONG %s: %lld, not %lld, %s\n", __LINE__, #got, is, should, of_case());                   \
-            wrong++;                                                                                                       \
-        }                                                                                                                  \
+#define IS(got, wanted) \
+    do { \
+        long long is = (long long)(got), should = (long long)(wanted); \
+        cases++; \
+        if (is != should) { \
+            printf("files.c:%d: WRONG %s: %lld, not %lld, %s\n", __LINE__, #got, is, should, of_case()); \
+            wrong++; \
+        } \
     } while (0)
 
 /* ---- calls that fail */
@@ -60,12 +61,12 @@ static bool fails(const char *name, int error) {
     return true;
 }
 
-#define WRAPPED(answer, name, parameters, ...)                                                                             \
-    answer __real_##name parameters;                                                                                       \
-    answer __wrap_##name parameters;                                                                                       \
-    answer __wrap_##name parameters {                                                                                      \
-        if (way == AT_ONCE && fails(#name, EIO)) return -1;                                                                \
-        return __real_##name(__VA_ARGS__);                                                                                 \
+#define WRAPPED(answer, name, parameters, ...) \
+    answer __real_##name parameters; \
+    answer __wrap_##name parameters; \
+    answer __wrap_##name parameters { \
+        if (way == AT_ONCE && fails(#name, EIO)) return -1; \
+        return __real_##name(__VA_ARGS__); \
     }
 
 WRAPPED(int, fstat, (int file, struct stat *found), file, found)
@@ -192,7 +193,8 @@ static zx_code set(zx_file *file, int64_t number) {
     return code == ZX_DONE ? zx_set(&file->segment, &key, 0, &value) : code;
 }
 
-/* What stands under the path: the number, 0 where the segment has none, -1 where there is no file, -2 where it is none. */
+/* What stands under the path: the number, 0 where the segment has none, -1 where there is no file, -2 where it is
+   none. */
 static int64_t stands(const char *path) {
     zx_file file = ZX_CLOSED_FILE;
     zx_code code = zx_file_open(&file, path, ZX_OPEN_READ_ONLY, 0);
@@ -209,7 +211,8 @@ static int64_t stands(const char *path) {
 static bool is_saved(zx_file *file, const char *path) {
     static uint8_t image[1 << 17], bytes[1 << 17];
     uint64_t size;
-    if (zx_size(&file->segment, &size) != ZX_DONE || zx_save(&file->segment, image, sizeof image) != ZX_DONE) return false;
+    if (zx_size(&file->segment, &size) != ZX_DONE) return false;
+    if (zx_save(&file->segment, image, sizeof image) != ZX_DONE) return false;
     FILE *from = fopen(path, "rb");
     size_t len = from ? fread(bytes, 1, sizeof bytes, from) : 0;
     if (from) fclose(from);
@@ -491,7 +494,8 @@ static void holes(void) {
     IS(unlink(the_file()), 0);
 }
 
-/* Rights, owner and group stay, and are there before a byte is; where the owner cannot be kept, nobody may more than before. */
+/* Rights, owner and group stay, and are there before a byte is; where the owner cannot be kept, nobody may more than
+   before. */
 static void rights(void) {
     for (lacks = HAS_ALL; lacks < SYSTEMS; lacks++) {
         zx_file file = ZX_CLOSED_FILE;

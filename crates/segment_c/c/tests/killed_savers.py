@@ -1,12 +1,12 @@
-"""killed_savers.py FOLDER COUNT SECONDS NAME=COMMAND..: kills savers of one file at random moments, COUNT times, or for so
-many seconds where that is not 0.
+"""killed_savers.py FOLDER COUNT SECONDS NAME=COMMAND..: kills savers of one file at random moments.
 
-Two savers, of all pairs of the names, add 1 to the number of one file, for ever; one of them, or both, are killed, and
-others take their place. A name is that of a language, with its file_driver, or `program`. It looks at this:
-- whatever is killed, the file is a segment: it is opened behind each kill, and at random moments;
-- no number is said to be saved twice, and the file never has a smaller one than was said;
+It kills COUNT of them, and stops earlier after so many seconds, if they are not 0. Two savers, of all pairs of the
+names, add 1 to the number of one file, for ever; it kills one of them, or both, and starts others in their place. A
+name is that of a language, with its file_driver, or `program`. It checks that
+- after each kill the file is a segment;
+- no two saves say the same number, and the file never has a smaller number than was said;
 - whoever is not killed goes on;
-- when all are killed, and the file was opened for writing once more, nothing stands beside it."""
+- nothing else is in the folder after the file was opened for writing once more."""
 import os
 import random
 import select

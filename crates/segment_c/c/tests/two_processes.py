@@ -1,12 +1,12 @@
-"""two_processes.py FOLDER NAME=COMMAND..: tries what two processes, or one with what stands in its way, do with one file.
+"""two_processes.py FOLDER NAME=COMMAND..: tries what two processes, or one alone, do with one file.
 
 A name is that of a language, and its command a file_driver; with the name `program` it is the program `segment`, which
-takes scripts. Each case of the table is run by all pairs of them, or by each alone where no B is in it, in a folder of its
-own, which has what the case leaves there and nothing else. A line of a case is
+takes scripts. All pairs of them run each case of the table, or each of them alone if no B is in it, in a folder of its
+own. A line of a case is
 
-    A open MODE SIZE: ANSWER     what a driver answers (file_driver.c has the words); `A2` is a second file of the process
-    do WORDS                     what happens beside, by a function do_.. of this script
-    left NAME..                  what stands in the folder
+    A open MODE SIZE: ANSWER     what a driver answers (file_driver.c has the words); `A2` is its second file
+    do WORDS                     what happens meanwhile, by a function do_.. of this script
+    left NAME..                  what is in the folder, and nothing else is
 """
 import os
 import select
@@ -798,8 +798,8 @@ def run(lines, beside, peers):
 def main():
     folder, *named = sys.argv[1:]
     commands = dict(each.split("=", 1) for each in named)
-    sides = {side: {name: (Program if name == "program" else Driver)(command, folder) for name, command in commands.items()}
-             for side in "AB"}
+    sides = {side: {name: (Program if name == "program" else Driver)(command, folder)
+                    for name, command in commands.items()} for side in "AB"}
     seeder = Driver(next(iter(commands.values())), folder)
     count = wrong = 0
     for name, lines in cases():

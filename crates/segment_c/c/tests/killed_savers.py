@@ -71,8 +71,10 @@ class Saver:
         return lines
 
     def kill(self):
-        os.killpg(self.pid, signal.SIGKILL)
-        os.waitpid(self.pid, 0)
+        if self.pid is not None:
+            os.killpg(self.pid, signal.SIGKILL)
+            os.waitpid(self.pid, 0)
+            self.pid = None
 
     def end(self):
         os.close(self.said)

@@ -113,7 +113,7 @@ class Round:
         self.most, self.seen, self.savers, self.kills = 0, set(), [], 0
         with zaluxhoni.open(self.path, "x", size=262144) as made:
             made["n"] = 0
-            made["filling"] = "".join(random.choice("abcdefgh") for _ in range(100000))
+            made["filling"] = os.urandom(50000).hex()
 
     def start(self, name):
         word = "loop-one" if random.random() < 0.3 else "loop"
@@ -183,6 +183,10 @@ def kill_maker(folder, name, command):
     maker.kill()
     said = {int(line) for line in maker.numbers()}
     maker.end()
+    for each in os.listdir(folder):
+        # what was left beside one of them goes when that is opened for writing
+        if each.startswith("made"):
+            zaluxhoni.open(os.path.join(folder, each), "w").close()
     for each in os.listdir(folder):
         if not each.startswith("made"):
             raise Wrong(f"there is {each} beside the files")

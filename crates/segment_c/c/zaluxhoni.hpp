@@ -1,5 +1,5 @@
-/* Zaluxhoni for C++17 and later: the calls of zaluxhoni.h with destructors, exceptions and types. docs/CPP.md is the
-   guide.
+/* Zaluxhoni for C++17 and later: the calls of zaluxhoni.h and zaluxhoni_files.h with destructors, exceptions and types.
+   docs/CPP.md is the guide.
 
        zaluxhoni::segment shop = zaluxhoni::segment::create(4096);
        shop.construct<std::int64_t>("opened", 1972);
@@ -12,13 +12,12 @@
 #define ZALUXHONI_HPP
 
 #include "zaluxhoni.h"
+#include "zaluxhoni_files.h"
 
 #include <array>
 #include <cerrno>
 #include <cstddef>
 #include <cstdint>
-#include <cstdio>
-#include <filesystem>
 #include <initializer_list>
 #include <iterator>
 #include <map>
@@ -36,11 +35,6 @@
 #include <span>
 #endif
 
-#if defined(__unix__) || defined(__APPLE__)
-#include <fcntl.h>
-#include <unistd.h>
-#endif
-
 namespace zaluxhoni {
 
 // ---- errors
@@ -48,7 +42,7 @@ namespace zaluxhoni {
 /// The words of a code, as `no space`.
 inline std::string words(zx_code code) {
     zx_text text{};
-    zx_words(code, &text);
+    zx_file_words(code, &text);
     if (text.len == 0) return "code " + std::to_string(code);
     return std::string(reinterpret_cast<const char *>(text.at), text.len);
 }
@@ -90,6 +84,8 @@ using no_memory = error_of<ZX_NO_MEMORY>;
 using short_region = error_of<ZX_SHORT_REGION>;
 using bad_growth = error_of<ZX_BAD_GROWTH>;
 using too_large = error_of<ZX_TOO_LARGE>;
+/// The segment has no file, which `save_file()` wants.
+using no_file = error_of<ZX_FILE_NONE>;
 
 /// Bytes that are no image of a segment; `number()` is that of the class in docs/FORMAT.md, from 1 to 12.
 class bad_image : public error {
@@ -122,9 +118,51 @@ class bad_image : public error {
     case ZX_SHORT_REGION: throw short_region();
     case ZX_BAD_GROWTH: throw bad_growth();
     case ZX_TOO_LARGE: throw too_large();
+    case ZX_FILE_NONE: throw no_file();
     default:
         if (ZX_TRUNCATED <= code && code <= ZX_ORPHAN_BLOCK) throw bad_image(code);
         throw error(code);
+    }
+}
+
+/// Why a file was refused. `code()` is the error of the system, and `file_code()` one of ZX_FILE_.. in
+/// zaluxhoni_files.h.
+class file_error : public std::system_error {
+  public:
+    file_error(zx_code code, int error, const std::string &path)
+        : std::system_error(error, std::generic_category(), path + ": " + words(code)), code_(code) {}
+    zx_code file_code() const noexcept { return code_; }
+
+  private:
+    zx_code code_;
+};
+
+/// The error of one code, so that a program can catch this one alone.
+template <zx_code CODE> class file_error_of : public file_error {
+  public:
+    file_error_of(int error, const std::string &path) : file_error(CODE, error, path) {}
+};
+
+using file_in_use = file_error_of<ZX_FILE_IN_USE>;
+using file_exists = file_error_of<ZX_FILE_EXISTS>;
+using file_missing = file_error_of<ZX_FILE_MISSING>;
+using file_replaced = file_error_of<ZX_FILE_REPLACED>;
+/// The file is saved, but its folder was not synced.
+using file_unsynced = file_error_of<ZX_FILE_UNSYNCED>;
+using file_forked = file_error_of<ZX_FILE_FORKED>;
+
+/// Throws the error of a code that a call for a file answered.
+[[noreturn]] inline void throw_file_code(zx_code code, int error, const std::string &path) {
+    switch (code) {
+    case ZX_FILE_IN_USE: throw file_in_use(error, path);
+    case ZX_FILE_EXISTS: throw file_exists(error, path);
+    case ZX_FILE_MISSING: throw file_missing(error, path);
+    case ZX_FILE_REPLACED: throw file_replaced(error, path);
+    case ZX_FILE_UNSYNCED: throw file_unsynced(error, path);
+    case ZX_FILE_FORKED: throw file_forked(error, path);
+    default:
+        if (ZX_FILE_IN_USE <= code && code <= ZX_FILE_FORKED) throw file_error(code, error, path);
+        throw_code(code);
     }
 }
 
@@ -448,77 +486,6 @@ template <class Of, class At, class T> class element {
     At at_;
 };
 
-[[noreturn]] inline void fail(const std::filesystem::path &path) {
-    throw std::system_error(errno, std::generic_category(), path.string());
-}
-
-/// Opens a file for a scope.
-class file {
-  public:
-    file(const std::filesystem::path &path, const char *how)
-        : path_(path), at_(std::fopen(path.string().c_str(), how)) {
-        if (at_ == nullptr) fail(path_);
-    }
-    file(const file &) = delete;
-    file &operator=(const file &) = delete;
-    ~file() {
-        if (at_ != nullptr) std::fclose(at_);
-    }
-
-    std::vector<std::uint8_t> read() {
-        std::vector<std::uint8_t> bytes;
-        std::uint8_t piece[65536];
-        for (std::size_t count; (count = std::fread(piece, 1, sizeof piece, at_)) != 0;)
-            bytes.insert(bytes.end(), piece, piece + count);
-        if (std::ferror(at_) != 0) fail(path_);
-        return bytes;
-    }
-    /// Writes all bytes through to the disk, and closes the file.
-    void write(const std::vector<std::uint8_t> &bytes) {
-        if (std::fwrite(bytes.data(), 1, bytes.size(), at_) != bytes.size() || std::fflush(at_) != 0) fail(path_);
-#if defined(__unix__) || defined(__APPLE__)
-        if (fsync(fileno(at_)) != 0) fail(path_);
-#endif
-        if (std::fclose(std::exchange(at_, nullptr)) != 0) fail(path_);
-    }
-
-  private:
-    std::filesystem::path path_;
-    std::FILE *at_;
-};
-
-/// Writes through that a file has come into a folder.
-inline void write_folder_through(const std::filesystem::path &folder) {
-#if defined(__unix__) || defined(__APPLE__)
-    const int at = ::open(folder.empty() ? "." : folder.c_str(), O_RDONLY);
-    if (at < 0) fail(folder);
-    const bool is_through = fsync(at) == 0;
-    ::close(at);
-    if (!is_through) fail(folder);
-#else
-    (void)folder;
-#endif
-}
-
-/// Puts bytes into a file by a new one, which takes its place and has its rights.
-inline void replace(const std::filesystem::path &named, const std::vector<std::uint8_t> &bytes) {
-    namespace files = std::filesystem;
-    const files::path path = files::is_symlink(named) ? files::canonical(named) : named;
-    files::path fresh = path;
-    fresh += ".new";
-    file made(fresh, "wb");
-    try {
-        made.write(bytes);
-        if (files::exists(path)) files::permissions(fresh, files::status(path).permissions());
-        files::rename(fresh, path);
-    } catch (...) {
-        std::error_code ignored;
-        files::remove(fresh, ignored);
-        throw;
-    }
-    write_folder_through(path.parent_path());
-}
-
 } // namespace detail
 
 /// Whether bytes are the image of a segment; else the code of the class that refuses them.
@@ -530,8 +497,11 @@ inline zx_code check_image(slice<std::uint8_t> image) {
 
 // ---- the segment
 
-/// A segment, which its destructor frees. What it has is saved by `save` or `save_file` alone. It moves and is not
-/// copied; of one that was moved from, or closed, each call throws `closed`.
+/// A segment, which its destructor frees. Only `save`, `save_file` and `close_file` save what it has. It moves and is
+/// not copied; each call of one that was moved from, or closed, throws `closed`.
+///
+/// One that was opened from a file for writing, or that created it, holds the file until it is closed: any other that
+/// opens it for writing, in this program or elsewhere, gets `file_in_use`.
 class segment {
   public:
     /// Has no segment.
@@ -541,7 +511,8 @@ class segment {
     segment &operator=(segment &&other) noexcept {
         if (this != &other) {
             close();
-            at_ = std::move(other.at_);
+            file_ = std::move(other.file_);
+            path_ = std::move(other.path_);
         }
         return *this;
     }
@@ -550,7 +521,7 @@ class segment {
     /// An empty segment of `size` bytes: 144, or a multiple of 16 from 176 to 1073741824.
     static segment create(std::uint64_t size) {
         segment made = allotted();
-        check_code(zx_create(made.at_.get(), size));
+        check_code(zx_create(made.raw(), size));
         return made;
     }
 
@@ -560,7 +531,7 @@ class segment {
                         std::uint64_t capacity = 0) {
         segment made = allotted();
         const std::uint64_t least = image.size() < 16 ? 16 : (image.size() + 15) / 16 * 16;
-        zx_code code = zx_open(made.at_.get(), image.data(), image.size(), capacity != 0 ? capacity : least,
+        zx_code code = zx_open(made.raw(), image.data(), image.size(), capacity != 0 ? capacity : least,
                                static_cast<std::uint32_t>(how));
         // the image says more bytes than there are: that class is the answer
         if (code == ZX_SHORT_REGION && capacity == 0) code = zx_check(image.data(), image.size());
@@ -568,29 +539,33 @@ class segment {
         return made;
     }
 
-    /// The segment of a file. Where the file cannot be read it throws std::system_error.
+    /// Opens the segment of a file that exists. Throws `file_error` if the file is refused.
     static segment open_file(const std::string &path, zaluxhoni::mode how = zaluxhoni::mode::write) {
-        return open(detail::file(path, "rb").read(), how);
-    }
-
-    /// The same, and where there is no such file an empty segment of `size` bytes, which `save_file` puts there.
-    static segment open_or_create_file(const std::string &path, std::uint64_t size) {
-        try {
-            return open_file(path);
-        } catch (const std::system_error &error) {
-            if (error.code() != std::errc::no_such_file_or_directory) throw;
+        switch (how) {
+        case mode::write: return of_file(path, ZX_OPEN_ONLY, 0);
+        case mode::read: return of_file(path, ZX_OPEN_READ_ONLY, 0);
+        case mode::copy_on_write: return of_file(path, ZX_OPEN_COPY_ON_WRITE, 0);
         }
-        return create(size);
+        throw bad_mode();
+    }
+    /// Opens it for writing; creates it with an empty segment of `size` bytes if it does not exist.
+    static segment open_or_create_file(const std::string &path, std::uint64_t size) {
+        return of_file(path, ZX_OPEN_OR_CREATE, size);
+    }
+    /// Creates a file with an empty segment of `size` bytes. Throws `file_exists` if something exists there.
+    static segment create_file(const std::string &path, std::uint64_t size) {
+        return of_file(path, ZX_CREATE_ONLY, size);
     }
 
-    /// Frees the segment. What was asked of it throws `closed` from then on.
+    /// Frees the segment and saves nothing; removes a file that it created and never saved. What was asked of it throws
+    /// `closed` from then on.
     void close() noexcept {
-        if (at_ != nullptr) zx_close(at_.get());
+        if (file_ != nullptr) zx_file_discard(file_.get());
     }
-    bool is_open() const noexcept { return at_ != nullptr && at_->at != nullptr; }
+    bool is_open() const noexcept { return file_ != nullptr && file_->segment.at != nullptr; }
     explicit operator bool() const noexcept { return is_open(); }
     /// For the calls of zaluxhoni.h.
-    zx_segment *raw() const { return shared().get(); }
+    zx_segment *raw() const { return &file().segment; }
 
     /// The image.
     std::vector<std::uint8_t> save() const {
@@ -601,9 +576,19 @@ class segment {
     /// Copies the image to the front of a buffer: as many bytes as `size()` says.
     void save(std::uint8_t *image, std::size_t room) const { check_code(zx_save(raw(), image, room)); }
 
-    /// Puts the image into a file. It is written to a new one first, PATH.new, which then takes the place of the old
-    /// one: whatever fails, one of the two stands whole under the name. Where a file fails it throws std::system_error.
-    void save_file(const std::string &path) const { detail::replace(path, save()); }
+    /// Saves the file that the segment was opened from, unless it has just these bytes: a new file takes its place when
+    /// all of it is on the disk. Whatever fails, one of the two stands whole under the name. Throws `file_error` if the
+    /// file is refused; after `file_unsynced` alone it is saved.
+    void save_file() const { check_file(zx_file_save(&file()), path_); }
+    /// The same, and frees the segment.
+    void close_file() {
+        if (!is_open()) throw closed();
+        check_file(zx_file_close(file_.get()), path_);
+    }
+    /// Puts the image into the file of a path, which is created if it does not exist; its own file is saved as above.
+    void save_file(const std::string &path) const {
+        check_file(zx_file_save_as(&file(), whole(path).c_str(), ZX_OPEN_OR_CREATE), path);
+    }
 
     /// Makes the segment longer by `extra` bytes: a multiple of 16, at least 32.
     void grow(std::uint64_t extra) { check_code(zx_grow(raw(), extra)); }
@@ -814,13 +799,35 @@ class segment {
 
     static segment allotted() {
         segment made;
-        made.at_.reset(new zx_segment ZX_CLOSED_HANDLE);
+        made.file_ = std::make_shared<zx_file>();
         return made;
     }
 
-    const std::shared_ptr<zx_segment> &shared() const {
-        if (at_ == nullptr) throw closed();
-        return at_;
+    static segment of_file(const std::string &path, std::uint32_t how, std::uint64_t size) {
+        segment made = allotted();
+        made.check_file(zx_file_open(made.file_.get(), whole(path).c_str(), how, size), path);
+        made.path_ = path;
+        return made;
+    }
+
+    /// A path without a byte 0.
+    static const std::string &whole(const std::string &path) {
+        if (path.find('\0') != std::string::npos) throw file_error(ZX_FILE_FAULT, EINVAL, path);
+        return path;
+    }
+
+    void check_file(zx_code code, const std::string &path) const {
+        if (code != ZX_DONE) throw_file_code(code, file_->error, path);
+    }
+
+    zx_file &file() const {
+        if (file_ == nullptr) throw closed();
+        return *file_;
+    }
+
+    std::shared_ptr<zx_segment> shared() const {
+        file();
+        return {file_, &file_->segment};
     }
 
     void grow_by_half() {
@@ -870,9 +877,10 @@ class segment {
         return had;
     }
 
-    // the handle itself stays where it is: it is not copied. What was asked of the segment keeps it, and finds it closed
-    // behind the destructor
-    std::shared_ptr<zx_segment> at_;
+    // the handle itself stays where it is: it is not copied. What was asked of the segment keeps it, and finds it
+    // closed behind the destructor
+    std::shared_ptr<zx_file> file_;
+    std::string path_;
 };
 
 // ---- one object

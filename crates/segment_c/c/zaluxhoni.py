@@ -25,18 +25,14 @@ import re
 import threading
 import warnings
 
-try:
-    import fcntl
-except ImportError:  # a system without locks of this form
-    fcntl = None
-
 __all__ = [
     "open", "create", "load", "check", "unique", "handle", "Segment", "Array", "Vector", "String", "Strings", "Map",
     "Info", "Tile", "Error", "ReadOnly", "Exists", "NotFound", "WrongKind", "OutOfRange", "NoSpace", "Absent", "Closed",
     "BadKey", "BadName", "BadKind", "BadValue", "BadCount", "BadSize", "BadMode", "ShortBuffer", "NullSlice",
     "NoMemory", "ShortRegion", "BadGrowth", "TooLarge", "BadImage", "Truncated", "BadMagic", "UnsupportedVersion",
     "BadImageSize", "BadReserved", "BadTag", "BadFreeTree", "BadIndex", "BadObject", "SharedBlock", "BadContainer",
-    "OrphanBlock", "FileInUse", "WrongThread",
+    "OrphanBlock", "WrongThread", "NoFile", "FileError", "FileInUse", "FileExists", "FileMissing", "DanglingLink",
+    "IsFolder", "IsDevice", "IsPipe", "FileTooLarge", "FileFault", "FileReplaced", "FileUnsynced", "FileForked",
 ]
 
 
@@ -223,11 +219,82 @@ class OrphanBlock(BadImage):
     code = 112
 
 
-class FileInUse(Error, BlockingIOError):
-    """Another program, or another segment of this one, has the right to write the file."""
+class NoFile(Error, ValueError):
+    """The segment has no file: `save_as` makes one."""
+    code = 40
 
-    def __init__(self, *arguments):
-        Exception.__init__(self, *(arguments or ("the file is in use",)))
+
+class FileError(Error, OSError):
+    """A file was refused; the class that says why derives from this one, and `errno` and `filename` are as of any
+    OSError."""
+    number = 0
+
+    def __init__(self, number=None, path=None):
+        number = self.number if number is None else number
+        said = os.strerror(number) if self.code == FileFault.code else _words(self.code)
+        OSError.__init__(self, number, said, path)
+
+    __str__ = OSError.__str__
+
+
+class FileInUse(FileError, BlockingIOError):
+    """Another program, or another segment of this one, has the right to write the file."""
+    code, number = 42, errno.EWOULDBLOCK
+
+
+class FileExists(FileError, FileExistsError):
+    """Something stands under the path."""
+    code, number = 43, errno.EEXIST
+
+
+class FileMissing(FileError, FileNotFoundError):
+    """Nothing stands under the path, or its folder is not there."""
+    code, number = 44, errno.ENOENT
+
+
+class DanglingLink(FileError, FileNotFoundError):
+    """The path is a link that leads to nothing."""
+    code, number = 45, errno.ENOENT
+
+
+class IsFolder(FileError, IsADirectoryError):
+    """The path leads to a folder."""
+    code, number = 46, errno.EISDIR
+
+
+class IsDevice(FileError):
+    """The path leads to a device."""
+    code, number = 47, errno.EINVAL
+
+
+class IsPipe(FileError):
+    """The path leads to a pipe or a socket."""
+    code, number = 48, errno.ESPIPE
+
+
+class FileTooLarge(FileError):
+    """The file has more than 1073741824 bytes."""
+    code, number = 49, errno.EFBIG
+
+
+class FileFault(FileError):
+    """The system refused. It is also of the class that Python has for its `errno`, as PermissionError."""
+    code, number = 50, errno.EIO
+
+
+class FileReplaced(FileError):
+    """The name no longer leads to the file that was opened. What is there is left alone."""
+    code, number = 51, errno.ESTALE
+
+
+class FileUnsynced(FileError):
+    """The file is saved, but its folder was not synced."""
+    code, number = 52, errno.EIO
+
+
+class FileForked(FileError, PermissionError):
+    """The file belongs to the process that this one was forked from."""
+    code, number = 53, errno.EPERM
 
 
 class WrongThread(Error, RuntimeError):
@@ -243,7 +310,8 @@ _errors = {
         ReadOnly, Exists, NotFound, WrongKind, OutOfRange, NoSpace, Absent, Closed, BadKey, BadName, BadKind, BadValue,
         BadCount, BadSize, BadMode, ShortBuffer, NullSlice, NoMemory, ShortRegion, BadGrowth, TooLarge, Truncated,
         BadMagic, UnsupportedVersion, BadImageSize, BadReserved, BadTag, BadFreeTree, BadIndex, BadObject, SharedBlock,
-        BadContainer, OrphanBlock)
+        BadContainer, OrphanBlock, NoFile, FileInUse, FileExists, FileMissing, DanglingLink, IsFolder, IsDevice, IsPipe,
+        FileTooLarge, FileFault, FileReplaced, FileUnsynced, FileForked)
 }
 _NO_SPACE = NoSpace.code
 
@@ -253,10 +321,24 @@ def _error(code):
     return Error(f"code {code}") if kind is None else kind()
 
 
+def _file_error(code, number, path):
+    kind = _errors.get(code, Error)
+    if not issubclass(kind, FileError):
+        return _error(code)
+    if kind is FileFault:
+        known = type(OSError(number, ""))
+        kind = kind if known is OSError else type("FileFault", (FileFault, known), {})
+    return kind(number, path)
+
+
 # ---- the library
 
 class _Handle(ctypes.Structure):
     _fields_ = [("at", ctypes.c_void_p)]
+
+
+class _RawFile(ctypes.Structure):
+    _fields_ = [("segment", _Handle), ("error", ctypes.c_int32), ("held", ctypes.c_void_p)]
 
 
 class _Key(ctypes.Structure):
@@ -332,7 +414,12 @@ def _declare(library):
         call.argtypes, call.restype = [segment, *arguments], u32
     library.zx_close.restype = None
     library.zx_check.argtypes, library.zx_check.restype = [text, size], u32
-    library.zx_words.argtypes, library.zx_words.restype = [u32, texts], None
+    library.zx_file_words.argtypes, library.zx_file_words.restype = [u32, texts], None
+    files = {"open": [text, u32, u64], "save": [], "save_as": [text, u32], "close": [], "discard": []}
+    for name, arguments in files.items():
+        call = getattr(library, "zx_file_" + name)
+        call.argtypes, call.restype = [pointer(_RawFile), *arguments], u32
+    library.zx_file_discard.restype = None
 
 
 _zx = _load_library()
@@ -344,7 +431,7 @@ def _words(code):
     if code is None:
         return ""
     words = _Text()
-    _zx.zx_words(code, ctypes.byref(words))
+    (_zx.zx_file_words if NoFile.code <= code <= FileForked.code else _zx.zx_words)(code, ctypes.byref(words))
     return ctypes.string_at(words.at, words.len).decode() if words.len else f"code {code}"
 
 
@@ -442,9 +529,16 @@ def _from(value):
     return value.number if value.kind in (_I32, _I64) else value.natural
 
 
+def _listed(values):
+    try:
+        return list(values)
+    except TypeError:
+        raise WrongKind(f"{values!r} is no list") from None
+
+
 def _checked(code, values, refused):
     """A list of values of one kind; of one that is outside it `refused` is raised, or WrongKind."""
-    listed = list(values)
+    listed = _listed(values)
     least, most = _ranges[code]
     for value in listed:
         if (code == _BOOL) != _is_truth(value):
@@ -470,7 +564,10 @@ def _values(code, values, refused):
 
 def _checked_pairs(code, value):
     """A dict of the pairs of a map of a kind; of one that is outside it WrongKind is raised, or OutOfRange."""
-    pairs = dict(value)
+    try:
+        pairs = dict(value)
+    except (TypeError, ValueError):
+        raise WrongKind(f"{value!r} has no pairs") from None
     _checked(code >> 8 & 255, pairs.keys(), OutOfRange)
     _checked(code & 255, pairs.values(), OutOfRange)
     return pairs
@@ -491,7 +588,7 @@ def _texts(texts, encoding):
     """Texts side by side, and how many."""
     if isinstance(texts, (str, bytes, bytearray)):
         raise WrongKind(f"{texts!r} is one text, and no list of them")
-    kept = [_bytes(text, encoding) for text in texts]
+    kept = [_bytes(text, encoding) for text in _listed(texts)]
     passed = (_Text * max(1, len(kept)))()
     for place, text in zip(passed, kept):
         place.at, place.len = ctypes.cast(ctypes.c_char_p(text), ctypes.c_void_p).value, len(text)
@@ -551,7 +648,8 @@ def _info(told, name):
 
 # ---- the segment
 
-_modes = {"w": 0, "c": 0, "x": 0, "r": 1, "p": 2}
+_modes = {"w": 0, "r": 1, "p": 2}
+_file_modes = {"x": 16, "w": 17, "c": 18, "r": 19, "p": 20}
 
 
 class Segment(collections.abc.MutableMapping):
@@ -559,10 +657,11 @@ class Segment(collections.abc.MutableMapping):
     one."""
 
     def __init__(self, *, grow=False, encoding="utf-8"):
-        self._handle = _Handle()
-        self._thread = threading.get_ident()
+        self._file = _RawFile()
+        self._handle = self._file.segment
+        self._thread, self._process = threading.get_ident(), os.getpid()
         self._calls = 0
-        self._file = None
+        self._path = None
         self.growing = grow
         """Whether a call that finds no space makes the segment longer by half and goes on."""
         self.encoding = encoding
@@ -579,6 +678,14 @@ class Segment(collections.abc.MutableMapping):
             code = self._call_in_more_space(call, arguments)
         if code:
             raise _error(code)
+
+    def _file_call(self, call, path, *arguments):
+        """A call for the file; what it refuses is raised with the path."""
+        if threading.get_ident() != self._thread:
+            raise WrongThread()
+        code = call(self._file, *arguments)
+        if code:
+            raise _file_error(code, self._file.error, path)
 
     def _call_in_more_space(self, call, arguments):
         """Makes the segment longer until the call finds space; where that cannot be, it becomes as long as it was."""
@@ -654,31 +761,25 @@ class Segment(collections.abc.MutableMapping):
     # -- its file
 
     def save(self):
-        """Saves the file that the segment was opened from: the new image takes the place of the old one when all of it
-        is on the disk, so that one of the two stands whole under the name whatever fails."""
-        if self._file is None:
-            raise ValueError("the segment has no file: save_as(path) makes one")
-        if self.mode != "write":
-            raise ReadOnly()
-        self._file.save(self.image())
+        """Saves the file that the segment was opened from, unless it has just these bytes: a new file takes its place
+        when all of it is on the disk, so that one of the two stands whole under the name whatever fails. ReadOnly,
+        NoFile, FileError; after FileUnsynced alone it is saved."""
+        self._file_call(_zx.zx_file_save, self._path)
 
     def save_as(self, path):
-        """Saves the image in a new file."""
-        os.close(_make(os.fspath(path), self.image()))
+        """Saves the image in a new file. FileExists, FileError."""
+        self._file_call(_zx.zx_file_save_as, path, _path_bytes(path), _file_modes["x"])
 
     def close(self):
-        """Saves the file, where there is one that is open for writing, and closes the segment."""
-        if self.is_open and self._file is not None and self.mode == "write":
-            self.save()
-        self.discard()
+        """Saves the file, if there is one that is open for writing, and closes the segment. After an error it is still
+        open, but for FileUnsynced."""
+        self._file_call(_zx.zx_file_close, self._path)
 
     def discard(self):
-        """Closes the segment and saves nothing."""
+        """Closes the segment and saves nothing. Removes a file that it created and never saved."""
         if threading.get_ident() != self._thread:
             raise WrongThread()
-        _zx.zx_close(self._handle)
-        if self._file is not None:
-            self._file.close()
+        _zx.zx_file_discard(self._file)
 
     @property
     def is_open(self):
@@ -694,15 +795,19 @@ class Segment(collections.abc.MutableMapping):
             self.discard()
 
     def __del__(self):
-        # of another thread it is left alone: a segment is used by one
-        if getattr(self, "_handle", None) is None or not self.is_open or threading.get_ident() != self._thread:
+        # nobody else has it any more, whatever thread this is
+        file = getattr(self, "_file", None)
+        if file is None or not (self.is_open or file.held):
             return
-        if self._file is not None and self._file.is_written:
-            warnings.warn(f"{self!r} was not closed, and is not saved", ResourceWarning, source=self)
-        self.discard()
+        if file.held and self._process == os.getpid():
+            warnings.warn(f"a segment of {self._path!r} was not closed, and is not saved", ResourceWarning, source=self)
+        _zx.zx_file_discard(file)
+
+    def __reduce_ex__(self, _):
+        raise WrongKind("a segment is not copied: load(segment.image()) makes another one")
 
     def __repr__(self):
-        of = "" if self._file is None else f" of {self._file.path!r}"
+        of = "" if self._path is None else f" of {self._path!r}"
         return f"<Segment{of}, {self.size} bytes, {len(self)} names>" if self.is_open else f"<Segment{of}, closed>"
 
     # -- objects
@@ -753,7 +858,7 @@ class Segment(collections.abc.MutableMapping):
             raise
 
     def _make_scalars(self, call, code, count, key, value, told):
-        listed = None if value is None or _is_truth(value) or hasattr(value, "__index__") else list(value)
+        listed = None if value is None or _is_truth(value) or hasattr(value, "__index__") else _listed(value)
         count = count if count is not None else 1 if listed is None else len(listed)
         if listed is not None and len(listed) != count:
             raise BadCount(f"{len(listed)} values for {count}")
@@ -821,7 +926,10 @@ class Segment(collections.abc.MutableMapping):
     def info(self, key):
         """What the object says of itself: Info. NotFound."""
         told, name = _Info(), ctypes.create_string_buffer(255)
-        self._call(_zx.zx_tell, _key_of(key), told, name, 255)
+        try:
+            self._call(_zx.zx_tell, _key_of(key), told, name, 255)
+        except NotFound:
+            raise NotFound(f"no object is {key!r}") from None
         return _info(told, name)
 
     # -- as a mapping
@@ -843,7 +951,7 @@ class Segment(collections.abc.MutableMapping):
 
     def __delitem__(self, key):
         if not self.destroy(key):
-            raise NotFound()
+            raise NotFound(f"no object is {key!r}")
 
     def __contains__(self, key):
         try:
@@ -956,7 +1064,10 @@ class _Object:
         self._segment, self.key, self._code, self._raw = segment, key, code, _key_of(key)
 
     def _call(self, call, *arguments):
-        self._segment._call(call, self._raw, *arguments)
+        try:
+            self._segment._call(call, self._raw, *arguments)
+        except NotFound:
+            raise NotFound(f"no object is {self.key!r}") from None
 
     @property
     def kind(self):
@@ -1385,116 +1496,24 @@ class Map(_Object, collections.abc.MutableMapping):
         self.update(pairs)
 
 
-# ---- files
-
-class _File:
-    """The file of a segment. Where it is written, its lock is held from before it is read until it is closed; it is the
-    lock that the program `segment` takes."""
-
-    def __init__(self, path, mode):
-        self.path, self.is_written, self._descriptor = _absolute(path), _modes[mode] == 0, None
-        if mode in ("r", "p"):
-            with _opened(self.path) as file:
-                self.image = file.read()
-        else:
-            self.image = self._locked(mode)
-
-    def _locked(self, mode):
-        """Takes the lock and reads the file; None where there is none and it is to be made."""
-        if mode == "x":
-            if os.path.lexists(self.path):
-                raise FileExistsError(errno.EEXIST, os.strerror(errno.EEXIST), self.path)
-            return None
-        while True:
-            try:
-                descriptor = os.open(self.path, os.O_RDWR | getattr(os, "O_CLOEXEC", 0))
-            except FileNotFoundError:
-                if mode == "w":
-                    raise
-                return None
-            try:
-                _lock(descriptor)
-                # meanwhile the name may lead to another file
-                if os.path.samestat(os.fstat(descriptor), os.stat(self.path)):
-                    with os.fdopen(os.dup(descriptor), "rb") as file:
-                        image = file.read()
-                    self._descriptor, descriptor = descriptor, None
-                    return image
-            except FileNotFoundError:
-                continue
-            finally:
-                if descriptor is not None:
-                    os.close(descriptor)
-
-    def save(self, image):
-        if self._descriptor is None:
-            self._descriptor = _make(self.path, image)
-            return
-        path = os.path.realpath(self.path)
-        fresh = path + ".new"
-        if os.path.lexists(fresh):
-            os.unlink(fresh)
-        made = _make(fresh, image)
-        try:
-            os.chmod(fresh, os.fstat(self._descriptor).st_mode & 0o7777)
-            os.replace(fresh, path)
-        except BaseException:
-            os.close(made)
-            os.unlink(fresh)
-            raise
-        os.close(self._descriptor)
-        self._descriptor = made
-        _write_through(os.path.dirname(path))
-
-    def close(self):
-        if self._descriptor is not None:
-            os.close(self._descriptor)
-            self._descriptor = None
-
-
-def _absolute(path):
-    """The path from the root on, which leads to the same file when the program goes to another folder."""
-    path = os.fsdecode(path)
-    return path if os.path.isabs(path) else os.path.join(os.getcwd(), path)
-
-
-def _opened(path):
-    return os.fdopen(os.open(path, os.O_RDONLY | getattr(os, "O_CLOEXEC", 0)), "rb")
-
-
-def _lock(descriptor):
-    if fcntl is not None:
-        try:
-            fcntl.flock(descriptor, fcntl.LOCK_EX | fcntl.LOCK_NB)
-        except BlockingIOError:
-            raise FileInUse() from None
-
-
-def _make(path, image):
-    """Makes a file that is not there, with its lock, and writes it through. What it cannot write all of it removes."""
-    descriptor = os.open(path, os.O_RDWR | os.O_CREAT | os.O_EXCL | getattr(os, "O_CLOEXEC", 0), 0o666)
-    try:
-        _lock(descriptor)
-        rest = memoryview(image)
-        while rest:
-            rest = rest[os.write(descriptor, rest):]
-        os.fsync(descriptor)
-    except BaseException:
-        os.close(descriptor)
-        os.unlink(path)
-        raise
-    return descriptor
-
-
-def _write_through(folder):
-    descriptor = os.open(folder or ".", os.O_RDONLY)
-    try:
-        os.fsync(descriptor)
-    finally:
-        os.close(descriptor)
-
-
 # ---- what a program begins with
+
+def _path_bytes(path):
+    try:
+        path = os.fsencode(path)
+    except TypeError:
+        raise WrongKind(f"{path!r} is no path") from None
+    if 0 in path:
+        raise BadName(f"the path {path!r} has a byte 0")
+    return path
+
+
+def _image_bytes(image):
+    try:
+        return bytes(memoryview(image))
+    except TypeError:
+        raise WrongKind(f"{type(image).__name__} is no image") from None
+
 
 def create(size, *, grow=False, encoding="utf-8"):
     """An empty segment of `size` bytes, without a file. With `grow` it becomes longer where there is no space. BadSize,
@@ -1508,8 +1527,8 @@ def load(image, mode="w", *, capacity=None, grow=False, encoding="utf-8"):
     """The segment that bytes are the image of, without a file. `mode` is "w", "r" for reading alone, or "p" for changes
     that are saved nowhere; `capacity` is how many bytes its region has, a multiple of 16. BadImage, ShortRegion,
     BadSize."""
-    image = bytes(image)
-    if mode not in ("w", "r", "p"):
+    image = _image_bytes(image)
+    if mode not in _modes:
         raise BadMode(f"no mode is {mode!r}")
     made = Segment(grow=grow, encoding=encoding)
     wanted = max(16, (len(image) + 15) // 16 * 16) if capacity is None else _natural(capacity)
@@ -1532,25 +1551,20 @@ def open(path, mode="c", *, size=65536, grow=False, encoding="utf-8"):
         "x"  the file is not there, and is made               (create_only)
         "p"  changes are private, and saved nowhere           (open_copy_on_write)
 
-    A new segment has `size` bytes. With `grow` a segment becomes longer where there is no space. A file that is made is
-    written at the first save. In the modes that save, the file belongs to this segment until it is closed: FileInUse.
-    BadImage; OSError, where the file fails."""
-    if mode not in _modes:
+    A new segment has `size` bytes, and its file stands under the name at once, with an empty segment. With `grow` a
+    segment becomes longer where there is no space. In the modes that save, the file belongs to this segment until it is
+    closed: FileInUse. FileError, if the file is refused; BadImage."""
+    if mode not in _file_modes:
         raise BadMode(f"no mode is {mode!r}")
-    file = _File(path, mode)
-    try:
-        opened = create(size) if file.image is None else load(file.image, mode if mode in ("r", "p") else "w")
-    except BaseException:
-        file.close()
-        raise
-    opened._file, file.image = file, None
-    opened.growing, opened.encoding = grow, encoding
+    opened = Segment(grow=grow, encoding=encoding)
+    opened._file_call(_zx.zx_file_open, path, _path_bytes(path), _file_modes[mode], _natural(size))
+    opened._path = path
     return opened
 
 
 def check(image):
     """Raises the class of BadImage that bytes are refused by, where they are no image of a segment."""
-    image = bytes(image)
+    image = _image_bytes(image)
     code = _zx.zx_check(image, len(image))
     if code:
         raise _error(code)

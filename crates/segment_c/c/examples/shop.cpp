@@ -9,7 +9,7 @@ int main() {
     prices[2] = 1999;
     prices[3] = 75;
     shop.strings("basket").push_back("apples");
-    shop.save_file("shop.seg");
+    shop.close_file();
 
     zaluxhoni::segment kept = zaluxhoni::segment::open_file("shop.seg", zaluxhoni::mode::read);
     std::cout << "the basket has " << kept.strings("basket").size() << '\n';

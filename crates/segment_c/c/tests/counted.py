@@ -1,15 +1,17 @@
-"""counted.py HEADER NAMES: writes a library in C to standard output that stands before another one, which
-LIBRARY_BEHIND names: it has each call that the header declares, hands it on, and adds its name to the file that CALLED
-names when the program ends. The names that the header declares go to the file NAMES."""
+"""counted.py NAMES HEADER..: writes a library in C to standard output that stands before another one, which
+LIBRARY_BEHIND names: it has each call that the headers declare, hands it on, and adds its name to the file that CALLED
+names when the program ends. The names that the headers declare go to the file NAMES."""
 import re
 import sys
 
-header, names = sys.argv[1:]
-with open(header) as file:
-    text = re.sub(r"/\*.*?\*/", "", file.read(), flags=re.DOTALL)
+names, *headers = sys.argv[1:]
+text = ""
+for header in headers:
+    with open(header) as file:
+        text += re.sub(r"/\*.*?\*/", "", file.read(), flags=re.DOTALL)
 calls = re.findall(r"^(zx_code|void) (zx_\w+)\(([^()]*)\);", text, flags=re.MULTILINE)
 print("""#define _GNU_SOURCE
-#include "zaluxhoni.h"
+#include "zaluxhoni_files.h"
 #include <dlfcn.h>
 #include <stdio.h>
 #include <stdlib.h>

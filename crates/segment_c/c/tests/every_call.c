@@ -1,6 +1,6 @@
-/* Every call of zaluxhoni.h, on the worked examples of docs/LANGUAGE.md, section 11, and on what a call refuses. The
+/* Every call of zaluxhoni.h and of zaluxhoni_files.h, on the worked examples of docs/LANGUAGE.md, section 11, and on what a call refuses. The
    images that it makes are saved in the folder that is its one argument. */
-#include "zaluxhoni.h"
+#include "zaluxhoni_files.h"
 
 #include <inttypes.h>
 #include <stdio.h>
@@ -779,6 +779,37 @@ static void words(void) {
     IS(text.len, 0);
 }
 
+/* The calls for files, which tests/files.c and others try for themselves. */
+static void files(void) {
+    char path[500], other[500];
+    zx_file file = ZX_CLOSED_FILE;
+    zx_key a = zx_name("a");
+    zx_value got, six = zx_i64(6);
+    zx_text text;
+    snprintf(path, sizeof path, "%s/c-file.seg", folder);
+    snprintf(other, sizeof other, "%s/c-other.seg", folder);
+    remove(path);
+    remove(other);
+    DONE(zx_file_open(&file, path, ZX_CREATE_ONLY, 1024));
+    IS(made(&file.segment, a, 1, zx_i64(5)), 192);
+    DONE(zx_file_save(&file));
+    DONE(zx_file_save_as(&file, other, ZX_CREATE_ONLY));
+    DONE(zx_set(&file.segment, &a, 0, &six));
+    DONE(zx_file_close(&file));
+    DONE(zx_file_open(&file, path, ZX_OPEN_READ_ONLY, 0));
+    DONE(zx_get(&file.segment, &a, 0, &got));
+    IS(got.number, 6);
+    IS(zx_file_open(&file, other, ZX_OPEN_ONLY, 0), ZX_FILE_IS_OPEN);
+    zx_file_discard(&file);
+    DONE(zx_file_open(&file, other, ZX_OPEN_ONLY, 0));
+    DONE(zx_get(&file.segment, &a, 0, &got));
+    IS(got.number, 5);
+    zx_file_discard(&file);
+    IS(zx_file_open(&file, folder, ZX_OPEN_ONLY, 0), ZX_FILE_FOLDER);
+    zx_file_words(ZX_FILE_FOLDER, &text);
+    TEXT(text.at, text.len, "is a folder");
+}
+
 int main(int count, char **arguments) {
     if (count != 2) return 2;
     folder = arguments[1];
@@ -803,6 +834,7 @@ int main(int count, char **arguments) {
     what_is_no_image();
     what_is_passed_wrongly();
     words();
+    files();
     printf("every_call.c: %d checks, %d wrong\n", checks, wrong);
     return wrong != 0;
 }

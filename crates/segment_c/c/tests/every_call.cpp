@@ -93,13 +93,13 @@ void names() {
     IS(s.free_bytes(), 832);
 }
 
-/// The call fails with an error of the system.
-template <class Call> void fails(int line, Call call, std::errc wanted) {
+/// The call fails with an error of a file.
+template <class Call> void fails(int line, Call call, zx_code wanted, std::errc of_system) {
     checks++;
     try {
         call();
-    } catch (const std::system_error &error) {
-        if (error.code() == wanted) return;
+    } catch (const zaluxhoni::file_error &error) {
+        if (error.file_code() == wanted && error.code() == of_system) return;
         std::cout << error.what() << '\n';
     }
     wrong++;
@@ -107,33 +107,72 @@ template <class Call> void fails(int line, Call call, std::errc wanted) {
 }
 
 void files() {
-    const std::string path = path_of("file"), link = folder + "/cpp-link", beside = path + ".new";
+    const std::string path = path_of("file"), link = folder + "/cpp-link";
     std::filesystem::remove(path);
     std::filesystem::remove(link);
     segment s = segment::open_or_create_file(path, 1024);
+    IS(std::filesystem::file_size(path), 1024);
     s.construct<i64>("a", 5);
     s.save_file(path);
-    IS(segment::open_or_create_file(path, 7).get<i64>("a"), 5);
+    IS(segment::open_file(path, zaluxhoni::mode::read).get<i64>("a"), 5);
+    IS(segment::open_file(path, zaluxhoni::mode::copy_on_write).mode() == zaluxhoni::mode::copy_on_write, true);
+    THROWS(bad_mode, segment::open_file(path, static_cast<zaluxhoni::mode>(3)));
+    // it is held until it is closed
+    fails(__LINE__, [&] { segment::open_file(path); }, ZX_FILE_IN_USE, std::errc::operation_would_block);
+    fails(__LINE__, [&] { segment::open_or_create_file(path, 7); }, ZX_FILE_IN_USE, std::errc::operation_would_block);
+    fails(__LINE__, [&] { segment::create_file(path, 1024); }, ZX_FILE_EXISTS, std::errc::file_exists);
+    segment other = segment::create(1024);
+    fails(__LINE__, [&] { other.save_file(path); }, ZX_FILE_IN_USE, std::errc::operation_would_block);
+    THROWS(no_file, other.save_file());
     std::filesystem::permissions(path, std::filesystem::perms::owner_read | std::filesystem::perms::owner_write);
     std::filesystem::create_symlink(std::filesystem::path(path).filename(), link);
     s.set<i64>("a", 0, 6);
     s.save_file(link);
     IS(std::filesystem::is_symlink(link), true);
-    IS(segment::open_file(path).get<i64>("a"), 6);
+    IS(segment::open_file(path, zaluxhoni::mode::read).get<i64>("a"), 6);
     IS(static_cast<unsigned>(std::filesystem::status(path).permissions()), 0600u);
-    IS(std::filesystem::exists(beside), false);
-    // a folder stands in the place of the new file: it stays, and so does the old file
-    std::filesystem::create_directory(beside);
     s.set<i64>("a", 0, 7);
-    fails(__LINE__, [&] { s.save_file(path); }, std::errc::is_a_directory);
-    IS(std::filesystem::exists(beside), true);
-    IS(segment::open_file(path).get<i64>("a"), 6);
-    std::filesystem::remove(beside);
+    segment moved = std::move(s);
+    moved.save_file();
+    moved.set<i64>("a", 0, 8);
+    moved.close_file();
+    IS(moved.is_open(), false);
+    THROWS(closed, moved.close_file());
+    THROWS(closed, moved.save_file());
+    // what is not saved is not there
+    {
+        segment lost = segment::open_file(link);
+        IS(lost.get<i64>("a"), 8);
+        lost.set<i64>("a", 0, 9);
+    }
+    s = segment::open_file(path);
+    IS(s.get<i64>("a"), 8);
+    // a name that leads to another file
+    std::filesystem::remove(path);
+    s.set<i64>("a", 0, 9);
+    fails(__LINE__, [&] { s.save_file(); }, ZX_FILE_REPLACED, std::errc(ESTALE));
+    fails(__LINE__, [&] { s.save_file(path); }, ZX_FILE_REPLACED, std::errc(ESTALE));
+    fails(__LINE__, [&] { s.close_file(); }, ZX_FILE_REPLACED, std::errc(ESTALE));
+    s.save_file(path_of("other"));
+    IS(segment::open_file(path_of("other")).get<i64>("a"), 9);
+    s.close();
+    // one that is never saved is removed
+    { segment::create_file(path, 1024).construct<i64>("a", 5); }
+    IS(std::filesystem::exists(path), false);
+    IS(std::filesystem::exists(link), false);
+    fails(__LINE__, [&] { segment::open_file(link); }, ZX_FILE_DANGLES, std::errc::no_such_file_or_directory);
+    fails(__LINE__, [&] { segment::open_or_create_file(link, 1024); }, ZX_FILE_DANGLES, std::errc::no_such_file_or_directory);
     std::filesystem::remove(link);
-    fails(__LINE__, [&] { s.save_file(folder + "/none/a.seg"); }, std::errc::no_such_file_or_directory);
-    fails(__LINE__, [&] { segment::open_file(path_of("none")); }, std::errc::no_such_file_or_directory);
-    fails(__LINE__, [&] { segment::open_file(folder); }, std::errc::is_a_directory);
-    fails(__LINE__, [&] { segment::open_or_create_file(folder, 1024); }, std::errc::is_a_directory);
+    const std::string none = folder + "/none/a.seg", cut = path + '\0' + "more";
+    segment s2 = segment::create(1024);
+    fails(__LINE__, [&] { s2.save_file(none); }, ZX_FILE_MISSING, std::errc::no_such_file_or_directory);
+    fails(__LINE__, [&] { s2.save_file(cut); }, ZX_FILE_FAULT, std::errc::invalid_argument);
+    fails(__LINE__, [&] { segment::open_file(path_of("none")); }, ZX_FILE_MISSING, std::errc::no_such_file_or_directory);
+    fails(__LINE__, [&] { segment::open_file(folder); }, ZX_FILE_FOLDER, std::errc::is_a_directory);
+    fails(__LINE__, [&] { segment::open_or_create_file(folder, 1024); }, ZX_FILE_FOLDER, std::errc::is_a_directory);
+    fails(__LINE__, [&] { segment::open_file("/dev/null"); }, ZX_FILE_DEVICE, std::errc::invalid_argument);
+    THROWS(bad_size, segment::create_file(path, 7));
+    IS(std::filesystem::exists(path), false);
 }
 
 void index_and_object_do_not_both_fit() {

@@ -1,7 +1,11 @@
 """Every call of zaluxhoni.py, and by it each of zaluxhoni.h, on the worked examples of docs/LANGUAGE.md, section 11,
 and on what is raised. The files that it makes are in the folder that is its one argument."""
+import copy
 import gc
 import os
+import pickle
+import resource
+import signal
 import sys
 import threading
 import warnings
@@ -575,13 +579,17 @@ def one_thread():
 
 def files():
     path = new("file")
-    raises(FileNotFoundError, zaluxhoni.open, path, "w")
-    raises(FileNotFoundError, zaluxhoni.open, path, "r")
+    raises(zaluxhoni.FileMissing, zaluxhoni.open, path, "w")
+    raises(zaluxhoni.FileMissing, zaluxhoni.open, path, "r")
     with zaluxhoni.open(path, "x", size=1024) as s:
+        # it stands there at once, and belongs to the segment
+        with zaluxhoni.open(path, "r") as reader:
+            same((len(reader), reader.size), (0, 1024))
+        raises(zaluxhoni.FileInUse, zaluxhoni.open, path, "c")
         s.construct("i64", "a", 5)
-        same(os.path.exists(path), False)
     same(os.path.getsize(path), 1024)
-    raises(FileExistsError, zaluxhoni.open, path, "x")
+    raises(zaluxhoni.FileExists, zaluxhoni.open, path, "x")
+    same(issubclass(zaluxhoni.FileExists, (FileExistsError, zaluxhoni.Error)), True)
     with zaluxhoni.open(path, size=7) as s:
         same((s["a"], s.mode, s.size), (5, "write", 1024))
         s["a"] = 6
@@ -606,9 +614,83 @@ def files():
         pass
     with zaluxhoni.open(path, "w") as s:
         same(s["a"], 8)
-        raises(FileExistsError, s.save_as, path)
+        raises(zaluxhoni.FileExists, s.save_as, path)
     same(os.path.exists(path + ".new"), False)
     raises(zaluxhoni.BadMode, zaluxhoni.open, path, "rw")
+    raises(zaluxhoni.WrongKind, zaluxhoni.open, 5)
+    raises(zaluxhoni.BadName, zaluxhoni.open, "a\0b")
+    raises(zaluxhoni.NoFile, zaluxhoni.create(1024).save)
+    # a close without changes writes nothing
+    before = os.stat(path)
+    with zaluxhoni.open(path, "w") as s:
+        s["a"] = s["a"]
+    same((os.stat(path).st_ino, os.stat(path).st_mtime_ns), (before.st_ino, before.st_mtime_ns))
+    # nobody has the segment any more, and so nobody the file, whatever thread dropped it
+    dropped = [zaluxhoni.open(path, "w")]
+    with warnings.catch_warnings(record=True) as caught:
+        warnings.simplefilter("always")
+        thread = threading.Thread(target=dropped.clear)
+        thread.start()
+        thread.join()
+        gc.collect()
+    same([warning.category for warning in caught], [ResourceWarning])
+    zaluxhoni.open(path, "w").close()
+
+
+def what_is_refused_by_name():
+    s = zaluxhoni.create(1024)
+    for call in (lambda: s["none"], lambda: s.object("none"), lambda: s.__delitem__("none"), lambda: s.info("none")):
+        try:
+            call()
+        except zaluxhoni.NotFound as error:
+            same("'none'" in str(error), True)
+        else:
+            same("no error", "NotFound")
+    raises(zaluxhoni.WrongKind, copy.copy, s)
+    raises(zaluxhoni.WrongKind, copy.deepcopy, s)
+    raises(zaluxhoni.WrongKind, pickle.dumps, s)
+    same(s.is_open, True)
+    raises(zaluxhoni.WrongKind, zaluxhoni.load, 5)
+    raises(zaluxhoni.WrongKind, zaluxhoni.check, "text")
+    raises(zaluxhoni.WrongKind, s.construct, "vec<i64>", "v", 5)
+    raises(zaluxhoni.WrongKind, s.construct, "vec<string>", "v", 5)
+    raises(zaluxhoni.WrongKind, s.construct, "map<i64,i64>", "m", 5)
+    raises(zaluxhoni.WrongKind, s.construct, "i64[2]", "a", 5.0)
+
+
+def forked(call):
+    """What a child process prints."""
+    ours, theirs = os.pipe()
+    child = os.fork()
+    if child == 0:
+        try:
+            os.write(theirs, str(call()).encode())
+        finally:
+            os._exit(0)
+    os.close(theirs)
+    with os.fdopen(ours) as said:
+        answer = said.read()
+    os.waitpid(child, 0)
+    return answer
+
+
+def name_of_error(call):
+    try:
+        return call()
+    except Exception as error:
+        return type(error).__name__
+
+
+def a_process_that_forks():
+    path = new("forked")
+    s = zaluxhoni.open(path, "x", size=1024)
+    s["a"] = 5
+    same(forked(lambda: name_of_error(s.save)), "FileForked")
+    same(forked(lambda: name_of_error(s.close)), "FileForked")
+    same(forked(lambda: (s.discard(), os.path.exists(path))[1]), "True")
+    same(forked(lambda: name_of_error(lambda: zaluxhoni.open(path, "w"))), "FileInUse")
+    s.close()
+    same(forked(lambda: zaluxhoni.open(path, "w")["a"]), "5")
 
 
 def a_relative_path():
@@ -636,14 +718,25 @@ def files_that_fail():
     for mode in "rwcp":
         raises(zaluxhoni.Truncated, zaluxhoni.open, path, mode)
     os.unlink(path)
-    # a folder stands in the place of the new file: the old one stays, and the segment can still be saved elsewhere
+    # no descriptor is left, whatever is opened
+    descriptors = len(os.listdir("/proc/self/fd"))
+    for mode in "rwcp":
+        raises(zaluxhoni.IsFolder, zaluxhoni.open, folder, mode)
+        raises(zaluxhoni.IsDevice, zaluxhoni.open, "/dev/zero", mode)
+    same(len(os.listdir("/proc/self/fd")), descriptors)
+    # a save that fails: the old file stays, and the segment can still be saved
     path = new("kept")
     zaluxhoni.open(path, size=1024).close()
-    os.mkdir(path + ".new")
     s = zaluxhoni.open(path, "w")
     s["a"] = 5
-    raises(IsADirectoryError, s.save)
-    os.rmdir(path + ".new")
+    limits = resource.getrlimit(resource.RLIMIT_FSIZE)
+    signal.signal(signal.SIGXFSZ, signal.SIG_IGN)
+    resource.setrlimit(resource.RLIMIT_FSIZE, (512, limits[1]))
+    try:
+        raises(zaluxhoni.FileFault, s.save)
+        raises(zaluxhoni.FileFault, s.close)
+    finally:
+        resource.setrlimit(resource.RLIMIT_FSIZE, limits)
     with zaluxhoni.open(path, "r") as kept:
         same(list(kept), [])
     s.close()
@@ -675,7 +768,7 @@ for case in (an_anonymous_object, names, index_and_object_do_not_both_fit, array
              places_reserved_in_the_indexes, best_fit, storage_is_lengthened_then_replaced, a_string_grows_and_shrinks, a_map,
              refusals_of_a_vector, a_vector_of_strings, objects_found_or_made, every_kind_of_scalar, many_at_once, one_of_each,
              a_segment_as_a_dict, maps_are_made_whole, size_and_region, what_is_refused, one_thread, files,
-             a_relative_path, files_that_fail, what_is_not_closed):
+             what_is_refused_by_name, a_process_that_forks, a_relative_path, files_that_fail, what_is_not_closed):
     try:
         case()
     except Exception as error:

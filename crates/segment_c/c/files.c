@@ -1,0 +1,550 @@
+/* The one file layer, for C, C++ and Python: zaluxhoni_files.h says what each call does. It is tested, not proved. */
+#define _GNU_SOURCE
+#include "zaluxhoni_files.h"
+
+#include <errno.h>
+#include <fcntl.h>
+#include <pthread.h>
+#include <stdio.h>
+#include <stdlib.h>
+#include <sys/file.h>
+#include <sys/stat.h>
+#include <unistd.h>
+
+enum { LARGEST = 1 << 30, TRIES = 64, PAGE = 4096, PIECE = 8 * PAGE };
+
+/* The name meanwhile leads elsewhere: a code that no caller sees. */
+enum { AGAIN = 1 };
+
+/* A file that is open for writing. */
+struct zx_held_file {
+    struct zx_held_file *next; /* in the list of all of this process */
+    pid_t owner;               /* the process that opened it */
+    int folder;                /* where the name stands */
+    int file;                  /* with its lock; -1 if none exists under the name */
+    bool is_new;               /* created and never saved */
+    bool is_unsynced;          /* saved, but the folder was not synced */
+    char name[];               /* leads through no link */
+};
+
+struct image {
+    uint8_t *bytes;
+    uint64_t len;
+};
+
+/* ---- codes, with the errno that goes with them */
+
+static zx_code faulty(zx_file *file, zx_code code, int error) {
+    file->error = error;
+    return code;
+}
+
+static zx_code fault(zx_file *file) { return faulty(file, ZX_FILE_FAULT, errno); }
+
+/* What a call returns: an errno comes with the codes of files alone. */
+static zx_code answered(zx_file *file, zx_code code) {
+    if (code < ZX_FILE_IN_USE || code > ZX_FILE_FORKED) file->error = 0;
+    return code;
+}
+
+void zx_file_words(zx_code code, zx_text *words) {
+    static const char *const all[] = {
+        "no file", "file is open", "file in use", "file exists", "no such file", "link leads to nothing", "is a folder",
+        "is a device", "is a pipe", "file too large", "file fault", "file was replaced", "saved, but folder not synced",
+        "file of another process",
+    };
+    if (ZX_FILE_NONE <= code && code <= ZX_FILE_FORKED) {
+        words->at = (const uint8_t *)all[code - ZX_FILE_NONE];
+        words->len = strlen(all[code - ZX_FILE_NONE]);
+    } else {
+        zx_words(code, words);
+    }
+}
+
+/* ---- all files that are held: a forked process closes its copies, or it would keep its parent's locks */
+
+static pthread_mutex_t guard = PTHREAD_MUTEX_INITIALIZER;
+static pthread_once_t is_watching = PTHREAD_ONCE_INIT;
+static struct zx_held_file *all_held;
+
+static void before_fork(void) { pthread_mutex_lock(&guard); }
+static void after_fork(void) { pthread_mutex_unlock(&guard); }
+
+static void close_all(struct zx_held_file *held) {
+    if (held->file >= 0) close(held->file);
+    if (held->folder >= 0) close(held->folder);
+    held->file = held->folder = -1;
+}
+
+static void in_child(void) {
+    for (struct zx_held_file *each = all_held; each; each = each->next) close_all(each);
+    all_held = NULL;
+    pthread_mutex_unlock(&guard);
+}
+
+static void watch(void) { pthread_atfork(before_fork, after_fork, in_child); }
+
+static void enlist(struct zx_held_file *held) {
+    pthread_once(&is_watching, watch);
+    pthread_mutex_lock(&guard);
+    held->next = all_held;
+    all_held = held;
+    pthread_mutex_unlock(&guard);
+}
+
+/* Gives the right to write back, even if a child that fork knows nothing of has a copy of the descriptor. */
+static void release(struct zx_held_file *held) {
+    pthread_mutex_lock(&guard);
+    struct zx_held_file **at = &all_held;
+    while (*at && *at != held) at = &(*at)->next;
+    if (*at) *at = held->next;
+    pthread_mutex_unlock(&guard);
+    if (held->file >= 0 && held->owner == getpid()) flock(held->file, LOCK_UN);
+    close_all(held);
+    free(held);
+}
+
+/* ---- bytes */
+
+static struct image room_for(uint64_t len) {
+    struct image image = { malloc(len ? len : 1), len };
+    return image;
+}
+
+/* Copies the image of the segment into memory of its own. */
+static zx_code image_of(zx_segment *segment, struct image *image) {
+    uint64_t size;
+    zx_code code = zx_size(segment, &size);
+    if (code != ZX_DONE) return code;
+    *image = room_for(size);
+    if (!image->bytes) return ZX_NO_MEMORY;
+    code = zx_save(segment, image->bytes, image->len);
+    if (code != ZX_DONE) free(image->bytes);
+    return code;
+}
+
+/* Reads `len` bytes from an offset on, or fewer at the end of the file. -1 if it fails. */
+static ssize_t read_at(int file, uint8_t *bytes, size_t len, off_t from) {
+    size_t count = 0;
+    while (count < len) {
+        ssize_t more = pread(file, bytes + count, len - count, from + (off_t)count);
+        if (more < 0 && errno == EINTR) continue;
+        if (more < 0) return -1;
+        if (more == 0) break;
+        count += (size_t)more;
+    }
+    return (ssize_t)count;
+}
+
+static bool write_at(int file, const uint8_t *bytes, size_t len, off_t from) {
+    while (len > 0) {
+        ssize_t more = pwrite(file, bytes, len, from);
+        if (more < 0 && errno == EINTR) continue;
+        if (more < 0) return false;
+        bytes += more, len -= (size_t)more, from += more;
+    }
+    return true;
+}
+
+static size_t at_most(size_t len, size_t most) { return len < most ? len : most; }
+
+static bool is_zero(const uint8_t *bytes, size_t len) {
+    return bytes[0] == 0 && memcmp(bytes, bytes + 1, len - 1) == 0;
+}
+
+/* Writes an image into an empty file. Pages of zeros are holes. */
+static bool write_image(int file, const struct image *image) {
+    size_t at = 0;
+    while (at < image->len) {
+        size_t end = at;
+        while (end < image->len && !is_zero(image->bytes + end, at_most(image->len - end, PAGE)))
+            end += at_most(image->len - end, PAGE);
+        if (!write_at(file, image->bytes + at, end - at, (off_t)at)) return false;
+        at = end < image->len ? end + at_most(image->len - end, PAGE) : end;
+    }
+    return ftruncate(file, (off_t)image->len) == 0;
+}
+
+/* Whether the file has just the bytes of the image. */
+static bool has_image(int file, const struct image *image) {
+    uint8_t piece[PIECE];
+    struct stat found;
+    if (fstat(file, &found) != 0 || (uint64_t)found.st_size != image->len) return false;
+    for (size_t at = 0; at < image->len; at += PIECE) {
+        size_t len = at_most(image->len - at, PIECE);
+        if (read_at(file, piece, len, (off_t)at) != (ssize_t)len) return false;
+        if (memcmp(piece, image->bytes + at, len) != 0) return false;
+    }
+    return true;
+}
+
+/* Syncs a file or a folder. What does not support that is on no disk. */
+static bool sync_one(int file) { return fsync(file) == 0 || errno == EINVAL; }
+
+/* Syncs the folder, or all of its disk if the folder may not be read. */
+static zx_code sync_name(zx_file *file, struct zx_held_file *held) {
+    int folder = openat(held->folder, ".", O_RDONLY | O_DIRECTORY | O_CLOEXEC);
+    bool is_synced = folder >= 0 ? sync_one(folder) : syncfs(held->file) == 0;
+    int error = errno;
+    if (folder >= 0) close(folder);
+    held->is_new = false;
+    held->is_unsynced = !is_synced;
+    return is_synced ? (zx_code)ZX_DONE : faulty(file, ZX_FILE_UNSYNCED, error);
+}
+
+/* ---- a new file, which gets its name when all of it is synced */
+
+/* Gives a file the owner, group and rights of another, as far as the process may. Otherwise who saves is the owner, and
+   another group gets what others may do. */
+static bool take_rights(int made, const struct stat *old) {
+    struct stat own;
+    if (fstat(made, &own) != 0) return false;
+    mode_t mode = old->st_mode & 07777;
+    if ((own.st_uid != old->st_uid || own.st_gid != old->st_gid) && fchown(made, old->st_uid, old->st_gid) != 0) {
+        mode &= 0777;
+        if (own.st_gid != old->st_gid && fchown(made, (uid_t)-1, old->st_gid) != 0)
+            mode &= 0707 | (mode & 07) << 3;
+    }
+    return fchmod(made, mode) == 0;
+}
+
+/* Locks a new file and then fills it. It gets the rights of `old`, if that is not null. */
+static bool fill(int made, const struct image *image, const struct stat *old) {
+    if (flock(made, LOCK_EX | LOCK_NB) != 0 && errno == EWOULDBLOCK) return false;
+    return (!old || take_rights(made, old)) && write_image(made, image) && sync_one(made);
+}
+
+/* Gives a name to a file that has none. EEXIST if something has it. */
+static bool give_name(int made, int folder, const char *name) {
+    char self[40];
+    snprintf(self, sizeof self, "/proc/self/fd/%d", made);
+    return linkat(AT_FDCWD, self, folder, name, AT_SYMLINK_FOLLOW) == 0 ||
+           (errno == ENOENT && linkat(made, "", folder, name, AT_EMPTY_PATH) == 0);
+}
+
+static int closed_with(int file, int error) {
+    close(file);
+    errno = error;
+    return -1;
+}
+
+/* Creates a file that does not exist. It gets its name when it is whole; on a file system without unnamed files,
+   before its first byte, and is removed if it does not become whole. -1 if it fails. */
+static int make(int folder, const char *name, const struct image *image, const struct stat *old) {
+    mode_t mode = old ? 0600 : 0666;
+    int made = openat(folder, ".", O_TMPFILE | O_RDWR | O_CLOEXEC, mode);
+    if (made >= 0) {
+        if (!fill(made, image, old)) return closed_with(made, errno);
+        if (give_name(made, folder, name)) return made;
+        if (errno == EEXIST) return closed_with(made, EEXIST);
+        close(made);
+    }
+    made = openat(folder, name, O_RDWR | O_CREAT | O_EXCL | O_NOFOLLOW | O_CLOEXEC, mode);
+    if (made < 0 || fill(made, image, old)) return made;
+    int error = errno;
+    unlinkat(folder, name, 0);
+    return closed_with(made, error);
+}
+
+/* The name of the file that will replace a file: only who holds that one uses it. */
+static void spare_name(char name[40], const struct stat *old) {
+    snprintf(name, 40, ".zaluxhoni-%llx", (unsigned long long)old->st_ino);
+}
+
+/* ---- what exists at a path */
+
+static bool is_same(const struct stat *one, const struct stat *other) {
+    return one->st_dev == other->st_dev && one->st_ino == other->st_ino;
+}
+
+/* Whether it can be a segment's file. */
+static zx_code judge(zx_file *file, const struct stat *found) {
+    if (S_ISDIR(found->st_mode)) return faulty(file, ZX_FILE_FOLDER, EISDIR);
+    if (S_ISCHR(found->st_mode) || S_ISBLK(found->st_mode)) return faulty(file, ZX_FILE_DEVICE, EINVAL);
+    if (!S_ISREG(found->st_mode)) return faulty(file, ZX_FILE_PIPE, ESPIPE);
+    if (found->st_size > LARGEST) return faulty(file, ZX_FILE_TOO_LARGE, EFBIG);
+    return ZX_DONE;
+}
+
+/* What exists at the path, for a call that opens. ZX_FILE_MISSING only if nothing does. */
+static zx_code look(zx_file *file, const char *path) {
+    struct stat found;
+    if (stat(path, &found) == 0) return judge(file, &found);
+    if (errno != ENOENT) return fault(file);
+    return faulty(file, lstat(path, &found) == 0 && S_ISLNK(found.st_mode) ? ZX_FILE_DANGLES : ZX_FILE_MISSING, ENOENT);
+}
+
+/* Opens the folder of a path, and keeps its last name. */
+static zx_code find(zx_file *file, const char *path, struct zx_held_file **found) {
+    const char *slash = strrchr(path, '/'), *name = slash ? slash + 1 : path;
+    size_t len = strlen(name), before = (size_t)(name - path);
+    if (len == 0) return faulty(file, before ? ZX_FILE_FOLDER : ZX_FILE_MISSING, before ? EISDIR : ENOENT);
+    struct zx_held_file *held = calloc(1, sizeof *held + len + 1);
+    char *folder = malloc(before + 2);
+    if (held && folder) {
+        memcpy(held->name, name, len);
+        memcpy(folder, path, before);
+        memcpy(folder + before, ".", 2);
+        held->owner = getpid();
+        held->file = -1;
+        held->folder = open(folder, O_PATH | O_DIRECTORY | O_CLOEXEC);
+    }
+    int error = errno;
+    bool has_memory = held && folder;
+    free(folder);
+    if (has_memory && held->folder >= 0) {
+        enlist(held);
+        *found = held;
+        return ZX_DONE;
+    }
+    free(held);
+    return has_memory ? faulty(file, error == ENOENT ? ZX_FILE_MISSING : ZX_FILE_FAULT, error) : (zx_code)ZX_NO_MEMORY;
+}
+
+/* ---- the right to write */
+
+/* Opens and locks the file of a name that was found. AGAIN if the name meanwhile leads to another one. */
+static zx_code lock(zx_file *file, struct zx_held_file *held) {
+    struct stat named, opened;
+    held->file = openat(held->folder, held->name, O_RDWR | O_NOFOLLOW | O_NONBLOCK | O_NOCTTY | O_CLOEXEC);
+    if (held->file < 0) return errno == ENOENT || errno == ELOOP ? (zx_code)AGAIN : fault(file);
+    if (fstat(held->file, &opened) != 0) return fault(file);
+    zx_code code = judge(file, &opened);
+    if (code != ZX_DONE) return code;
+    // a file system without locks refuses nobody
+    if (flock(held->file, LOCK_EX | LOCK_NB) != 0 && errno == EWOULDBLOCK) return faulty(file, ZX_FILE_IN_USE, errno);
+    if (fstatat(held->folder, held->name, &named, AT_SYMLINK_NOFOLLOW) != 0 || !is_same(&named, &opened)) return AGAIN;
+    // what one that was killed left beside it
+    char spare[40];
+    spare_name(spare, &opened);
+    unlinkat(held->folder, spare, 0);
+    return ZX_DONE;
+}
+
+/* Finds what the mode wants: the file, locked; or, if it is to be created, its folder and name. */
+static zx_code hold_once(zx_file *file, const char *path, uint32_t mode, struct zx_held_file **held) {
+    struct stat found;
+    if (mode == ZX_CREATE_ONLY && lstat(path, &found) == 0) return faulty(file, ZX_FILE_EXISTS, EEXIST);
+    zx_code code = look(file, path);
+    if (code == ZX_FILE_MISSING && mode != ZX_OPEN_ONLY) return find(file, path, held);
+    if (code != ZX_DONE) return code;
+    if (mode == ZX_CREATE_ONLY) return AGAIN;
+    char *real = realpath(path, NULL);
+    if (!real) return errno == ENOENT ? (zx_code)AGAIN : errno == ENOMEM ? (zx_code)ZX_NO_MEMORY : fault(file);
+    code = find(file, real, held);
+    free(real);
+    if (code == ZX_FILE_MISSING) return AGAIN;
+    if (code != ZX_DONE) return code;
+    code = lock(file, *held);
+    if (code != ZX_DONE) release(*held);
+    return code;
+}
+
+static zx_code hold(zx_file *file, const char *path, uint32_t mode, struct zx_held_file **held) {
+    for (int tries = 0; tries < TRIES; tries++) {
+        zx_code code = hold_once(file, path, mode, held);
+        if (code != AGAIN) return code;
+    }
+    return faulty(file, ZX_FILE_IN_USE, EWOULDBLOCK);
+}
+
+/* ---- a file opened */
+
+/* Opens the segment of the file's bytes. */
+static zx_code read_segment(zx_file *file, int from, uint32_t how) {
+    struct stat found;
+    if (fstat(from, &found) != 0) return fault(file);
+    zx_code code = judge(file, &found);
+    if (code != ZX_DONE) return code;
+    struct image image = room_for((uint64_t)found.st_size);
+    if (!image.bytes) return ZX_NO_MEMORY;
+    ssize_t len = read_at(from, image.bytes, image.len, 0);
+    if (len < 0) {
+        code = fault(file);
+    } else {
+        uint64_t capacity = len < 16 ? 16 : ((uint64_t)len + 15) / 16 * 16;
+        code = zx_open(&file->segment, image.bytes, (size_t)len, capacity, how);
+        // the image says more bytes than there are: its class is the answer
+        if (code == ZX_SHORT_REGION) code = zx_check(image.bytes, (size_t)len);
+    }
+    free(image.bytes);
+    return code;
+}
+
+static zx_code open_unheld(zx_file *file, const char *path, uint32_t how) {
+    zx_code code = look(file, path);
+    if (code != ZX_DONE) return code;
+    int from = open(path, O_RDONLY | O_NONBLOCK | O_NOCTTY | O_CLOEXEC);
+    if (from < 0) return fault(file);
+    code = read_segment(file, from, how);
+    close(from);
+    return code;
+}
+
+/* Creates the file of a name. AGAIN if one exists now. */
+static zx_code make_held(zx_file *file, struct zx_held_file *held, const struct image *image) {
+    held->file = make(held->folder, held->name, image, NULL);
+    held->is_new = true;
+    if (held->file >= 0) return ZX_DONE;
+    return errno == EEXIST || errno == EWOULDBLOCK ? (zx_code)AGAIN : fault(file);
+}
+
+/* Creates the file with an empty segment. */
+static zx_code make_empty(zx_file *file, struct zx_held_file *held, uint64_t size) {
+    struct image image;
+    zx_code code = zx_create(&file->segment, size);
+    if (code == ZX_DONE) code = image_of(&file->segment, &image);
+    if (code != ZX_DONE) return code;
+    code = make_held(file, held, &image);
+    free(image.bytes);
+    return code;
+}
+
+static zx_code open_held(zx_file *file, const char *path, uint32_t mode, uint64_t size) {
+    for (int tries = 0; tries < TRIES; tries++) {
+        struct zx_held_file *held;
+        zx_code code = hold(file, path, mode, &held);
+        if (code != ZX_DONE) return code;
+        code = held->file >= 0 ? read_segment(file, held->file, ZX_WRITE) : make_empty(file, held, size);
+        if (code == ZX_DONE) {
+            file->held = held;
+            return ZX_DONE;
+        }
+        release(held);
+        zx_close(&file->segment);
+        if (code != AGAIN) return code;
+    }
+    return faulty(file, ZX_FILE_IN_USE, EWOULDBLOCK);
+}
+
+zx_code zx_file_open(zx_file *file, const char *path, uint32_t mode, uint64_t size) {
+    file->error = 0;
+    if (!path) return ZX_NULL_SLICE;
+    if (mode < ZX_CREATE_ONLY || mode > ZX_OPEN_COPY_ON_WRITE) return ZX_BAD_MODE;
+    if (file->segment.at || file->held) return ZX_FILE_IS_OPEN;
+    return answered(file, mode == ZX_OPEN_READ_ONLY       ? open_unheld(file, path, ZX_READ)
+                          : mode == ZX_OPEN_COPY_ON_WRITE ? open_unheld(file, path, ZX_COPY_ON_WRITE)
+                                                          : open_held(file, path, mode, size));
+}
+
+/* ---- a file saved */
+
+/* Puts a new file with the image in the place of the one that is held. */
+static zx_code replace(zx_file *file, struct zx_held_file *held, const struct image *image) {
+    struct stat old, named;
+    char spare[40];
+    if (fstat(held->file, &old) != 0) return fault(file);
+    spare_name(spare, &old);
+    unlinkat(held->folder, spare, 0);
+    int made = make(held->folder, spare, image, &old);
+    if (made < 0) return fault(file);
+    zx_code code = ZX_DONE;
+    if (fstatat(held->folder, held->name, &named, AT_SYMLINK_NOFOLLOW) != 0 || !is_same(&named, &old))
+        code = faulty(file, ZX_FILE_REPLACED, ESTALE);
+    else if (renameat(held->folder, spare, held->folder, held->name) != 0)
+        code = fault(file);
+    if (code != ZX_DONE) {
+        unlinkat(held->folder, spare, 0);
+        close(made);
+        return code;
+    }
+    int before = held->file;
+    held->file = made;
+    flock(before, LOCK_UN);
+    close(before);
+    return sync_name(file, held);
+}
+
+static zx_code save_held(zx_file *file, struct zx_held_file *held, const struct image *image) {
+    if (!has_image(held->file, image)) return replace(file, held, image);
+    return held->is_new || held->is_unsynced ? sync_name(file, held) : (zx_code)ZX_DONE;
+}
+
+zx_code zx_file_save(zx_file *file) {
+    struct image image;
+    uint32_t how;
+    file->error = 0;
+    zx_code code = zx_mode(&file->segment, &how);
+    if (code != ZX_DONE) return code;
+    if (how != ZX_WRITE) return ZX_READ_ONLY;
+    if (!file->held) return ZX_FILE_NONE;
+    if (file->held->owner != getpid()) return faulty(file, ZX_FILE_FORKED, EPERM);
+    code = image_of(&file->segment, &image);
+    if (code != ZX_DONE) return code;
+    code = save_held(file, file->held, &image);
+    free(image.bytes);
+    return answered(file, code);
+}
+
+/* Whether the path leads to the file that is held. */
+static bool leads_home(const struct zx_held_file *held, const char *path) {
+    struct stat named, own;
+    return held && stat(path, &named) == 0 && fstat(held->file, &own) == 0 && is_same(&named, &own);
+}
+
+/* Whether both have one name in one folder. */
+static bool is_one_name(const struct zx_held_file *held, const struct zx_held_file *other) {
+    struct stat one, another;
+    return held && strcmp(held->name, other->name) == 0 && fstat(held->folder, &one) == 0 &&
+           fstat(other->folder, &another) == 0 && is_same(&one, &another);
+}
+
+static zx_code put(zx_file *file, const char *path, uint32_t mode, const struct image *image) {
+    for (int tries = 0; tries < TRIES; tries++) {
+        struct zx_held_file *held;
+        zx_code code = hold(file, path, mode, &held);
+        if (code != ZX_DONE) return code;
+        if (mode != ZX_CREATE_ONLY && is_one_name(file->held, held)) {
+            // its own file was there, and is not any more
+            code = faulty(file, ZX_FILE_REPLACED, ESTALE);
+        } else if (held->file < 0) {
+            code = make_held(file, held, image);
+            if (code == ZX_DONE) code = sync_name(file, held);
+        } else {
+            code = save_held(file, held, image);
+        }
+        release(held);
+        if (code != AGAIN) return code;
+    }
+    return faulty(file, ZX_FILE_IN_USE, EWOULDBLOCK);
+}
+
+zx_code zx_file_save_as(zx_file *file, const char *path, uint32_t mode) {
+    struct image image;
+    file->error = 0;
+    if (!path) return ZX_NULL_SLICE;
+    if (mode < ZX_CREATE_ONLY || mode > ZX_OPEN_OR_CREATE) return ZX_BAD_MODE;
+    if (mode != ZX_CREATE_ONLY && file->held) {
+        if (file->held->owner != getpid()) return faulty(file, ZX_FILE_FORKED, EPERM);
+        if (leads_home(file->held, path)) return zx_file_save(file);
+    }
+    zx_code code = image_of(&file->segment, &image);
+    if (code != ZX_DONE) return code;
+    code = put(file, path, mode, &image);
+    free(image.bytes);
+    return answered(file, code);
+}
+
+/* ---- a file closed */
+
+zx_code zx_file_close(zx_file *file) {
+    zx_code code = file->held && file->segment.at ? zx_file_save(file) : (zx_code)ZX_DONE;
+    if (code != ZX_DONE && code != ZX_FILE_UNSYNCED) return code;
+    int32_t error = code == ZX_DONE ? 0 : file->error;
+    zx_file_discard(file);
+    file->error = error;
+    return code;
+}
+
+void zx_file_discard(zx_file *file) {
+    struct zx_held_file *held = file->held;
+    struct stat named, own;
+    file->error = 0;
+    file->held = NULL;
+    zx_close(&file->segment);
+    if (!held) return;
+    if (held->is_new && held->owner == getpid() && fstat(held->file, &own) == 0 &&
+        fstatat(held->folder, held->name, &named, AT_SYMLINK_NOFOLLOW) == 0 && is_same(&named, &own))
+        unlinkat(held->folder, held->name, 0);
+    release(held);
+}

@@ -1,0 +1,586 @@
+/* files FOLDER: zaluxhoni_files.h where the system fails. Each call of files.c that the system can refuse is made to
+   fail once, in each of a few scenes, on a system that has files without names and on ones that lack what they take;
+   and threads have a file each. It is linked over wrappers of these calls, which .ci/c-tests names, and files.c
+   itself. */
+#define _GNU_SOURCE
+#include "zaluxhoni_files.h"
+
+#include <dirent.h>
+#include <errno.h>
+#include <fcntl.h>
+#include <pthread.h>
+#include <signal.h>
+#include <stdarg.h>
+#include <stdio.h>
+#include <stdlib.h>
+#include <sys/stat.h>
+#include <sys/syscall.h>
+#include <sys/wait.h>
+#include <unistd.h>
+
+static int wrong, cases;
+static char room[400];
+
+#define IS(got, wanted) \
+    do { \
+        long long is = (long long)(got), should = (long long)(wanted); \
+        cases++; \
+        if (is != should) { \
+            printf("files.c:%d: WRONG %s: %lld, not %lld, %s\n", __LINE__, #got, is, should, of_case()); \
+            wrong++; \
+        } \
+    } while (0)
+
+/* ---- calls that fail */
+
+/* What the system lacks: files without names; giving them one by /proc; giving them one at all; locks; owners. */
+enum { HAS_ALL, NO_NAMELESS, NO_PROC, NO_NAMING, NO_LOCKS, NO_OWNERS, SYSTEMS };
+/* How a call fails: with an error; with another one, which a call that is asked again does not have; in part. */
+enum { AT_ONCE, INTERRUPTED, IN_PART, WAYS };
+
+static __thread int countdown, way, lacks;
+static __thread const char *failed;
+/* The rights that a file has before a byte goes in, where they are looked at. */
+static mode_t wanted_rights;
+/* A path under which nothing stands while bytes are written. */
+static __thread const char *absent;
+/* Whether stat takes a pipe for a file, as where one is put in the place of the other meanwhile. */
+static bool is_blind;
+
+static const char *of_case(void) {
+    static __thread char all[200];
+    snprintf(all, sizeof all, "where %s fails, way %d, system %d", failed ? failed : "nothing", way, lacks);
+    return all;
+}
+
+/* Whether the next call fails. */
+static bool fails(const char *name, int error) {
+    if (countdown == 0 || --countdown != 0) return false;
+    failed = name;
+    errno = error;
+    return true;
+}
+
+#define WRAPPED(answer, name, parameters, ...) \
+    answer __real_##name parameters; \
+    answer __wrap_##name parameters; \
+    answer __wrap_##name parameters { \
+        if (way == AT_ONCE && fails(#name, EIO)) return -1; \
+        return __real_##name(__VA_ARGS__); \
+    }
+
+WRAPPED(int, fstat, (int file, struct stat *found), file, found)
+WRAPPED(int, lstat, (const char *path, struct stat *found), path, found)
+WRAPPED(int, fstatat, (int folder, const char *path, struct stat *found, int flags), folder, path, found, flags)
+WRAPPED(int, ftruncate, (int file, off_t len), file, len)
+WRAPPED(int, fsync, (int file), file)
+WRAPPED(int, syncfs, (int file), file)
+WRAPPED(int, fchmod, (int file, mode_t mode), file, mode)
+WRAPPED(int, renameat, (int from, const char *one, int to, const char *other), from, one, to, other)
+WRAPPED(int, unlinkat, (int folder, const char *path, int flags), folder, path, flags)
+
+int __real_stat(const char *path, struct stat *found);
+int __wrap_stat(const char *path, struct stat *found);
+int __wrap_stat(const char *path, struct stat *found) {
+    if (way == AT_ONCE && fails("stat", EIO)) return -1;
+    int answer = __real_stat(path, found);
+    if (is_blind) found->st_mode = S_IFREG | 0644;
+    return answer;
+}
+
+int __real_flock(int file, int how);
+int __wrap_flock(int file, int how);
+int __wrap_flock(int file, int how) {
+    if (lacks == NO_LOCKS) return errno = ENOLCK, -1;
+    if (way == AT_ONCE && fails("flock", EWOULDBLOCK)) return -1;
+    return __real_flock(file, how);
+}
+
+int __real_fchown(int file, uid_t user, gid_t group);
+int __wrap_fchown(int file, uid_t user, gid_t group);
+int __wrap_fchown(int file, uid_t user, gid_t group) {
+    if (lacks == NO_OWNERS) return errno = EPERM, -1;
+    return __real_fchown(file, user, group);
+}
+
+int __real_linkat(int from, const char *one, int to, const char *other, int flags);
+int __wrap_linkat(int from, const char *one, int to, const char *other, int flags);
+int __wrap_linkat(int from, const char *one, int to, const char *other, int flags) {
+    if (lacks == NO_NAMING || (lacks == NO_PROC && one[0])) return errno = ENOENT, -1;
+    if (way == AT_ONCE && fails("linkat", EIO)) return -1;
+    return __real_linkat(from, one, to, other, flags);
+}
+
+int __real_open(const char *path, int flags, ...);
+int __wrap_open(const char *path, int flags, ...);
+int __wrap_open(const char *path, int flags, ...) {
+    if (way == AT_ONCE && fails("open", EIO)) return -1;
+    return __real_open(path, flags);
+}
+
+int __real_openat(int folder, const char *path, int flags, ...);
+int __wrap_openat(int folder, const char *path, int flags, ...);
+int __wrap_openat(int folder, const char *path, int flags, ...) {
+    va_list rest;
+    va_start(rest, flags);
+    mode_t mode = flags & (O_CREAT | O_TMPFILE) ? va_arg(rest, mode_t) : 0;
+    va_end(rest);
+    if (flags & O_CREAT && wanted_rights) IS(mode, 0600);
+    if ((flags & O_TMPFILE) == O_TMPFILE && lacks == NO_NAMELESS) return errno = EOPNOTSUPP, -1;
+    if (way == AT_ONCE && fails("openat", EIO)) return -1;
+    return __real_openat(folder, path, flags, mode);
+}
+
+ssize_t __real_pread(int file, void *bytes, size_t len, off_t at);
+ssize_t __wrap_pread(int file, void *bytes, size_t len, off_t at);
+ssize_t __wrap_pread(int file, void *bytes, size_t len, off_t at) {
+    if (fails("pread", way == INTERRUPTED ? EINTR : EIO)) {
+        if (way != IN_PART) return -1;
+        len = len / 2 + 1;
+    }
+    return __real_pread(file, bytes, len, at);
+}
+
+ssize_t __real_pwrite(int file, const void *bytes, size_t len, off_t at);
+ssize_t __wrap_pwrite(int file, const void *bytes, size_t len, off_t at);
+ssize_t __wrap_pwrite(int file, const void *bytes, size_t len, off_t at) {
+    struct stat found;
+    if (wanted_rights && __real_fstat(file, &found) == 0) IS(found.st_mode & 07777, wanted_rights);
+    // where a file without a name is refused, it has its name from the start
+    bool has_name = failed && (strcmp(failed, "openat") == 0 || strcmp(failed, "linkat") == 0);
+    if (absent && !has_name) IS(access(absent, F_OK), -1);
+    if (fails("pwrite", way == INTERRUPTED ? EINTR : ENOSPC)) {
+        if (way != IN_PART) return -1;
+        len = len / 2 + 1;
+    }
+    return __real_pwrite(file, bytes, len, at);
+}
+
+void *__real_malloc(size_t size);
+void *__wrap_malloc(size_t size);
+void *__wrap_malloc(size_t size) { return way == AT_ONCE && fails("malloc", ENOMEM) ? NULL : __real_malloc(size); }
+
+void *__real_calloc(size_t count, size_t size);
+void *__wrap_calloc(size_t count, size_t size);
+void *__wrap_calloc(size_t count, size_t size) {
+    return way == AT_ONCE && fails("calloc", ENOMEM) ? NULL : __real_calloc(count, size);
+}
+
+char *__real_realpath(const char *path, char *found);
+char *__wrap_realpath(const char *path, char *found);
+char *__wrap_realpath(const char *path, char *found) {
+    return way == AT_ONCE && fails("realpath", EACCES) ? NULL : __real_realpath(path, found);
+}
+
+/* ---- what is there */
+
+static int count_in(const char *folder) {
+    int count = 0;
+    DIR *all = opendir(folder);
+    while (all && readdir(all)) count++;
+    if (all) closedir(all);
+    return count - 2;
+}
+
+static int open_descriptors(void) { return count_in("/proc/self/fd"); }
+
+static zx_code set(zx_file *file, int64_t number) {
+    zx_key key = zx_name("n");
+    zx_value value = zx_i64(number);
+    uint64_t handle;
+    uint32_t found;
+    zx_code code = zx_find_or_construct(&file->segment, &key, 1, &value, &handle, &found);
+    return code == ZX_DONE ? zx_set(&file->segment, &key, 0, &value) : code;
+}
+
+/* What stands under the path: the number, 0 where the segment has none, -1 where there is no file, -2 where it is
+   none. */
+static int64_t stands(const char *path) {
+    zx_file file = ZX_CLOSED_FILE;
+    zx_code code = zx_file_open(&file, path, ZX_OPEN_READ_ONLY, 0);
+    zx_key key = zx_name("n");
+    zx_value value = zx_i64(0);
+    if (code == ZX_FILE_MISSING) return -1;
+    if (code != ZX_DONE) return -2;
+    zx_get(&file.segment, &key, 0, &value);
+    zx_file_discard(&file);
+    return value.number;
+}
+
+/* Whether the file has just the bytes of the segment's image. */
+static bool is_saved(zx_file *file, const char *path) {
+    static uint8_t image[1 << 17], bytes[1 << 17];
+    uint64_t size;
+    if (zx_size(&file->segment, &size) != ZX_DONE) return false;
+    if (zx_save(&file->segment, image, sizeof image) != ZX_DONE) return false;
+    FILE *from = fopen(path, "rb");
+    size_t len = from ? fread(bytes, 1, sizeof bytes, from) : 0;
+    if (from) fclose(from);
+    return len == size && memcmp(image, bytes, len) == 0;
+}
+
+/* Whether a code of a file comes with the errno of the system, and no other with one. */
+static bool has_errno(const zx_file *file, zx_code code) { return (file->error != 0) == (code >= 40 && code < 60); }
+
+/* ---- the scenes: what they answer is the code of the first call that is not done */
+
+static const char *the_file(void) {
+    static __thread char path[420];
+    snprintf(path, sizeof path, "%s/file", room);
+    return path;
+}
+
+static void seed(int64_t number) {
+    int fails_later = countdown;
+    zx_file file = ZX_CLOSED_FILE;
+    countdown = 0;
+    unlink(the_file());
+    IS(zx_file_open(&file, the_file(), ZX_CREATE_ONLY, 66560), ZX_DONE);
+    IS(set(&file, number), ZX_DONE);
+    IS(zx_file_close(&file), ZX_DONE);
+    countdown = fails_later;
+}
+
+/* How often a save was done, but for the folder. */
+static int unsynced;
+
+/* What stands under the path when a call has answered that it saved. */
+static zx_code looked_at(zx_file *file, zx_code code) {
+    int fails_later = countdown;
+    countdown = 0;
+    IS(has_errno(file, code), true);
+    if (code == ZX_DONE || code == ZX_FILE_UNSYNCED) IS(is_saved(file, the_file()), true);
+    unsynced += code == ZX_FILE_UNSYNCED;
+    countdown = fails_later;
+    return code;
+}
+
+static zx_code save_scene(zx_file *file) {
+    zx_code code = zx_file_open(file, the_file(), ZX_OPEN_ONLY, 0);
+    IS(has_errno(file, code), true);
+    if (code == ZX_DONE) {
+        set(file, 6);
+        code = looked_at(file, zx_file_save(file));
+    }
+    return code;
+}
+
+static zx_code make_scene(zx_file *file) {
+    absent = lacks == NO_NAMELESS || lacks == NO_NAMING ? NULL : the_file();
+    zx_code code = zx_file_open(file, the_file(), ZX_OPEN_OR_CREATE, 66560);
+    absent = NULL;
+    IS(has_errno(file, code), true);
+    if (code == ZX_DONE) {
+        set(file, 6);
+        code = zx_file_close(file);
+        unsynced += code == ZX_FILE_UNSYNCED;
+    }
+    return code;
+}
+
+static zx_code put_scene(zx_file *file) {
+    if (zx_create(&file->segment, 66560) != ZX_DONE || set(file, 6) != ZX_DONE) return ZX_NO_MEMORY;
+    return looked_at(file, zx_file_save_as(file, the_file(), ZX_OPEN_OR_CREATE));
+}
+
+static zx_code put_new_scene(zx_file *file) {
+    if (zx_create(&file->segment, 66560) != ZX_DONE || set(file, 6) != ZX_DONE) return ZX_NO_MEMORY;
+    return looked_at(file, zx_file_save_as(file, the_file(), ZX_CREATE_ONLY));
+}
+
+static zx_code read_scene(zx_file *file) {
+    zx_code code = zx_file_open(file, the_file(), ZX_OPEN_COPY_ON_WRITE, 0);
+    IS(has_errno(file, code), true);
+    return code;
+}
+
+struct scene {
+    const char *name;
+    zx_code (*run)(zx_file *);
+    int64_t before, after; /* what stands under the path; -1 is nothing */
+};
+
+static const struct scene scenes[] = {
+    { "save", save_scene, 5, 6 },        { "make", make_scene, -1, 6 },       { "put", put_scene, 5, 6 },
+    { "put new", put_new_scene, -1, 6 }, { "read", read_scene, 5, 5 },
+};
+
+/* One scene, of which one call fails. Whether one was there to fail. */
+static bool is_tried(const struct scene *scene, int at) {
+    zx_file file = ZX_CLOSED_FILE;
+    if (scene->before < 0)
+        unlink(the_file());
+    else
+        seed(scene->before);
+    int before = open_descriptors();
+    failed = NULL;
+    countdown = at;
+    zx_code code = scene->run(&file);
+    bool is_hit = failed != NULL, may_leave = is_hit && strcmp(failed, "unlinkat") == 0;
+    countdown = 0;
+    int64_t now = stands(the_file());
+    if (code == ZX_DONE || code == ZX_FILE_UNSYNCED)
+        IS(now, scene->after);
+    else if (!file.held || scene->before >= 0)
+        IS(now, may_leave && scene->before < 0 && now >= -1 ? now : scene->before);
+    else
+        IS(now, 0); /* made, and not saved */
+    if (way != AT_ONCE || !is_hit) IS(code, ZX_DONE);
+    // what failed can be done again, and nothing is left behind
+    if (file.held) IS(zx_file_save(&file), ZX_DONE);
+    zx_file_discard(&file);
+    IS(open_descriptors(), before);
+    if (!may_leave) IS(count_in(room), scene->before >= 0 || stands(the_file()) >= 0 ? 1 : 0);
+    IS(zx_file_open(&file, the_file(), ZX_OPEN_OR_CREATE, 66560), ZX_DONE);
+    IS(set(&file, 7), ZX_DONE);
+    IS(zx_file_close(&file), ZX_DONE);
+    IS(stands(the_file()), 7);
+    IS(count_in(room), 1);
+    return is_hit;
+}
+
+static void where_the_system_fails(void) {
+    for (lacks = HAS_ALL; lacks < SYSTEMS; lacks++) {
+        for (way = AT_ONCE; way < WAYS; way++) {
+            for (size_t i = 0; i < sizeof scenes / sizeof scenes[0]; i++) {
+                int at = 1;
+                unsynced = 0;
+                while (is_tried(&scenes[i], at)) at++;
+                if (lacks == HAS_ALL) printf("%s: %d calls were made to fail, way %d\n", scenes[i].name, at - 1, way);
+                if (way == AT_ONCE) IS(at > 5, true);
+                if (way == AT_ONCE) IS(unsynced > 0, scenes[i].after == 6);
+            }
+        }
+    }
+    lacks = HAS_ALL;
+    way = AT_ONCE;
+}
+
+/* ---- what is passed */
+
+static void what_is_passed(void) {
+    zx_file file = ZX_CLOSED_FILE, other = ZX_CLOSED_FILE;
+    char path[800], long_name[300];
+    seed(5);
+    IS(zx_file_open(&file, NULL, ZX_OPEN_ONLY, 0), ZX_NULL_SLICE);
+    IS(zx_file_open(&file, the_file(), ZX_WRITE, 0), ZX_BAD_MODE);
+    IS(zx_file_open(&file, the_file(), 21, 0), ZX_BAD_MODE);
+    IS(zx_file_open(&file, "", ZX_OPEN_ONLY, 0), ZX_FILE_MISSING);
+    IS(zx_file_open(&file, "", ZX_CREATE_ONLY, 1024), ZX_FILE_MISSING);
+    IS(zx_file_open(&file, "/", ZX_OPEN_ONLY, 0), ZX_FILE_FOLDER);
+    snprintf(path, sizeof path, "%s/none/", room);
+    IS(zx_file_open(&file, path, ZX_OPEN_OR_CREATE, 1024), ZX_FILE_FOLDER);
+    snprintf(path, sizeof path, "%s/file/none", room);
+    IS(zx_file_open(&file, path, ZX_OPEN_OR_CREATE, 1024), ZX_FILE_FAULT);
+    IS(file.error, ENOTDIR);
+    memset(long_name, 'a', 299);
+    long_name[299] = 0;
+    snprintf(path, sizeof path, "%s/%.256s", room, long_name);
+    IS(zx_file_open(&file, path, ZX_OPEN_OR_CREATE, 1024), ZX_FILE_FAULT);
+    IS(file.error, ENAMETOOLONG);
+    // the longest name can be saved too
+    snprintf(path, sizeof path, "%s/%.255s", room, long_name);
+    IS(zx_file_open(&file, path, ZX_OPEN_OR_CREATE, 1024), ZX_DONE);
+    IS(zx_file_open(&file, path, ZX_OPEN_ONLY, 0), ZX_FILE_IS_OPEN);
+    IS(set(&file, 1), ZX_DONE);
+    IS(zx_file_close(&file), ZX_DONE);
+    IS(stands(path), 1);
+    IS(unlink(path), 0);
+
+    IS(zx_file_save(&file), ZX_CLOSED);
+    IS(zx_file_save_as(&file, the_file(), ZX_CREATE_ONLY), ZX_CLOSED);
+    IS(zx_file_close(&file), ZX_DONE);
+    zx_file_discard(&file);
+    IS(zx_create(&file.segment, 1024), ZX_DONE);
+    IS(zx_file_save(&file), ZX_FILE_NONE);
+    IS(zx_file_save_as(&file, NULL, ZX_CREATE_ONLY), ZX_NULL_SLICE);
+    IS(zx_file_save_as(&file, the_file(), ZX_OPEN_READ_ONLY), ZX_BAD_MODE);
+    IS(zx_file_save_as(&file, the_file(), ZX_CREATE_ONLY), ZX_FILE_EXISTS);
+    IS(file.error, EEXIST);
+    IS(zx_file_open(&other, the_file(), ZX_OPEN_ONLY, 0), ZX_DONE);
+    IS(zx_file_save_as(&file, the_file(), ZX_OPEN_ONLY), ZX_FILE_IN_USE);
+    // its own path is its own file, also where another stands there
+    IS(set(&other, 6), ZX_DONE);
+    IS(zx_file_save_as(&other, the_file(), ZX_OPEN_OR_CREATE), ZX_DONE);
+    IS(stands(the_file()), 6);
+    IS(unlink(the_file()), 0);
+    IS(zx_file_save_as(&other, the_file(), ZX_OPEN_OR_CREATE), ZX_FILE_REPLACED);
+    IS(zx_file_save_as(&file, the_file(), ZX_OPEN_ONLY), ZX_FILE_MISSING);
+    IS(zx_file_save_as(&file, the_file(), ZX_OPEN_OR_CREATE), ZX_DONE);
+    IS(set(&other, 8), ZX_DONE);
+    IS(zx_file_save_as(&other, the_file(), ZX_OPEN_OR_CREATE), ZX_FILE_REPLACED);
+    IS(stands(the_file()), 0);
+    // a segment that was closed by itself is not saved
+    zx_close(&other.segment);
+    IS(zx_file_close(&other), ZX_DONE);
+    IS(zx_file_close(&file), ZX_DONE);
+    IS(count_in(room), 1);
+
+    zx_text words;
+    for (zx_code code = ZX_FILE_NONE; code <= ZX_FILE_FORKED; code++) {
+        words.len = 0;
+        zx_file_words(code, &words);
+        IS(words.len > 0, true);
+    }
+    zx_file_words(ZX_FILE_FORKED + 1, &words);
+    IS(words.len, 0);
+    zx_file_words(ZX_NO_SPACE, &words);
+    IS(words.len, 8);
+}
+
+/* A pipe that was put in the place of a file, behind the first look: nobody waits for who writes it. */
+static void a_pipe_behind_the_look(void) {
+    zx_file file = ZX_CLOSED_FILE;
+    unlink(the_file());
+    IS(mkfifo(the_file(), 0600), 0);
+    is_blind = true;
+    for (uint32_t mode = ZX_OPEN_ONLY; mode <= ZX_OPEN_COPY_ON_WRITE; mode++)
+        IS(zx_file_open(&file, the_file(), mode, 1024), ZX_FILE_PIPE);
+    is_blind = false;
+    IS(unlink(the_file()), 0);
+}
+
+/* A child that the C library does not know of has a copy of the lock, which ends with the parent's. */
+static void a_child_by_the_system_call(void) {
+    zx_file file = ZX_CLOSED_FILE;
+    seed(5);
+    IS(zx_file_open(&file, the_file(), ZX_OPEN_ONLY, 0), ZX_DONE);
+    pid_t child = (pid_t)syscall(SYS_clone, SIGCHLD, 0, 0, 0, 0);
+    if (child == 0)
+        for (;;) pause();
+    IS(child > 0, true);
+    zx_file_discard(&file);
+    IS(zx_file_open(&file, the_file(), ZX_OPEN_ONLY, 0), ZX_DONE);
+    zx_file_discard(&file);
+    kill(child, SIGKILL);
+    waitpid(child, NULL, 0);
+}
+
+/* A file that begins with the image and goes on is another one. */
+static void a_longer_file(void) {
+    zx_file file = ZX_CLOSED_FILE;
+    seed(5);
+    IS(zx_file_open(&file, the_file(), ZX_OPEN_COPY_ON_WRITE, 0), ZX_DONE);
+    FILE *longer = fopen(the_file(), "ab");
+    if (longer) fputs("more", longer), fclose(longer);
+    IS(is_saved(&file, the_file()), false);
+    IS(zx_file_save_as(&file, the_file(), ZX_OPEN_OR_CREATE), ZX_DONE);
+    IS(is_saved(&file, the_file()), true);
+    zx_file_discard(&file);
+}
+
+/* Pages of zeros become holes, and come back; pages that begin with zeros are none. */
+static void holes(void) {
+    zx_file file = ZX_CLOSED_FILE;
+    struct stat found;
+    static uint8_t text[20000];
+    zx_key key = zx_name("filling");
+    uint64_t handle;
+    for (size_t i = 0; i < sizeof text; i += 512) text[i] = 1;
+    IS(unlink(the_file()), 0);
+    IS(zx_file_open(&file, the_file(), ZX_CREATE_ONLY, 1 << 17), ZX_DONE);
+    IS(set(&file, 5), ZX_DONE);
+    IS(zx_construct_string(&file.segment, &key, text, sizeof text, &handle), ZX_DONE);
+    IS(zx_file_save(&file), ZX_DONE);
+    IS(is_saved(&file, the_file()), true);
+    zx_file_discard(&file);
+    IS(unlink(the_file()), 0);
+    IS(zx_file_open(&file, the_file(), ZX_CREATE_ONLY, 1 << 20), ZX_DONE);
+    IS(set(&file, 5), ZX_DONE);
+    IS(zx_file_close(&file), ZX_DONE);
+    IS(stat(the_file(), &found), 0);
+    IS(found.st_size, 1 << 20);
+    IS(stands(the_file()), 5);
+    IS(unlink(the_file()), 0);
+}
+
+/* Rights, owner and group stay, and are there before a byte is; where the owner cannot be kept, nobody may more than
+   before. */
+static void rights(void) {
+    for (lacks = HAS_ALL; lacks < SYSTEMS; lacks++) {
+        zx_file file = ZX_CLOSED_FILE;
+        struct stat found;
+        seed(5);
+        IS(chmod(the_file(), 0640), 0);
+        wanted_rights = 0640;
+        IS(save_scene(&file), ZX_DONE);
+        IS(stat(the_file(), &found), 0);
+        IS(found.st_mode & 07777, 0640);
+        wanted_rights = 0;
+        zx_file_discard(&file);
+        for (gid_t group = 0; geteuid() == 0 && group <= 4321; group += 4321) {
+            bool has_owner = lacks != NO_OWNERS;
+            IS(chown(the_file(), 1234, group), 0);
+            IS(chmod(the_file(), 04664), 0);
+            IS(zx_file_open(&file, the_file(), ZX_OPEN_ONLY, 0), ZX_DONE);
+            IS(set(&file, 8 + (int64_t)group), ZX_DONE);
+            IS(zx_file_close(&file), ZX_DONE);
+            IS(stat(the_file(), &found), 0);
+            IS(found.st_uid, has_owner ? 1234 : 0);
+            IS(found.st_gid, has_owner ? group : 0);
+            IS(found.st_mode & 07777, has_owner ? 04664 : group == 0 ? 0664 : 0644);
+        }
+        IS(unlink(the_file()), 0);
+    }
+    lacks = HAS_ALL;
+}
+
+/* ---- threads: each adds to a file that all have, and to one of its own */
+
+enum { THREADS = 4, TIMES = 25 };
+
+static void *add(void *own) {
+    zx_file file = ZX_CLOSED_FILE;
+    for (int i = 0; i < TIMES; i++) {
+        const char *paths[] = { the_file(), own };
+        for (int k = 0; k < 2; k++) {
+            while (zx_file_open(&file, paths[k], ZX_OPEN_OR_CREATE, 1024) == ZX_FILE_IN_USE) usleep(100);
+            zx_key key = zx_name("n");
+            zx_value value = zx_i64(0);
+            zx_get(&file.segment, &key, 0, &value);
+            set(&file, value.number + 1);
+            zx_code code = zx_file_close(&file);
+            if (code != ZX_DONE) {
+                printf("WRONG code %u, error %d of %s\n", code, file.error, paths[k]);
+                zx_file_discard(&file);
+            }
+        }
+    }
+    return NULL;
+}
+
+static void threads(void) {
+    pthread_t all[THREADS];
+    static char paths[THREADS][420];
+    for (int i = 0; i < THREADS; i++) {
+        snprintf(paths[i], sizeof paths[i], "%s/own%d", room, i);
+        IS(pthread_create(&all[i], NULL, add, paths[i]), 0);
+    }
+    for (int i = 0; i < THREADS; i++) IS(pthread_join(all[i], NULL), 0);
+    IS(stands(the_file()), THREADS * TIMES);
+    for (int i = 0; i < THREADS; i++) {
+        IS(stands(paths[i]), TIMES);
+        IS(unlink(paths[i]), 0);
+    }
+    IS(count_in(room), 1);
+    IS(unlink(the_file()), 0);
+}
+
+int main(int count, char **words) {
+    if (count < 2) return 2;
+    snprintf(room, sizeof room, "%s/files.room", words[1]);
+    IS(mkdir(room, 0700), 0);
+    if (count < 3) where_the_system_fails();
+    if (count < 3) unlink(the_file());
+    seed(5);
+    what_is_passed();
+    a_pipe_behind_the_look();
+    a_child_by_the_system_call();
+    a_longer_file();
+    holes();
+    rights();
+    threads();
+    IS(rmdir(room), 0);
+    printf("files: %d cases, %d wrong\n", cases, wrong);
+    return wrong != 0;
+}

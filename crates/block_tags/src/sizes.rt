@@ -8,9 +8,12 @@ pub const TAG: u64 = 16;
 /// The number of bytes of the header: where the first tile begins, or the end tag where there is none.
 pub const FIRST: u64 = 128;
 
+/// The length of the largest segment, in bytes. No window is longer, and no request for a block of more is met.
+pub const MAX_SEGMENT_LEN: u64 = 1073741824;
+
 /// Whether a segment may have so many bytes: 144, which is no tile, or a multiple of 16 from 176 to 1073741824.
 pub fn is_legal_size(size: u64) -> bool
     ensures { result ≡ is_legal size }
 {
-    size == 144 || (size % 16 == 0 && (176..=1_073_741_824).contains(&size))
+    size == 144 || (size % 16 == 0 && (176..=MAX_SEGMENT_LEN).contains(&size))
 }

@@ -5,14 +5,12 @@ ghost use Rattle.segment_manager.specs.Step.{is_read_only as may_only_be_read};
 ghost use Rattle.grow_shrink.specs.Resized.{IsRefusedBy, growth_refusal, room_of, shrink_refusal};
 
 use crate::refusals::GrowError;
+use block_tags::MAX_SEGMENT_LEN;
 use segment_manager::conditioned::{cut_end, extend_end};
 use segment_manager::{Mode, Segment};
 
 /// The least number of bytes that a segment grows by.
 const LEAST: u64 = 32;
-
-/// No segment has more bytes.
-const LIMIT: u64 = 1_073_741_824;
 
 /// Lengthens a segment by `extra` bytes of its region, which are free: a multiple of 16, at least 32. Every object
 /// keeps its handle and its value.
@@ -79,5 +77,5 @@ fn is_bad(extra: u64) -> bool
 fn is_above(size: u64, extra: u64) -> bool
     ensures { result ≡ nat_lt 1073741824 (size + extra) }
 {
-    extra > LIMIT || size > LIMIT - extra
+    extra > MAX_SEGMENT_LEN || size > MAX_SEGMENT_LEN - extra
 }

@@ -14,14 +14,8 @@ use crate::image_window::{Blocks, ImageWindow, Object};
 use crate::owners::is_same;
 use crate::spellings::are_spellings;
 use block_tags::Role;
-use seg_types::{Kind, ScalarKind, is_name};
+use seg_types::{Kind, LONGEST_NAME, MAX_ARRAY_LEN, ScalarKind, is_name};
 use segment_manager::layout::{NAMED_AT, UNIQUE_AT};
-
-/// The longest name.
-const LONGEST: usize = 255;
-
-/// The most scalars in an object.
-const MOST: u64 = 1048576;
 
 /// The bytes of the value of a vector, a string or a map.
 const CONTAINER_LEN: u64 = 24;
@@ -87,7 +81,7 @@ pub(crate) fn has_room(kind: Kind, count: u64, start: u64, end: u64) -> bool
 {
     match kind {
         Kind::Scalar(scalar) => {
-            count >= 1 && count <= MOST && start + scalar.size() * count <= end
+            count >= 1 && count <= MAX_ARRAY_LEN && start + scalar.size() * count <= end
         }
         _ => count == 1 && start + CONTAINER_LEN <= end,
     }
@@ -102,7 +96,7 @@ pub(crate) fn has_name(format: u64, window: &ImageWindow, object: Object) -> boo
     let class = object.class(window);
     if class == NAMED {
         let name = object.name(window);
-        return name.len() <= LONGEST && is_name(format, name);
+        return name.len() <= LONGEST_NAME && is_name(format, name);
     }
     class <= UNIQUE && object.name_len(window) == 0
 }

@@ -17,7 +17,7 @@ mod values;
 pub use conversions::BadName;
 pub use key_texts::is_bare_name;
 pub use keys::{Handle, IndexKey, Key, NewKey};
-pub use kinds::{Class, Kind, ScalarKind};
+pub use kinds::{Class, Kind, MAX_ARRAY_LEN, ScalarKind};
 pub use names::{LONGEST_NAME, Name, is_name};
 pub use plain::Plain;
 pub use refusals::{LineError, Refusal};

@@ -7,10 +7,9 @@ ghost use Rattle.seg_vector.specs.TextParts.{AreHeldElements, IsHeldElement, IsS
 ghost use Rattle.seg_vector.specs.{TextLists.LaysOut, TextLists.LaysTexts, TextsCalls.text_blocks, Vector.OwnedText};
 
 use crate::places::ELEMENT;
-use crate::sizing::LIMIT;
 use crate::text_arrays::put_element;
 use best_fit::Heap;
-use block_tags::Role;
+use block_tags::{MAX_SEGMENT_LEN, Role};
 use raw_region::Steps;
 use seg_types::Refusal;
 
@@ -89,7 +88,7 @@ pub fn lay_out(heap: &mut Heap, texts: &[&[u8]]) -> Result<u64, Refusal>
     ensures { LaysOut heap.old heap.new (map (λ text. text.now) texts.now) result }
 {
     let n = texts.len() as u64;
-    if n > LIMIT {
+    if n > MAX_SEGMENT_LEN {
         return Err(Refusal::NoSpace);
     }
     let array = take(heap, ELEMENT * n)?;

@@ -8,11 +8,9 @@ ghost use Rattle.seg_vector.specs.TextParts.{IsPointed};
 
 use crate::places::{CAPACITY, LEN, Place, capacity_of, len_of, link_of};
 use best_fit::{Heap, NoSpace};
+use block_tags::MAX_SEGMENT_LEN;
 use raw_region::Steps;
 use seg_types::Refusal;
-
-/// No heap is longer.
-pub const LIMIT: u64 = 1073741824;
 
 /// Makes the three words at a place those of a container without a place, whatever they were. Storage that they led to
 /// is not given back.
@@ -82,7 +80,7 @@ pub fn reserve(heap: &mut Heap, place: Place, each: u64, n: u64) -> Result<(), R
     requires short { each ≤ 4096 }
     ensures { Grows heap.old heap.new place each n result }
 {
-    if n > LIMIT {
+    if n > MAX_SEGMENT_LEN {
         return Err(Refusal::NoSpace);
     }
     if n <= capacity_of(heap, place) {

@@ -9,8 +9,9 @@ ghost use Rattle.seg_vector.specs.TextCalls.{ReservesNoBytes, SetsByte, ShrinksT
 
 use crate::elements::{Spot, elements, extend, put_at, truncate};
 use crate::places::{Place, capacity_of, len_of};
-use crate::sizing::{self, LIMIT, fit, give_back, start};
+use crate::sizing::{self, fit, give_back, start};
 use best_fit::Heap;
+use block_tags::MAX_SEGMENT_LEN;
 use seg_types::Refusal;
 
 /// A text at a place in a heap: three words there (the link to its storage, its length and its capacity), and a block
@@ -140,7 +141,7 @@ impl SegString {
         ensures { AppendsText heap.old heap.new self.place bytes.now result }
     {
         let more = bytes.len() as u64;
-        if more > LIMIT {
+        if more > MAX_SEGMENT_LEN {
             return Err(Refusal::NoSpace);
         }
         let needed = self.len(heap) + more;

@@ -9,11 +9,12 @@ ghost use Rattle.seg_vector.specs.{TextsCalls.StaysAtFirst, TextsCalls.new_array
 
 use crate::owning::{lay_out, place_text, release_text, release_texts};
 use crate::places::{ELEMENT, LEN, Place, capacity_of, len_of, link_of};
-use crate::sizing::{LIMIT, capacity_for_one, fit, give_back, point_to, start};
+use crate::sizing::{capacity_for_one, fit, give_back, point_to, start};
 use crate::text_arrays::{
     adopt, ask_array, carry_down, insert_growing, insert_within, put_element,
 };
 use best_fit::Heap;
+use block_tags::MAX_SEGMENT_LEN;
 use seg_types::Refusal;
 
 /// A vector of texts at a place in a heap: three words there (the link to its array, its length and its capacity), an
@@ -196,7 +197,7 @@ impl SegTexts {
         if n <= self.capacity(heap) {
             return Ok(());
         }
-        if n > LIMIT {
+        if n > MAX_SEGMENT_LEN {
             return Err(Refusal::NoSpace);
         }
         let array = ask_array(heap, self.place, n)?;

@@ -14,7 +14,7 @@ ghost use Rattle.segment_dump.specs.Builders.{Builds, BuildsObject, IsCountOf, I
 use crate::faults::{DumpFault, Misfit};
 use crate::filling::fill;
 use crate::reading::{Lines, Words};
-use seg_types::{Class, Handle, Kind, Name, Refusal, ScalarKind, by_kind};
+use seg_types::{Class, Handle, Kind, MAX_ARRAY_LEN, Name, Refusal, ScalarKind, by_kind};
 use segment_lang::{Text, Word, numbers_are_decimals, texts_are_spelled};
 use segment_manager::{AnonymousInstance, Destination, Segment, UniqueInstance};
 
@@ -231,7 +231,7 @@ fn construct_scalars<D: Destination>(
     requires { (kind : AnyKind) → D.suits under.now kind }
     ensures { IsCountOf (ScalarOf kind) count → IsStep segment.old segment.new (Construct (D.key under.now (ScalarOf kind)) (first_content (ScalarOf kind) count)) (handle_answer result) }
 {
-    if count < 1 || count > 1048576 {
+    if count < 1 || count > MAX_ARRAY_LEN {
         return Err(Refusal::OutOfRange);
     }
     let count = count as u32;

@@ -11,10 +11,7 @@ ghost use Rattle.segment_lang.specs.Seen.{found_in, word_of};
 use crate::literals::is;
 use crate::numbers::number_of;
 use crate::words::Word;
-use seg_types::{Kind, ScalarKind};
-
-/// The most elements that an array has.
-const MOST_ELEMENTS: u64 = 1048576;
+use seg_types::{Kind, MAX_ARRAY_LEN, ScalarKind};
 
 /// The kinds, each behind how it is printed.
 static KINDS: [(&[u8], Kind); 37] = [
@@ -147,7 +144,7 @@ fn counted(kind: Kind, count: Option<u64>) -> Option<(Kind, u32)>
         return None;
     };
     let count = count?;
-    if count == 0 || count > MOST_ELEMENTS {
+    if count == 0 || count > MAX_ARRAY_LEN {
         return None;
     }
     Some((kind, count as u32))

@@ -3,9 +3,9 @@ use Rattle.seg_vector.proofs.{sym, length, map, length-map, err_from_is_err_and,
 use Rattle.seg_vector.proofs.{laid-out, no-space, out-of-reach, taken-off}
 use Rattle.seg_vector.proofs.owning.lay_out.Goals as goal
 
-pub returns-then-n-gt-LIMIT : goal.returns-then-n-gt-LIMIT
-returns-then-n-gt-LIMIT c = out-of-reach c.args.heap.now (length c.args.texts.now) (map (λ text. text.now)
-    c.args.texts.now) c.requires.heap (sym (length-map c.args.texts.now (λ text. text.now))) c.if-n-gt-LIMIT.true
+pub returns-then-n-gt-MAX_SEGMENT_LEN : goal.returns-then-n-gt-MAX_SEGMENT_LEN
+returns-then-n-gt-MAX_SEGMENT_LEN c = out-of-reach c.args.heap.now (length c.args.texts.now) (map (λ text. text.now)
+    c.args.texts.now) c.requires.heap (sym (length-map c.args.texts.now (λ text. text.now))) c.if-n-gt-MAX_SEGMENT_LEN.true
 
 pub place_texts-placed-requires : goal.place_texts-placed-requires
 place_texts-placed-requires c =

@@ -31,5 +31,5 @@ returns-in-Ok c len t bytes s =
     grows-more c.args.n (omega (arith, capacity, c.if-n-capacity_of.false)) s (given-of c.args.n c.len_of.result
     c.link_of-storage.result s c.link_of-storage.ensures c.len_of.ensures c.in-Ok.ensures) c.point_to.ensures
 
-pub returns-then-n-gt-LIMIT : goal.returns-then-n-gt-LIMIT
-returns-then-n-gt-LIMIT c len t bytes s = too-many c.args.heap.now c.args.n s c.requires.some c.if-n-gt-LIMIT.true
+pub returns-then-n-gt-MAX_SEGMENT_LEN : goal.returns-then-n-gt-MAX_SEGMENT_LEN
+returns-then-n-gt-MAX_SEGMENT_LEN c len t bytes s = too-many c.args.heap.now c.args.n s c.requires.some c.if-n-gt-MAX_SEGMENT_LEN.true

@@ -12,15 +12,15 @@ overflow_add-needed c =
       few,
       c.requires.1.1.fits,
       c.len.ensures c.requires.0 c.requires.1.0 c.requires.1.1,
-      c.if-more-gt-LIMIT.false,
+      c.if-more-gt-MAX_SEGMENT_LEN.false,
     )
 
-pub returns-then-more-gt-LIMIT : goal.returns-then-more-gt-LIMIT
-returns-then-more-gt-LIMIT c bytes t v =
+pub returns-then-more-gt-MAX_SEGMENT_LEN : goal.returns-then-more-gt-MAX_SEGMENT_LEN
+returns-then-more-gt-MAX_SEGMENT_LEN c bytes t v =
     let n = capacity_for_text (length (bytes ++ c.args.bytes.now)) t.capacity in
     let enough = wanted-bytes (length (bytes ++ c.args.bytes.now)) t.capacity in
     too-many c.args.heap.now n v (omega arith)
-    (omega (arith, enough, length-append bytes c.args.bytes.now, c.if-more-gt-LIMIT.true))
+    (omega (arith, enough, length-append bytes c.args.bytes.now, c.if-more-gt-MAX_SEGMENT_LEN.true))
 
 pub capacity_for_text-wanted-requires : goal.capacity_for_text-wanted-requires
 capacity_for_text-wanted-requires c =

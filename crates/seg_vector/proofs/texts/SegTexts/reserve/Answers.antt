@@ -7,9 +7,9 @@ pub returns-then-n-capacity-clause-reserved : goal.returns-then-n-capacity-claus
 returns-then-n-capacity-clause-reserved c = λ ps t s.
     reserved-same c.args.heap.now c.args.n s (omega (arith, c.if-n-capacity.true, c.capacity.ensures ps t s))
 
-pub returns-then-n-gt-LIMIT-clause-reserved : goal.returns-then-n-gt-LIMIT-clause-reserved
-returns-then-n-gt-LIMIT-clause-reserved c = λ ps t s.
-    record { refusal = refl; none = too-many-texts c.args.heap.now c.args.n s c.if-n-gt-LIMIT.true; same = refl }
+pub returns-then-n-gt-MAX_SEGMENT_LEN-clause-reserved : goal.returns-then-n-gt-MAX_SEGMENT_LEN-clause-reserved
+returns-then-n-gt-MAX_SEGMENT_LEN-clause-reserved c = λ ps t s.
+    record { refusal = refl; none = too-many-texts c.args.heap.now c.args.n s c.if-n-gt-MAX_SEGMENT_LEN.true; same = refl }
 
 pub adopt-requires : goal.adopt-requires
 adopt-requires c =

@@ -1,8 +1,8 @@
 -- The bytes of elements of an array that are written: no other byte changes.
 use Rattle.std.proofs.Common.{◌≡◌, refl, sym, ap, subst, ◌∙◌, ℕ, ◌+◌, ◌*◌, ◌<◌, ℤ, true, false, Some, None, Option}
-use Rattle.std.proofs.Common.{Result, Ok, Err, List, length, if◌then◌else◌, arith}
+use Rattle.std.proofs.Common.{inl, inr, Result, Ok, Err, List, length, if◌then◌else◌, arith}
 use Rattle.std.specs.Prelude.{IfOk, OnErr, OnOk, nat_lt}
-use Rattle.std.proofs.lemmas.Bool.{eq-eqb, lt-ltb}
+use Rattle.std.proofs.lemmas.Bool.{cases_Bool, eq-eqb, lt-ltb}
 use Rattle.raw_region.specs.Memory.{Memory, SameBut, bytes_of}
 use Rattle.raw_region.proofs.Laws.{SameBut-trans, SameBut-wider}
 use Rattle.best_fit.specs.Extents.{handle}
@@ -17,11 +17,11 @@ use Rattle.seg_vector.specs.declared.places.Place.{Place}
 use Rattle.segment_manager.specs.declared.objects.targets.Object.{Object as Located}
 use Rattle.segment_manager.specs.Directory.{Value, Numbers, Elements, Bytes, Pairs, Texts, Object, Directory, kind_of}
 use Rattle.segment_manager.specs.Directory.{count_of, object_at}
-use Rattle.segment_manager.specs.Keeping.{ChangesElement}
+use Rattle.segment_manager.specs.{Calls.elements_at, Calls.elements_of, Keeping.ChangesElement}
 use Rattle.segment_manager.specs.objects.ElementLists.{numbers_in}
 use Rattle.segment_manager.specs.objects.Located.{IsLocated}
 use Rattle.segment_manager.specs.objects.Standing.{element_at, place_at, place_in}
-use Rattle.segment_manager.specs.State.{State, StandsFor}
+use Rattle.segment_manager.specs.State.{Answers, State, StandsFor}
 use Rattle.segment_manager.specs.Step.{changed, with_items}
 use Rattle.segment_manager.proofs.Laws.{IsSaidAt, said-at, same-object}
 use Rattle.segment_values.specs.Ranges.{ChangesRange, HasRange, replaced, row_of, with_range}
@@ -58,12 +58,11 @@ place-is : (k : ScalarKind) (d : Directory) (key : Key) (o : Object) (i : ℕ) (
 place-is k d key o i zs is v within =
     ap (λ (r : Option Object). place_of r k i) is ∙ ap (place_by o) (place-in k o i zs v within)
 
-place-none : (k : ScalarKind) (d : Directory) (key : Key) (o : Object) (i : ℕ) → object_at d key ≡ Some o
-    → same_kind (Scalar k) (kind_of o.value) ≡ false → place_at d key k i ≡ Err WrongKind
-place-none k d key o i is other =
-    ap (λ (r : Option Object). place_of r k i) is ∙ (λ j. place_by o
+place-other : (k : ScalarKind) (o : Object) (i : ℕ) → same_kind (Scalar k) (kind_of o.value) ≡ false
+    → place_of (Some o) k i ≡ Err WrongKind
+place-other k o i other = λ j. place_by o
     (if other j then (if nat_lt i (count_of o.value) then Ok (element_at k o.name i) else Err OutOfRange)
-    else Err WrongKind))
+    else Err WrongKind)
 
 -- an array has numbers
 numbers-of : (k : ScalarKind) (v : Value) → kind_of v ≡ Scalar k → (zs : List ℤ) × (v ≡ Numbers k zs)
@@ -117,12 +116,12 @@ module _ (s : State) (o : Located) (l : IsLocated s (ByHandle o.handle) o) (k : 
       → ChangesRange s t (ByHandle o.handle) k first n
   bytes-elsewhere other t first n = λ d st.
       let p = said d st in
-      subst (But s t (size_of k * n)) (sym (place-none k d (ByHandle o.handle) p.object first p.is
-      (ap (same_kind (Scalar k)) (own-kind d st) ∙ other))) tt
+      let none = place-other k p.object first (ap (same_kind (Scalar k)) (own-kind d st) ∙ other) in
+      subst (But s t (size_of k * n)) (sym (ap (λ (r : Option Object). place_of r k first) p.is ∙ none)) tt
 
   -- one element more is written
-  pub bytes-on : same_kind (Scalar k) o.kind ≡ true → (t u : State) (first i : ℕ) (zs : List ℤ) → HasRange s t o first zs
-      → ((d : Directory) → StandsFor s.cut.bytes d → first + i < length (row_of o d))
+  pub bytes-on : same_kind (Scalar k) o.kind ≡ true → (t u : State) (first i : ℕ) (zs : List ℤ)
+      → HasRange s t o first zs → ((d : Directory) → StandsFor s.cut.bytes d → first + i < length (row_of o d))
       → ChangesRange s t (ByHandle o.handle) k first i → ChangesElement t u (ByHandle o.handle) k (first + i)
       → ChangesRange s u (ByHandle o.handle) k first (i + 1)
   bytes-on array t u first i zs h within before one = λ d st.
@@ -150,15 +149,45 @@ module _ (s : State) (o : Located) (l : IsLocated s (ByHandle o.handle) o) (k : 
       let b : But t u (size_of k) (Ok (element_place k q (first + i))) = subst (But t u (size_of k)) there
       (one e stands) in
       subst (But s u (size_of k * (i + 1))) (sym here)
-      (joined (bytes_of s.cut.bytes) (bytes_of t.cut.bytes) (bytes_of u.cut.bytes) (handle p.extent) _ (size_of k) first i
-      a b)
+      (joined (bytes_of s.cut.bytes) (bytes_of t.cut.bytes) (bytes_of u.cut.bytes) (handle p.extent) _ (size_of k)
+      first i a b)
 
 -- what is written under the handle is written under the key
 pub bytes-by_key : (s t : State) (key : Key) (o : Located) → IsLocated s key o → (k : ScalarKind) (first n : ℕ)
     → ChangesRange s t (ByHandle o.handle) k first n → ChangesRange s t key k first n
 bytes-by_key s t key o l k first n m = λ d st.
-    subst (λ (r : Option Object). But s t (size_of k * n) (place_of r k first)) (sym (same-object s key o l d st)) (m d st)
+    subst (λ (r : Option Object). But s t (size_of k * n) (place_of r k first)) (sym (same-object s key o l d st))
+    (m d st)
 
 pub on_ok-map : {P Q : Type 0} (r : Result (Unit {0}) Refusal) → (P → Q) → OnOk r P → OnOk r Q
 on_ok-map (Ok a) f p = f p
 on_ok-map (Err why) f p = tt
+
+-- ---- one element, whatever its kind
+
+abbrev elements_in : Option Object → Result ScalarKind Refusal
+elements_in r =
+    elim r as (λ _. Result ScalarKind Refusal) [ None ↦ Err NotFound | Some o ↦ elements_of (kind_of o.value) ]
+
+each-if : (P : ScalarKind → Place → Type 0) (r : Option Object) (j k : ScalarKind) (i : ℕ) → Ok j ≡ elements_in r
+    → IfOk (place_of r j i) (P j) → IfOk (place_of r k i) (P k)
+each-if P None j k i e m = absurd (cc)
+each-if P (Some o) j k i e m =
+    elim (cases_Bool (same_kind (Scalar k) (kind_of o.value))) [
+      | inl own ↦
+          let f : Ok j ≡ Ok k = e ∙ ap elements_of (sym (one-kind (Scalar k) (kind_of o.value) own)) in
+          let same : j ≡ k = cc in subst (λ (l : ScalarKind). IfOk (place_of (Some o) l i) (P l)) same m
+      | inr other ↦ subst (λ (x : Result Place Refusal). IfOk x (P k)) (sym (place-other k o i other)) tt
+    ]
+
+-- an object has elements of one kind alone, and none of another is written
+pub element-each : (old new : State) (key : Key) (j : ScalarKind) (i : ℕ) → Answers old (λ d. elements_at d key) (Ok j)
+    → ChangesElement old new key j i → (k : ScalarKind) → ChangesElement old new key k i
+element-each old new key j i a m k = λ d st. each-if (λ (l : ScalarKind) (p : Place).
+    SameBut (bytes_of old.cut.bytes) (bytes_of new.cut.bytes) (p.handle + p.at) (size_of l)) (object_at d key) j k i
+    (a.answers d st) (m d st)
+
+pub element-by_key : (s t : State) (key : Key) (o : Located) → IsLocated s key o → (k : ScalarKind) (i : ℕ)
+    → ChangesElement s t (ByHandle o.handle) k i → ChangesElement s t key k i
+element-by_key s t key o l k i m = λ d st.
+    subst (λ (r : Option Object). But s t (size_of k) (place_of r k i)) (sym (same-object s key o l d st)) (m d st)

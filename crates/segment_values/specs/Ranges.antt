@@ -84,7 +84,8 @@ pub record HasRange (old new : State) (o : Located) (first : ℕ) (zs : List ℤ
   pub here : IsObject o new
   pub denotes : (d : Directory) → StandsFor old.cut.bytes d → StandsFor new.cut.bytes (with_range d (ByHandle o.handle) first zs)
 
--- no byte changes but those of so many elements from a place on in the object of the key, an array of scalars of the kind
+-- no byte changes but those of so many elements from a place on in the object of the key, an array of scalars of the
+-- kind
 abbrev pub ChangesRange : State → State → Key → ScalarKind → ℕ → ℕ → Type 0
 ChangesRange old new key k first n = (d : Directory) → StandsFor old.cut.bytes d
     → IfOk (place_at d key k first) (λ (p : Place).

@@ -30,7 +30,8 @@ pub fn write_elements<T: Scalar>(
     ensures step { WritesRange segment.old segment.new (key_seen key.now) T.kind first (map T.whole row.now) (done_answer result) }
     ensures refused { OnErr result (segment.new ≡ segment.old) }
     ensures none { length row.now ≡ 0 → segment.new ≡ segment.old }
-    ensures frame { OnOk result (ChangesRange segment.old segment.new (key_seen key.now) T.kind first (length row.now)) }
+    ensures frame { OnOk result
+        (ChangesRange segment.old segment.new (key_seen key.now) T.kind first (length row.now)) }
 {
     if segment.mode() == Mode::ReadOnly {
         return Err(Refusal::ReadOnly);
@@ -51,7 +52,8 @@ fn write_object<T: Scalar>(
     ensures step { WritesRange segment.old segment.new (ByHandle object.now.handle) T.kind first (map T.whole row.now) (done_answer result) }
     ensures refused { OnErr result (segment.new ≡ segment.old) }
     ensures none { length row.now ≡ 0 → segment.new ≡ segment.old }
-    ensures frame { OnOk result (ChangesRange segment.old segment.new (ByHandle object.now.handle) T.kind first (length row.now)) }
+    ensures frame { OnOk result
+        (ChangesRange segment.old segment.new (ByHandle object.now.handle) T.kind first (length row.now)) }
 {
     if !is_row::<T>(object.kind) {
         return Err(Refusal::WrongKind);

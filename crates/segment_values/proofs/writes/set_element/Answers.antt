@@ -26,4 +26,5 @@ returns-in-Vector-clause-element g c = λ array.
 
 pub returns-in_default-clause-element : goal.returns-in_default-clause-element
 returns-in_default-clause-element g c = λ array.
-    element-kept c.args.segment.now c.set.new.self (ByHandle c.args.object.now.handle) g.T.Scalar.kind c.args.index c.set.result c.set.ensures.element c.set.ensures.refused
+    element-kept c.args.segment.now c.set.new.self (ByHandle c.args.object.now.handle) g.T.Scalar.kind c.args.index
+    c.set.result c.set.ensures.element c.set.ensures.refused

@@ -30,8 +30,10 @@ elements-preserved g c =
           c.elements-test.true c.index-row-i.is c.elements.segment c.set_element.new.segment (done_answer c.set_element.result) c.requires.writing c.elements.invariant.begun c.requires.there
           (sym (g.met.T.Scalar.values c.index-row-i.result) ∙ c.judge.ensures) c.elements.invariant.has c.set_element.ensures.step;
       none = λ e. let within = c.elements-test.true in absurd (omega arith);
-      frame = λ array. bytes-on c.args.segment.now o c.requires.object g.T.Scalar.kind array c.elements.segment c.set_element.new.segment c.args.first c.elements.i _ c.elements.invariant.has
-          (λ d st. let all = c.requires.there d st in let within = c.elements-test.true in omega arith) (c.elements.invariant.frame array) (c.set_element.ensures.element array);
+      frame = λ array. bytes-on c.args.segment.now o c.requires.object g.T.Scalar.kind array c.elements.segment
+          c.set_element.new.segment c.args.first c.elements.i _ c.elements.invariant.has
+          (λ d st. let all = c.requires.there d st in let within = c.elements-test.true in omega arith)
+          (c.elements.invariant.frame array) (c.set_element.ensures.element array);
     }
 
 pub returns-clause-range : goal.returns-clause-range
@@ -47,6 +49,8 @@ returns-clause-frame g c =
     let o = c.args.object.now in
     let last : c.elements.i ≡ length c.args.row.now = let past = c.elements-test.false in omega arith in
     elim (cases_Bool (same_kind (Scalar g.T.Scalar.kind) o.kind)) [
-      | inl array ↦ subst (λ n. ChangesRange c.args.segment.now c.elements.segment (ByHandle o.handle) g.T.Scalar.kind c.args.first n) last (c.elements.invariant.frame array)
-      | inr other ↦ bytes-elsewhere c.args.segment.now o c.requires.object g.T.Scalar.kind other c.elements.segment c.args.first (length c.args.row.now)
+      | inl array ↦ subst (λ n. ChangesRange c.args.segment.now c.elements.segment (ByHandle o.handle)
+          g.T.Scalar.kind c.args.first n) last (c.elements.invariant.frame array)
+      | inr other ↦ bytes-elsewhere c.args.segment.now o c.requires.object g.T.Scalar.kind other c.elements.segment
+          c.args.first (length c.args.row.now)
     ]

@@ -11,5 +11,6 @@ invariant-elements g l = record {
   begun : IsSegment l.fn.segment.cut.bytes;
   has : HasRange l.fn.segment l.segment l.object l.first (take l.i (map g.T.Scalar.whole l.row));
   none : length l.row ≡ 0 → l.segment ≡ l.fn.segment;
-  frame : same_kind (Scalar g.T.Scalar.kind) l.object.kind ≡ true → ChangesRange l.fn.segment l.segment (ByHandle l.object.handle) g.T.Scalar.kind l.first l.i;
+  frame : same_kind (Scalar g.T.Scalar.kind) l.object.kind ≡ true
+      → ChangesRange l.fn.segment l.segment (ByHandle l.object.handle) g.T.Scalar.kind l.first l.i;
 }

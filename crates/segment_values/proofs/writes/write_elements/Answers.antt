@@ -16,5 +16,6 @@ returns-clause-step g c =
 
 pub returns-clause-frame : goal.returns-clause-frame
 returns-clause-frame g c =
-    on_ok-map c.write_object.result (bytes-by_key c.args.segment.now c.write_object.new.segment (key_seen c.args.key.now) c.in_ok-object.object c.in_ok-object.ensures g.T.Scalar.kind c.args.first (length c.args.row.now))
-    c.write_object.ensures.frame
+    on_ok-map c.write_object.result (bytes-by_key c.args.segment.now c.write_object.new.segment
+    (key_seen c.args.key.now) c.in_ok-object.object c.in_ok-object.ensures g.T.Scalar.kind c.args.first
+    (length c.args.row.now)) c.write_object.ensures.frame

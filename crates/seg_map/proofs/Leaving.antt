@@ -6,7 +6,8 @@ use common.{sym, current, link_at, without, LiveSet, LaysOut, live_of, IsHeaded,
 use common.{ap, lay_out_one, remove_pair, nodes_of_pairs, AllByRecursion, SameBlockBut, IsBesideMap, false_from_ne_true}
 use common.{subst, length, IsTrue, Option, IfSome, eq-eqb, Extent, pair_at, keys_in, exit_in, word_at, root_of, root_in}
 use common.{◌∙◌, ℕ, ◌+◌, ◌≢◌, None, Cut, Pair, ◌⊎◌, ◌<◌, inl, inr, Bool, true, ◌∷◌, map, Tree, fork, leaf, In, [], not}
-use common.{false, false≢true, List, arith, comes_before, IsKeyTree, ◌==◌, Some, is_in, handle, roomy, ne_eqb, IsTree, others, Chains, is_key, Rising, Plain}
+use common.{false≢true, comes_before, IsKeyTree}
+use common.{false, List, arith, ◌==◌, Some, is_in, handle, roomy, ne_eqb, IsTree, others, Chains, is_key, Rising, Plain}
 use Rattle.seg_map.proofs.PairLists.{without_nodes, in_from, nodes_in, Below, rising_below, rising_rest, each_both}
 use Rattle.seg_map.proofs.PairLists.{pair_of, in_nodes, none_left, other_nodes, removed_all, removed_length, apart_all}
 use Rattle.seg_map.proofs.Entering.{Laws, found_in, good, keys, other_block}

@@ -1,6 +1,7 @@
 mod AbsentPairs
 mod Exits
 mod NoTexts
+mod RangeBytes
 mod RangeLists
 mod RangeObjects
 mod RangeReads

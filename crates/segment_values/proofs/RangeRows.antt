@@ -26,7 +26,7 @@ use Rattle.segment_values.specs.Ranges.{is_row}
 pub of-same : (kind other : Kind) → kind ≡ other → same_kind kind other ≡ true
 of-same kind other e = eq-eqb (code_of kind) (code_of other) (ap code_of e)
 
-one-kind : (a b : Kind) → same_kind a b ≡ true → a ≡ b
+pub one-kind : (a b : Kind) → same_kind a b ≡ true → a ≡ b
 one-kind a b e = same_Some a b (sym (code-read a) ∙ ap kind_of_code (eqb-true (code_of a) (code_of b) e) ∙ code-read b)
 
 -- such an object is a vector, or else an array

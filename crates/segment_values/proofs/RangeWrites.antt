@@ -43,7 +43,7 @@ module _ (d : Directory) (h : ℕ) (o : Object) (is : object_at d (ByHandle h) �
   abbrev with_it : Value → Object
   with_it v = record o { value = v }
 
-  its-range : (first : ℕ) (zs : List ℤ) → with_range d (ByHandle h) first zs ≡ changed d o (with_items o.value (replaced (numbers_in o.value) first zs))
+  pub its-range : (first : ℕ) (zs : List ℤ) → with_range d (ByHandle h) first zs ≡ changed d o (with_items o.value (replaced (numbers_in o.value) first zs))
   its-range first zs = ap (ranged d first zs) is
 
   -- without new elements it is as it was
@@ -52,7 +52,7 @@ module _ (d : Directory) (h : ℕ) (o : Object) (is : object_at d (ByHandle h) �
       its-range first [] ∙ ap (changed d o) row.itself
       ∙ ap (λ (os : List Object). record d { objects = os }) (itself-replaced h d.objects o own is)
 
-  found-changed : (v : Value) → object_at (changed d o v) (ByHandle h) ≡ Some (with_it v)
+  pub found-changed : (v : Value) → object_at (changed d o v) (ByHandle h) ≡ Some (with_it v)
   found-changed v = found-replaced h d.objects o (with_it v) own is
 
   changed-twice : (v w : Value) → changed (changed d o v) (with_it v) w ≡ changed d o w

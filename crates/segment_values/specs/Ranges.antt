@@ -1,19 +1,22 @@
 -- Elements of an array or a vector of scalars that are read, or written, by one call: so many from a place on.
-use Rattle.std.specs.Prelude.{ℕ, ◌+◌, ℤ, Bool, ◌||◌, Option, Some, None, Result, Ok, Err, List, [], ◌∷◌, drop, length}
-use Rattle.std.specs.Prelude.{map, nat_le, slice_set, take, if◌then◌else◌}
+use Rattle.std.specs.Prelude.{ℕ, ◌+◌, ◌*◌, ℤ, Bool, ◌||◌, Option, Some, None, Result, Ok, Err, List, [], ◌∷◌, drop}
+use Rattle.std.specs.Prelude.{IfOk, length, map, nat_le, slice_set, take, if◌then◌else◌}
+use Rattle.raw_region.specs.Memory.{SameBut, bytes_of}
 use Rattle.seg_types.specs.declared.kinds.Kind.{Kind}
 use Rattle.seg_types.specs.declared.kinds.Kind.TheVariants.{Scalar, Vector}
 use Rattle.seg_types.specs.declared.kinds.ScalarKind.{ScalarKind}
 use Rattle.seg_types.specs.declared.refusals.Refusal.{Refusal}
 use Rattle.seg_types.specs.declared.refusals.Refusal.TheVariants.{NotFound, OutOfRange, ReadOnly, WrongKind}
-use Rattle.seg_types.specs.Kinds.{same_kind}
+use Rattle.seg_types.specs.Kinds.{same_kind, size_of}
 use Rattle.seg_types.specs.Names.{Key, ByHandle}
+use Rattle.seg_vector.specs.declared.places.Place.{Place}
 use Rattle.segment_manager.specs.declared.modes.Mode.{Mode}
 use Rattle.segment_manager.specs.declared.objects.targets.Object.{Object as Located}
 use Rattle.segment_manager.specs.Answers.{Answer, Done, Refused}
 use Rattle.segment_manager.specs.Directory.{Directory, Value, kind_of, object_at}
 use Rattle.segment_manager.specs.objects.ElementLists.{list_at, numbers_in}
 use Rattle.segment_manager.specs.objects.Located.{IsObject}
+use Rattle.segment_manager.specs.objects.Standing.{place_at}
 use Rattle.segment_manager.specs.State.{Moves, State, StandsFor, Stays}
 use Rattle.segment_manager.specs.Step.{changed, is_read_only, with_items}
 
@@ -80,3 +83,10 @@ pub record HasRange (old new : State) (o : Located) (first : ℕ) (zs : List ℤ
   pub stays : Stays old new
   pub here : IsObject o new
   pub denotes : (d : Directory) → StandsFor old.cut.bytes d → StandsFor new.cut.bytes (with_range d (ByHandle o.handle) first zs)
+
+-- no byte changes but those of so many elements from a place on in the object of the key, an array of scalars of the
+-- kind
+abbrev pub ChangesRange : State → State → Key → ScalarKind → ℕ → ℕ → Type 0
+ChangesRange old new key k first n = (d : Directory) → StandsFor old.cut.bytes d
+    → IfOk (place_at d key k first) (λ (p : Place).
+    SameBut (bytes_of old.cut.bytes) (bytes_of new.cut.bytes) (p.handle + p.at) (size_of k * n))

@@ -16,11 +16,16 @@ exit-is {r = Ok x} h = absurd h
 exit-is {r = Err e} h = ap Err h
 
 -- one more
-more-steps : (key : Key) (kind : Kind) (c : ℕ → ℤ → Command) (from : ℕ) (zs : List ℤ) (z : ℤ) (n : ℕ) (old mid new : State) → n ≡ from + length zs → AreSteps key kind c from zs old mid
-    → IsStepOfKind mid new key kind (c n z) Done → AreSteps key kind c from (zs ++ z ∷ []) old new
-more-steps key kind c from [] z n old mid new e s m =
-    (new, subst (λ t. IsStepOfKind t new key kind (c from z) Done) s (subst (λ i. IsStepOfKind mid new key kind (c i z) Done) (let same : n ≡ from = omega arith in same) m), refl)
-more-steps key kind c from (y ∷ ys) z n old mid new e s m = (s.0, s.1, more-steps key kind c (from + 1) ys z n s.0 mid new (omega arith) s.2 m)
+more-steps : (key : Key) (kind : Kind) (c : ℕ → ℤ → Command) (leaves : State → State → ℕ → Type 0) (from : ℕ) (zs : List ℤ) (z : ℤ) (n : ℕ) (old mid new : State) → n ≡ from + length zs
+    → AreSteps key kind c leaves from zs old mid → IsStepOfKind mid new key kind (c n z) Done → leaves mid new n → AreSteps key kind c leaves from (zs ++ z ∷ []) old new
+more-steps key kind c leaves from [] z n old mid new e s m l =
+    let same : n ≡ from = omega arith in (
+      new,
+      subst (λ t. IsStepOfKind t new key kind (c from z) Done) s (subst (λ i. IsStepOfKind mid new key kind (c i z) Done) same m),
+      subst (λ t. leaves t new from) s (subst (λ i. leaves mid new i) same l),
+      refl,
+    )
+more-steps key kind c leaves from (y ∷ ys) z n old mid new e s m l = (s.0, s.1, s.2, more-steps key kind c leaves (from + 1) ys z n s.0 mid new (omega arith) s.3 m l)
 
 taken-one : {X : Type 0} (xs : List X) (i : ℕ) (x : X) → slice_get xs i ≡ Some x → take (suc i) xs ≡ take i xs ++ x ∷ []
 taken-one [] i x e = absurd (none-some x e)
@@ -33,20 +38,20 @@ taken-length (y ∷ ys) zero x e = refl
 taken-length (y ∷ ys) (suc i) x e = ap suc (taken-length ys i x e)
 
 -- the number at the place behind those for which steps were made
-pub steps-on : (key : Key) (kind : Kind) (c : ℕ → ℤ → Command) (zs : List ℤ) (i : ℕ) (z : ℤ) (old mid new : State) → slice_get zs i ≡ Some z → AreSteps key kind c 0 (take i zs) old mid
-    → IsStepOfKind mid new key kind (c i z) Done → AreSteps key kind c 0 (take (i + 1) zs) old new
-steps-on key kind c zs i z old mid new e s m =
-    subst (λ ys. AreSteps key kind c 0 ys old new) (sym (taken-one zs i z e) ∙ ap (λ n. take n zs) (sym (add-one i)))
-    (more-steps key kind c 0 (take i zs) z i old mid new (let n : length (take i zs) ≡ i = taken-length zs i z e in omega arith) s m)
+pub steps-on : (key : Key) (kind : Kind) (c : ℕ → ℤ → Command) (leaves : State → State → ℕ → Type 0) (zs : List ℤ) (i : ℕ) (z : ℤ) (old mid new : State) → slice_get zs i ≡ Some z
+    → AreSteps key kind c leaves 0 (take i zs) old mid → IsStepOfKind mid new key kind (c i z) Done → leaves mid new i → AreSteps key kind c leaves 0 (take (i + 1) zs) old new
+steps-on key kind c leaves zs i z old mid new e s m l =
+    subst (λ ys. AreSteps key kind c leaves 0 ys old new) (sym (taken-one zs i z e) ∙ ap (λ n. take n zs) (sym (add-one i)))
+    (more-steps key kind c leaves 0 (take i zs) z i old mid new (let n : length (take i zs) ≡ i = taken-length zs i z e in omega arith) s m l)
 
 -- or the next one is refused, which changes nothing
-pub stops : (key : Key) (kind : Kind) (c : ℕ → ℤ → Command) (zs : List ℤ) (i : ℕ) (z : ℤ) (old mid new : State) (why : Refusal) → slice_get zs i ≡ Some z → AreSteps key kind c 0 (take i zs) old mid
-    → new ≡ mid → IsStepOfKind mid new key kind (c i z) (Refused why) → StopsAt key kind c zs old new why
-stops key kind c zs i z old mid new why e s f m = record {
+pub stops : (key : Key) (kind : Kind) (c : ℕ → ℤ → Command) (leaves : State → State → ℕ → Type 0) (zs : List ℤ) (i : ℕ) (z : ℤ) (old mid new : State) (why : Refusal) → slice_get zs i ≡ Some z
+    → AreSteps key kind c leaves 0 (take i zs) old mid → new ≡ mid → IsStepOfKind mid new key kind (c i z) (Refused why) → StopsAt key kind c leaves zs old new why
+stops key kind c leaves zs i z old mid new why e s f m = record {
   count = i;
   number = z;
   next = e;
-  steps = subst (AreSteps key kind c 0 (take i zs) old) (sym f) s;
+  steps = subst (AreSteps key kind c leaves 0 (take i zs) old) (sym f) s;
   refused = subst (λ t. IsStepOfKind t new key kind (c i z) (Refused why)) (sym f) m;
 }
 

@@ -154,7 +154,7 @@ impl<'a, T: Scalar> View<'a, Row<T, Vector>> {
     /// Those of `push`, of the first value that is refused: the values before it are elements then.
     pub fn extend(&mut self, values: &[T]) -> Result<(), Refusal>
         ensures same { IsSame self.old self.new }
-        ensures steps { StepsOn (key_of self.old) (VectorOf T.kind) (λ i z. Push (key_of self.old) (literal_of T.kind z)) (map T.whole values.now) (segment_of self.old) (segment_of self.new) result }
+        ensures steps { StepsOn (key_of self.old) (VectorOf T.kind) (λ i z. Push (key_of self.old) (literal_of T.kind z)) (λ old new i. ⊤) (map T.whole values.now) (segment_of self.old) (segment_of self.new) result }
     {
         'values: for i in 0..values.len() {
             self.push(values[i])?;

@@ -101,7 +101,8 @@ pub fn set_any<O: Target>(
     ensures step { IsStep segment.old segment.new
         (Set (O.key key.now) index (literal_of (kind_of_scalar value) (value_of_scalar value))) (done_answer result) }
     ensures refused { OnErr result (segment.new ≡ segment.old) }
-    ensures element { OnOk result (ChangesElement segment.old segment.new (O.key key.now) (kind_of_scalar value) index) }
+    ensures element { OnOk result
+        (ChangesElement segment.old segment.new (O.key key.now) (kind_of_scalar value) index) }
 {
     let object = locate(segment, key)?;
     match object.kind {

@@ -18,7 +18,8 @@ impl Segment {
     ///
     /// # Errors
     ///
-    /// `ReadOnly` where the segment is open for reading, and else `NoSpace` where no gap is long enough. Nothing changes.
+    /// `ReadOnly` where the segment is open for reading, and else `NoSpace` where no gap is long enough. Nothing
+    /// changes.
     pub fn reserve_named(&mut self, n: u64) -> Result<(), Refusal>
         ensures step { IsStep self.old self.new (ReserveNamed n) (done_answer result) }
         ensures refused { OnErr result (self.new ≡ self.old) }
@@ -33,7 +34,8 @@ impl Segment {
     ///
     /// # Errors
     ///
-    /// `ReadOnly` where the segment is open for reading, and else `NoSpace` where no gap is long enough. Nothing changes.
+    /// `ReadOnly` where the segment is open for reading, and else `NoSpace` where no gap is long enough. Nothing
+    /// changes.
     pub fn reserve_unique(&mut self, n: u64) -> Result<(), Refusal>
         ensures step { IsStep self.old self.new (ReserveUnique n) (done_answer result) }
         ensures refused { OnErr result (self.new ≡ self.old) }

@@ -1,10 +1,18 @@
-use Rattle.std.proofs.Common.{refl}
+use Rattle.std.proofs.Common.{refl, Ok, Result}
+use Rattle.std.specs.Prelude.{ℕ, OnOk}
+use Rattle.seg_types.specs.declared.kinds.{ScalarKind.ScalarKind, ScalarKind.TheVariants.U8}
+use Rattle.seg_types.specs.declared.refusals.Refusal.{Refusal}
+use Rattle.seg_types.specs.Names.{ByHandle, Key}
+use Rattle.segment_manager.specs.declared.objects.targets.Object.{Object as Located}
+use Rattle.segment_manager.specs.{Calls.elements_at, Keeping.ChangesElement, objects.Located.IsLocated}
+use Rattle.segment_manager.specs.State.{Answers, State}
 use Rattle.segment_manager.proofs.CommandLaws.{elements-either, elements-told, handle-to-change, set-map, set-no_text, set-unchangeable, to-change}
 use Rattle.segment_manager.proofs.Laws.{step-by_key}
 use Rattle.seg_types.specs.Commands.{Set}
 use Rattle.seg_types.specs.Keys.{key_seen}
 use Rattle.segment_values.proofs.NoTexts.{seen-no_text}
 use Rattle.segment_values.proofs.Exits.{exit-is}
+use Rattle.segment_values.proofs.RangeBytes.{element-by_key, element-each, on_ok-map}
 use Rattle.segment_values.proofs.elements.set.Goals as goal
 
 pub returns-in_err-object-clause-step : goal.returns-in_err-object-clause-step
@@ -30,3 +38,25 @@ returns-in-String-clause-step c = step-by_key _ _ _ c.in_ok-object.ensures.locat
 pub returns-in-Strings-clause-step : goal.returns-in-Strings-clause-step
 returns-in-Strings-clause-step c =
     set-no_text (to-change c.in_ok-object.ensures c.in-Strings.is) (seen-no_text c.args.value) _
+
+-- of an element of a kind that the object has, and of none of another
+element-told : (old new : State) (key : Key) (o : Located) → IsLocated old key o → (j : ScalarKind) (i : ℕ)
+    (r : Result (Unit {0}) Refusal) → Answers old (λ d. elements_at d (ByHandle o.handle)) (Ok j)
+    → OnOk r (ChangesElement old new (ByHandle o.handle) j i)
+    → OnOk r ((k : ScalarKind) → ChangesElement old new key k i)
+element-told old new key o l j i r a m =
+    on_ok-map r
+    (λ e k. element-by_key old new key o l k i (element-each old new (ByHandle o.handle) j i a e k)) m
+
+pub returns-in-Scalar-clause-element : goal.returns-in-Scalar-clause-element
+returns-in-Scalar-clause-element c =
+    element-told c.args.segment.now c.set_scalar-in-Scalar.new.segment (key_seen c.args.key.now) c.in_ok-object.object
+    c.in_ok-object.ensures.located c.in-Scalar.element c.args.index c.set_scalar-in-Scalar.result
+    (elements-either (handle-to-change c.in_ok-object.ensures refl) c.in-Scalar.is)
+    c.set_scalar-in-Scalar.ensures.element
+
+pub returns-in-String-clause-element : goal.returns-in-String-clause-element
+returns-in-String-clause-element c =
+    element-told c.args.segment.now c.set_scalar.new.segment (key_seen c.args.key.now) c.in_ok-object.object
+    c.in_ok-object.ensures.located U8 c.args.index c.set_scalar.result
+    (elements-told (handle-to-change c.in_ok-object.ensures c.in-String.is) refl) c.set_scalar.ensures.element

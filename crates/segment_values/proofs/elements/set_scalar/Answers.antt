@@ -1,6 +1,7 @@
 use Rattle.std.proofs.Common.{sym, subst, Ok}
+use Rattle.std.specs.Prelude.{OnOk}
 use Rattle.seg_types.specs.Names.{ByHandle}
-use Rattle.segment_manager.specs.Calls.{elements_at}
+use Rattle.segment_manager.specs.{Calls.elements_at, Keeping.ChangesElement}
 use Rattle.segment_manager.specs.State.{Answers}
 use Rattle.segment_manager.proofs.CommandLaws.{set-step}
 use Rattle.segment_manager.proofs.Laws.{any-no_value}
@@ -17,3 +18,8 @@ set_any-requires-clause-of_kind c =
 
 pub returns-clause-step : goal.returns-clause-step
 returns-clause-step c = set-step _ _ _ c.in_ok-element.element c.requires.elements c.in_ok-element.ensures c.set_any.ensures.step
+
+pub returns-clause-element : goal.returns-clause-element
+returns-clause-element c =
+    subst (λ j. OnOk c.set_any.result (ChangesElement c.args.segment.now c.set_any.new.segment
+    (ByHandle c.args.object.handle) j c.args.index)) c.in_ok-element.ensures.0 c.set_any.ensures.element

@@ -1,5 +1,6 @@
 -- One more step, or one that is refused.
 use Rattle.std.proofs.Common.{subst, ◌∙◌, map}
+use Rattle.std.specs.Prelude.{⊤}
 use Rattle.seg_types.specs.declared.kinds.Kind.TheVariants.{Vector as VectorOf}
 use Rattle.seg_types.specs.Commands.{Push, literal_of}
 use Rattle.seg_types.specs.Names.{ByHandle}
@@ -15,7 +16,7 @@ returns-in_err-push-clause-steps g c =
     let same = c.values.invariant.same in
     let step = subst (λ (o : Located). IsStepOfKind (segment_of c.values.self) (segment_of c.push.new.self) (ByHandle o.handle) (VectorOf g.T.Scalar.kind)
     (Push (ByHandle o.handle) (literal_of g.T.Scalar.kind (g.T.Scalar.whole c.index-values-i.result))) (Refused c.in_err-push.field-0.0)) same.object c.in_err-push.ensures.step in
-    rw (exit-is c.from_residual.ensures.1) (stops (ByHandle c.args.self.now.object.handle) (VectorOf g.T.Scalar.kind) (λ i z. Push (ByHandle c.args.self.now.object.handle) (literal_of g.T.Scalar.kind z)) (map g.T.Scalar.whole c.args.values.now) c.values.i (g.T.Scalar.whole c.index-values-i.result)
+    rw (exit-is c.from_residual.ensures.1) (stops (ByHandle c.args.self.now.object.handle) (VectorOf g.T.Scalar.kind) (λ i z. Push (ByHandle c.args.self.now.object.handle) (literal_of g.T.Scalar.kind z)) (λ old new i. ⊤) (map g.T.Scalar.whole c.args.values.now) c.values.i (g.T.Scalar.whole c.index-values-i.result)
     (segment_of c.args.self.now) (segment_of c.values.self) (segment_of c.push.new.self) c.in_err-push.field-0.0
     (value-at g.T.Scalar.whole c.args.values.now c.values.i c.index-values-i.result c.values-test.true c.index-values-i.is) c.values.invariant.steps c.in_err-push.ensures.refused step)
 
@@ -26,7 +27,7 @@ values-preserved g c =
     (Push (ByHandle o.handle) (literal_of g.T.Scalar.kind (g.T.Scalar.whole c.index-values-i.result))) Done) same.object c.in_ok-push.ensures.step in
     record {
       same = record { loan = c.push.ensures.same.loan ∙ same.loan; object = c.push.ensures.same.object ∙ same.object };
-      steps = steps-on (ByHandle c.args.self.now.object.handle) (VectorOf g.T.Scalar.kind) (λ i z. Push (ByHandle c.args.self.now.object.handle) (literal_of g.T.Scalar.kind z)) (map g.T.Scalar.whole c.args.values.now) c.values.i (g.T.Scalar.whole c.index-values-i.result)
+      steps = steps-on (ByHandle c.args.self.now.object.handle) (VectorOf g.T.Scalar.kind) (λ i z. Push (ByHandle c.args.self.now.object.handle) (literal_of g.T.Scalar.kind z)) (λ old new i. ⊤) (map g.T.Scalar.whole c.args.values.now) c.values.i (g.T.Scalar.whole c.index-values-i.result)
           (segment_of c.args.self.now) (segment_of c.values.self) (segment_of c.push.new.self)
-          (value-at g.T.Scalar.whole c.args.values.now c.values.i c.index-values-i.result c.values-test.true c.index-values-i.is) c.values.invariant.steps step;
+          (value-at g.T.Scalar.whole c.args.values.now c.values.i c.index-values-i.result c.values-test.true c.index-values-i.is) c.values.invariant.steps step tt;
     }

@@ -801,7 +801,8 @@ class Segment(collections.abc.MutableMapping):
             return
         try:
             if file.held and self._process == os.getpid():
-                warnings.warn(f"a segment of {self._path!r} was not closed, and is not saved", ResourceWarning, source=self)
+                said = f"a segment of {self._path!r} was not closed, and is not saved"
+                warnings.warn(said, ResourceWarning, source=self)
         finally:
             _zx.zx_file_discard(file)
 

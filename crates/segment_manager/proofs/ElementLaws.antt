@@ -12,3 +12,5 @@ pub use Rattle.segment_manager.proofs.objects.Stored.{literal-read, literals-rea
 -- the plans of the commands on a vector or a text, and on an object that is neither
 pub use Rattle.segment_manager.proofs.containers.ContentPlans.{append-other, assign-plan, assign-refused, text-plan}
 pub use Rattle.segment_manager.proofs.containers.ContentPlans.{text-refused}
+-- the elements of an array or a vector stand in its run
+pub use Rattle.segment_manager.proofs.containers.ElementRuns.{IsElementAt, IsRowOfKind, AnArray, AVector, row-element, run-kind}

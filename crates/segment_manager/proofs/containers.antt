@@ -33,3 +33,4 @@ pub mod PlacedTexts
 pub mod Changeable
 pub mod PairCommands
 pub mod ToChange
+pub mod ElementRuns

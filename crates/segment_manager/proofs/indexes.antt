@@ -11,3 +11,4 @@ pub mod KeyOrder
 pub mod HeldIndexes
 pub mod Bridge
 pub mod WalkedInstances
+pub mod PartedNames

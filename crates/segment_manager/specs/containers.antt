@@ -8,3 +8,4 @@ pub mod Walks
 pub mod ToChange
 pub mod Stored
 pub mod Changeable
+pub mod ElementRuns

@@ -3,3 +3,4 @@ pub mod Entries
 pub mod Indexed
 pub mod Listed
 pub mod Iterating
+pub mod NamesFrom

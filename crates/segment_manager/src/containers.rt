@@ -2,6 +2,7 @@
 pub(crate) mod any_elements;
 pub(crate) mod any_pairs;
 pub(crate) mod constructing_containers;
+pub(crate) mod element_runs;
 pub(crate) mod fillings;
 pub(crate) mod finding_containers;
 pub(crate) mod maps;

@@ -27,6 +27,7 @@ pub mod theorems;
 
 pub use blocks::tiles::Span;
 pub use blocks::walking_tiles::Tiles;
+pub use containers::element_runs::ElementRun;
 pub use errors::{CreateError, CreateRefused, RelocateRefused};
 pub use indexes::iterating::{Instances, Names};
 pub use modes::Mode;

@@ -7,7 +7,7 @@ ghost use Rattle.segment_manager.specs.{Answers.Number, State.IsReply, State.IsS
 use crate::layout::SIZE_AT;
 use crate::modes::Mode;
 use best_fit::Heap;
-use raw_region::Window;
+use raw_region::{RawRegion, Window};
 use std::marker::Model;
 
 /// Typed objects under names in one run of bytes, with how it is open.
@@ -75,6 +75,16 @@ impl Segment {
         ensures { result ≡ length (whole self.now.cut) - (length self.now.cut.before + length self.now.cut.bytes) }
     {
         self.heap.region_left()
+    }
+
+    /// The region that the segment lies in, with the bytes that it has now.
+    ///
+    /// Example: `let region = segment.into_region()`.
+    pub fn into_region(self) -> RawRegion
+        ensures { result ≡ whole self.cut }
+    {
+        let Segment { heap, .. } = self;
+        heap.into_window().into_region()
     }
 
     /// Whether the segment is open for reading.

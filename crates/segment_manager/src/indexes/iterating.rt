@@ -17,9 +17,9 @@ use std::marker::Model;
 /// Contracts see the segment, the index, and how many objects came.
 #[derive(Drop)]
 pub struct Instances<'a> {
-    segment: &'a Segment,
-    index: Index,
-    at: u64,
+    pub(crate) segment: &'a Segment,
+    pub(crate) index: Index,
+    pub(crate) at: u64,
 }
 
 impl<'a> Model for Instances<'a> {
@@ -64,7 +64,7 @@ impl<'a> Iterator for Instances<'a> {
 /// Contracts see the segment, and how many names came.
 #[derive(Drop)]
 pub struct Names<'a> {
-    instances: Instances<'a>,
+    pub(crate) instances: Instances<'a>,
 }
 
 impl<'a> Model for Names<'a> {

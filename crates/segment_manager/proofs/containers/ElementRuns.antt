@@ -1,0 +1,302 @@
+-- Where the elements of an object stand: what is read of its head and of the words of its container is its run.
+use Rattle.segment_manager.proofs.Common as common
+use common.{◌≡◌, refl, sym, ap, subst, ◌∙◌, ℕ, ℤ, zero, suc, Bool, true, ◌∷◌, ◌+◌, ◌*◌, ◌%◌, ◌≤◌, Option, Some, None}
+use common.{Result, Ok, Err, List, [], length, arith, IsTrue, Cut, Memory, Has, bytes_of, read, current, word_at}
+use common.{link_at, has_room, live_of, IsHeap, handle, Extent, Table, room_block, Key, Kind, ScalarKind, U8}
+use common.{size_of, spelled, Scalar, String, Vector, Refusal, NotFound, Object, Directory, Value, Numbers, Elements}
+use common.{Bytes, Pairs, Texts, object_at, kind_of, padded, head_len, IsValueAt, StandsAt}
+use common.{Answers, handle_at, State, StandsFor, IsSegment, Contents, slice_get, list_all, is_value}
+use common.{is_good_value, spelling, contents_of, Denotes, count_of, eqb-true, is_table, Storage, IfSome, value_len}
+use common.{WrongKind}
+use Rattle.segment_manager.proofs.objects.Here.{here, nothing-if, seen-handle, standing}
+use Rattle.segment_manager.proofs.objects.Standings.{standing-room, standing-short}
+use Rattle.segment_manager.proofs.containers.Contained.{contents-stand}
+use Rattle.segment_manager.proofs.Calling.{denotes-heap}
+use Rattle.segment_manager.proofs.{Frame.object-roomy, blocks.Blocks.spelling-length, objects.Rows.Has-element}
+use Rattle.raw_region.proofs.Facts.{first, second}
+use Rattle.segment_manager.specs.objects.ElementLists.{numbers_in}
+use Rattle.best_fit.proofs.Laws.{block_aligned}
+use Rattle.best_fit.specs.Table.{table_link}
+use Rattle.seg_vector.proofs.Storage.{stands-room}
+use Rattle.std.specs.Option.{unwrap_or}
+use Rattle.std.specs.Prelude.{IfOk, option_map}
+use Rattle.segment_manager.specs.declared.containers.element_runs.ElementRun.{ElementRun}
+use Rattle.segment_manager.specs.containers.ElementRuns.{IsRunOf, run_at, run_in, run_of, spelled_at, spelled_in}
+use Rattle.segment_manager.specs.containers.ElementRuns.{storage_offset}
+
+-- ---- what is read
+
+-- the link of a container leads to its storage
+link-offset : (t : Option Extent)
+    → unwrap_or (option_map handle t) 0 ≡ elim t as (λ _. ℕ) [ None ↦ 0 | Some x ↦ handle x ]
+link-offset None = refl
+link-offset (Some x) = refl
+
+link-said : (m : Memory) (at : ℕ) (t : Table) {r : ℕ} → r ≡ unwrap_or (link_at m at) 0
+    → link_at m at ≡ table_link t → r ≡ storage_offset t
+link-said m at t e f = e ∙ ap (λ (l : Option ℕ). unwrap_or l 0) f ∙ link-offset t.extent
+
+-- the run that is read of the words of a container
+pub record IsRunRead (m : Memory) (h at : ℕ) (k : ScalarKind) (r : ElementRun) : Type 0 where
+  pub offset : r.offset ≡ unwrap_or (link_at m (h + at)) 0
+  pub count : r.count ≡ word_at m (h + (at + 8))
+  pub kind : r.kind ≡ k
+
+same-run : {r q : ElementRun} → r.offset ≡ q.offset → r.count ≡ q.count → r.kind ≡ q.kind → r ≡ q
+same-run {r} {q} e f g = λ i. record { offset = e i; count = f i; kind = g i }
+
+module _ {b : List ℕ} {h : ℕ} (o : Object) (s : StandsAt b h o) where
+  abbrev start : ℕ
+  start = handle o.extent + head_len + padded (length o.name)
+
+  pub vector-read : (at : ℕ) (k : ScalarKind) (r : ElementRun) (v : Value) → at ≡ head_len + padded (length o.name)
+      → IsRunRead (bytes_of b) h at k r → Vector k ≡ kind_of v → IsValueAt (bytes_of b) start v → Ok r ≡ run_in start v
+  vector-read at k r (Elements j zs t) e f g said =
+      let place : h + at ≡ start = omega (arith, s.at, e) in
+      let len : h + (at + 8) ≡ start + 8 = omega (arith, place) in
+      let kind : k ≡ j = cc in
+      ap Ok (same-run (link-said (bytes_of b) start t
+      (f.offset ∙ ap (λ x. unwrap_or (link_at (bytes_of b) x) 0) place) said.link)
+      (f.count ∙ ap (word_at (bytes_of b)) len ∙ said.len_word) (f.kind ∙ kind))
+  vector-read at k r v e f g said = absurd (cc)
+
+  pub string-read : (at : ℕ) (r : ElementRun) (v : Value) → at ≡ head_len + padded (length o.name)
+      → IsRunRead (bytes_of b) h at U8 r → String ≡ kind_of v → IsValueAt (bytes_of b) start v → Ok r ≡ run_in start v
+  string-read at r (Bytes bs t) e f g said =
+      let place : h + at ≡ start = omega (arith, s.at, e) in
+      let len : h + (at + 8) ≡ start + 8 = omega (arith, place) in
+      ap Ok (same-run (link-said (bytes_of b) start t
+      (f.offset ∙ ap (λ x. unwrap_or (link_at (bytes_of b) x) 0) place) said.link)
+      (f.count ∙ ap (word_at (bytes_of b)) len ∙ said.len_word) f.kind)
+  string-read at r v e f g said = absurd (cc)
+
+  pub scalars-read : (at n : ℕ) (k : ScalarKind) (v : Value) → at ≡ head_len + padded (length o.name) → n ≡ count_of v
+      → Scalar k ≡ kind_of v
+      → Ok (let r : ElementRun = record { offset = h + at; count = n; kind = k } in r) ≡ run_in start v
+  scalars-read at n k (Numbers j zs) e f g =
+      let place : h + at ≡ start = omega (arith, s.at, e) in let kind : k ≡ j = cc in
+      ap Ok (same-run place f kind)
+  scalars-read at n k v e f g = absurd (cc)
+
+  pub no-run_in : (kind : Kind) (v : Value) → kind ≡ kind_of v → ((k : ScalarKind) → kind ≡ Scalar k → ⊥)
+      → ((k : ScalarKind) → kind ≡ Vector k → ⊥) → (kind ≡ String → ⊥) → Err WrongKind ≡ run_in start v
+  no-run_in kind (Numbers k zs) e f g n = absurd (f k e)
+  no-run_in kind (Elements k zs t) e f g n = absurd (g k e)
+  no-run_in kind (Bytes bs t) e f g n = absurd (n e)
+  no-run_in kind (Pairs k v ps) e f g n = refl
+  no-run_in kind (Texts ps t) e f g n = refl
+
+-- where the three words of a container stand in the block of its object
+pub record AreWords (b : List ℕ) (h at : ℕ) : Type 0 where
+  pub whole : at % 8 ≡ 0
+  pub near : at ≤ 4096
+  pub room : IsTrue (has_room (live_of b) h (at + 24))
+
+pub are-words : {b : List ℕ} {h : ℕ} (o : Object) → StandsAt b h o → (at : ℕ)
+    → at ≡ head_len + padded (length o.name) → value_len o.value ≡ 24 → AreWords b h at
+are-words {b} {h} o s at e len =
+    let short = standing-short b h o s in
+    record {
+      whole = omega (arith, e);
+      near = omega (arith, e, short);
+      room = standing-room b h (at + 24) o s (omega (arith, e, len));
+    }
+
+pub vector-len : (k : ScalarKind) (v : Value) → Vector k ≡ kind_of v → value_len v ≡ 24
+vector-len k (Elements j zs t) e = refl
+vector-len k v e = absurd (cc)
+
+pub string-len : (v : Value) → String ≡ kind_of v → value_len v ≡ 24
+string-len (Bytes bs t) e = refl
+string-len v e = absurd (cc)
+
+-- ---- where it lies, and what stands there
+
+-- a run of so many bytes lies in the heap, at a multiple of 8
+record Lies (c : Cut) (at n : ℕ) : Type 0 where
+  inside : at + n ≤ length c.bytes
+  aligned : at % 8 ≡ 0
+
+-- as the bytes of a block do, from a multiple of 8 in it on
+room-lies : (c : Cut) (h at n : ℕ) → IsHeap current c.bytes → IsTrue (has_room (live_of c.bytes) h (at + n))
+    → at % 8 ≡ 0 → Lies c (h + at) n
+room-lies c h at n heap has even =
+    let r = room_block c h (at + n) heap has in let b = r.block in let whole = block_aligned c h b in
+    let enough = r.enough in let o = b.at in let ends = b.inside in
+    record { inside = omega arith; aligned = omega arith }
+
+storage-has : (m : Memory) (t : Option Extent) (bytes : List ℕ)
+    → elim t as (λ _. Type 0) [ None ↦ bytes ≡ [] | Some x ↦ Has m (handle x) bytes ]
+    → Has m (elim t as (λ _. ℕ) [ None ↦ 0 | Some x ↦ handle x ]) bytes
+storage-has m None bytes e = subst (λ (bs : List ℕ). Has m 0 bs) (sym e) refl
+storage-has m (Some x) bytes h = h
+
+has-run : (m : Memory) (at : ℕ) (v : Value) {run : ElementRun} → IsValueAt m at v → run_in at v ≡ Ok run
+    → Has m run.offset (spelled_in v)
+has-run m at (Numbers k zs) {run} h e =
+    let same : at ≡ run.offset = cc in subst (λ n. Has m n (spelled k zs)) same h
+has-run m at (Elements k zs t) {run} h e =
+    let same : storage_offset t ≡ run.offset = cc in
+    subst (λ n. Has m n (spelled k zs)) same (storage-has m t.extent (spelled k zs) h.storage)
+has-run m at (Bytes bs t) {run} h e =
+    let same : storage_offset t ≡ run.offset = cc in
+    subst (λ n. Has m n bs) same (storage-has m t.extent bs h.storage)
+has-run m at (Pairs k v ps) h e = absurd (cc)
+has-run m at (Texts ps t) h e = absurd (cc)
+
+storage-lies : (c : Cut) (t : Option Extent) (each len capacity : ℕ) → IsHeap current c.bytes
+    → IsTrue (is_table Storage each (record { capacity = capacity; extent = t })) → len ≤ capacity
+    → IfSome (option_map handle t) (λ g. IsTrue (has_room (live_of c.bytes) g (each * len)))
+    → Lies c (elim t as (λ _. ℕ) [ None ↦ 0 | Some x ↦ handle x ]) (each * len)
+storage-lies c None each len capacity heap table fits room =
+    let none = eqb-true capacity 0 table in let short : len ≡ 0 = omega (arith, fits, none) in
+    let a : each * len ≡ each * 0 = ap (λ n. each * n) short in record { inside = omega (arith, a); aligned = refl }
+storage-lies c (Some x) each len capacity heap table fits room =
+    let e : each * len ≡ 0 + each * len = omega arith in
+    let l = room-lies c (handle x) 0 (each * len) heap
+    (subst (λ n. IsTrue (has_room (live_of c.bytes) (handle x) n)) e room) refl in
+    let in_heap = l.inside in let even = l.aligned in
+    record { inside = omega (arith, in_heap); aligned = omega (arith, even) }
+
+module _ (c : Cut) (d : Directory) (key : Key) (k : Denotes current c.bytes d) (o : Object)
+    (is : object_at d key ≡ Some o) where
+  contained : (n : Contents) → contents_of o.value ≡ Some n → Lies c (storage_offset n.table) (n.each * n.len)
+  contained n e =
+      let s = contents-stand c.bytes d key o n k is e in
+      storage-lies c n.table.extent n.each n.len n.table.capacity s.heap s.table s.fits (stands-room s)
+
+  lies-if : (v : Value) {run : ElementRun} → o.value ≡ v
+      → run_in (handle o.extent + head_len + padded (length o.name)) v ≡ Ok run
+      → Lies c run.offset (size_of run.kind * run.count)
+  lies-if (Numbers j zs) {run} e f =
+      let start : ℕ = head_len + padded (length o.name) in let n : ℕ = size_of j * length zs in
+      let long : value_len o.value ≡ n = ap value_len e in
+      let l = room-lies c (handle o.extent) start n (denotes-heap current c.bytes d k)
+      (standing-room c.bytes (handle o.extent) (start + n) o (standing c.bytes d key o k is) (omega (arith, long)))
+      (omega arith) in
+      let in_heap = l.inside in let even = l.aligned in
+      let r : ElementRun = record {
+        offset = handle o.extent + head_len + padded (length o.name);
+        count = length zs;
+        kind = j;
+      } in
+      let same : r ≡ run = cc in
+      let lies : Lies c r.offset n = record { inside = omega (arith, in_heap); aligned = omega (arith, even) } in
+      subst (λ (r : ElementRun). Lies c r.offset (size_of r.kind * r.count)) same lies
+  lies-if (Elements j zs t) {run} e f =
+      let r : ElementRun = record { offset = storage_offset t; count = length zs; kind = j } in
+      let same : r ≡ run = cc in
+      subst (λ (r : ElementRun). Lies c r.offset (size_of r.kind * r.count)) same (contained _ (ap contents_of e))
+  lies-if (Bytes bs t) {run} e f =
+      let r : ElementRun = record { offset = storage_offset t; count = length bs; kind = U8 } in
+      let same : r ≡ run = cc in
+      subst (λ (r : ElementRun). Lies c r.offset (size_of r.kind * r.count)) same (contained _ (ap contents_of e))
+  lies-if (Pairs j v ps) e f = absurd (cc)
+  lies-if (Texts ps t) e f = absurd (cc)
+
+-- ---- the object of a key
+
+-- it has the run
+record HasRun (d : Directory) (key : Key) (run : ElementRun) : Type 0 where
+  object : Object
+  is : object_at d key ≡ Some object
+  run_is : run_of object ≡ Ok run
+
+abbrev run_if : Option Object → Result ElementRun Refusal
+run_if r = elim r as (λ _. Result ElementRun Refusal) [ None ↦ Err NotFound | Some o ↦ run_of o ]
+
+has-if : {d : Directory} {key : Key} {run : ElementRun} (r : Option Object) → object_at d key ≡ r → Ok run ≡ run_if r
+    → HasRun d key run
+has-if None e f = absurd (cc)
+has-if (Some o) e f = record { object = o; is = e; run_is = sym f }
+
+pub run-answers : {s t : State} (view : s ≡ t) (key : Key) {h : ℕ} {r : Result ElementRun Refusal}
+    → Answers t (λ d. handle_at d key) (Some h) → ((o : Object) → StandsAt s.cut.bytes h o → r ≡ run_of o)
+    → Answers t (λ d. run_at d key) r
+run-answers {s} {t} view key {h} {r} a each = subst (λ (u : State). Answers u (λ d. run_at d key) r) view (record {
+  answers = λ d k.
+      let o = here s.cut.bytes d key h k.denotes ((seen-handle s t view key (Some h) a).answers d k) in
+      each o.object o.stands ∙ sym (ap run_if o.is);
+})
+
+pub no-run : {s : State} (key : Key) → Answers s (λ d. handle_at d key) None
+    → Answers s (λ d. run_at d key) (Err NotFound)
+no-run key a = record { answers = λ d k. sym (ap run_if (nothing-if (object_at d key) (a.answers d k))) }
+
+-- and its elements are spelled there
+pub run-bytes : {s t : State} (view : s ≡ t) (key : Key) (r : Result ElementRun Refusal) → IsSegment s.cut.bytes
+    → Answers t (λ d. run_at d key) r → IfOk r (λ run. IsRunOf t key run)
+run-bytes view key (Err why) g a = tt
+run-bytes {s} {t} view key (Ok run) g a =
+    let b = subst (λ (u : State). Answers u (λ d. run_at d key) (Ok run)) (sym view) a in
+    let o = has-if {d = g.0} {key = key} (object_at g.0 key) refl (b.answers g.0 g.1) in
+    let lies = lies-if s.cut g.0 key g.1.denotes o.object o.is o.object.value refl o.run_is in
+    subst (λ (u : State). IsRunOf u key run) view (record {
+      inside = lies.inside;
+      aligned = lies.aligned;
+      spells = λ d l.
+          let o = has-if {d = d} {key = key} (object_at d key) refl (b.answers d l) in
+          let said = (standing s.cut.bytes d key o.object l.denotes o.is).said.value in
+          subst (λ (bs : List ℕ). Has (bytes_of s.cut.bytes) run.offset bs)
+          (sym (ap (λ (q : Option Object). elim q as (λ _. List ℕ) [ None ↦ [] | Some p ↦ spelled_in p.value ]) o.is))
+          (has-run (bytes_of s.cut.bytes) _ o.object.value said o.run_is);
+    })
+
+-- ---- the elements of rows
+
+all-at : (t : ℤ → Bool) (zs : List ℤ) (i : ℕ) {z : ℤ} → IsTrue (list_all t zs) → slice_get zs i ≡ Some z → IsTrue (t z)
+all-at t [] i h e = absurd (cc)
+all-at t (y ∷ ys) zero {z} h e = let same : y ≡ z = cc in subst (λ x. IsTrue (t x)) same (first (t y) (list_all t ys) h)
+all-at t (y ∷ ys) (suc i) h e = all-at t ys i (second (t y) (list_all t ys) h) e
+
+-- an element is a value of the kind, and its spelling is read in its place
+pub record IsElementAt (m : Memory) (at : ℕ) (k : ScalarKind) (z : ℤ) : Type 0 where
+  pub value : is_value k z ≡ true
+  pub spelled_there : read m at (size_of k) ≡ spelling k z
+
+element-in : (m : Memory) (at : ℕ) (k : ScalarKind) (zs : List ℤ) (i : ℕ) {z : ℤ} → IsTrue (list_all (is_value k) zs)
+    → Has m at (spelled k zs) → slice_get zs i ≡ Some z → IsElementAt m (at + size_of k * i) k z
+element-in m at k zs i {z} good h e = record {
+  value = all-at (is_value k) zs i good e;
+  spelled_there = ap (read m (at + size_of k * i)) (sym (spelling-length k z))
+      ∙ Has-element (spelling k) (spelling-length k) m at zs i h e;
+}
+
+-- an array or a vector of scalars of a kind
+pub data IsRowOfKind (k : ScalarKind) (v : Value) : Type 0 where
+  AnArray : kind_of v ≡ Scalar k → IsRowOfKind k v
+  AVector : kind_of v ≡ Vector k → IsRowOfKind k v
+
+row-if : (m : Memory) (at : ℕ) (k : ScalarKind) (v : Value) (i : ℕ) {z : ℤ} → IsRowOfKind k v
+    → IsTrue (is_good_value v) → Has m at (spelled_in v) → slice_get (numbers_in v) i ≡ Some z
+    → IsElementAt m (at + size_of k * i) k z
+row-if m at k (Numbers j zs) i {z} (AnArray e) good h f =
+    let same : j ≡ k = cc in
+    subst (λ k. IsElementAt m (at + size_of k * i) k z) same (element-in m at j zs i (second _ _ good) h f)
+row-if m at k (Elements j zs t) i {z} (AVector e) good h f =
+    let same : j ≡ k = cc in
+    subst (λ k. IsElementAt m (at + size_of k * i) k z) same (element-in m at j zs i (second _ _ good) h f)
+row-if m at k v i (AnArray e) good h f = absurd (cc)
+row-if m at k v i (AVector e) good h f = absurd (cc)
+
+-- the elements of the object of a key stand in its run
+pub row-element : (s : State) (key : Key) (run : ElementRun) (k : ScalarKind) → IsRunOf s key run → (d : Directory)
+    → StandsFor s.cut.bytes d → (o : Object) → object_at d key ≡ Some o → IsRowOfKind k o.value → (i : ℕ) {z : ℤ}
+    → slice_get (numbers_in o.value) i ≡ Some z → IsElementAt (bytes_of s.cut.bytes) (run.offset + size_of k * i) k z
+row-element s key run k r d l o is row i e = row-if (bytes_of s.cut.bytes) run.offset k o.value i row
+    (object-roomy current o (standing s.cut.bytes d key o l.denotes is).good).value
+    (subst (λ (bs : List ℕ). Has (bytes_of s.cut.bytes) run.offset bs) (ap (λ (q : Option Object).
+    elim q as (λ _. List ℕ) [ None ↦ [] | Some p ↦ spelled_in p.value ]) is) (r.spells d l)) e
+
+-- and the run says their kind
+pub run-kind : (s : State) (key : Key) (run : ElementRun) (k : ScalarKind) → Answers s (λ d. run_at d key) (Ok run)
+    → (d : Directory) → StandsFor s.cut.bytes d → (o : Object) → object_at d key ≡ Some o → IsRowOfKind k o.value
+    → (run.kind ≡ k) × (run.count ≡ length (numbers_in o.value))
+run-kind s key run k a d l o is row = kind-if o.value row (a.answers d l ∙ ap run_if is)
+  where
+    kind-if : (v : Value) → IsRowOfKind k v → Ok run ≡ run_in (handle o.extent + head_len + padded (length o.name)) v
+        → (run.kind ≡ k) × (run.count ≡ length (numbers_in v))
+    kind-if (Numbers j zs) (AnArray e) f = (cc, cc)
+    kind-if (Elements j zs t) (AVector e) f = (cc, cc)
+    kind-if v (AnArray e) f = absurd (cc)
+    kind-if v (AVector e) f = absurd (cc)

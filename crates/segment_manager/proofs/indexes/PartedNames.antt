@@ -1,0 +1,72 @@
+-- A look-up in the index of names parts them by the text that is looked up.
+use Rattle.segment_manager.proofs.Common as common
+use common.{◌≡◌, sym, ap, subst, ◌∙◌, ℕ, ◌<◌, ◌≤◌, ◌⊎◌, inl, inr, true, false, Some, length, arith, cases_lt}
+use common.{slice_get, slice_get_within, List, slice_cmp, nat_cmp, is_lt, Equal, same_Some, Cut, bytes_of, Entry}
+use common.{Name, Found, Absent, IsPlace, handle, Object, Directory, by_name, named_objects, Denotes, IsEntry, Named}
+use common.{entries_of, current, State}
+use Rattle.segment_manager.proofs.indexes.HeldIndexes.{entries-in, denotes-rises, objects-ascend}
+use Rattle.segment_manager.proofs.indexes.EntryPlaces.{all-at, ascends-at, at-handle, stands-at}
+use Rattle.segment_manager.proofs.indexes.Indexes.{by_name-strict}
+use Rattle.segment_manager.proofs.Denoted.{handles-length}
+use Rattle.segment_manager.proofs.objects.KeyCalls.{ForIndex, of-directory}
+use Rattle.std.proofs.lemmas.Map.Lookups.{exact_bytes}
+use Rattle.seg_index.specs.Lookups.{order}
+use Rattle.segment_manager.specs.indexes.NamesFrom.{IsFirstFrom, PartsNames, is_before}
+use denote.Ref.{Bor}
+
+module _ (c : Cut) (d : Directory) (k : Denotes current c.bytes d) (s : Bor (List ℕ)) where
+  -- an entry compares the name of its object
+  compared : (j : ℕ) {o : Object} → slice_get (named_objects d) j ≡ Some o
+      → slice_cmp nat_cmp o.name s.now ≡ order (bytes_of c.bytes) (Name s) (handle o.extent)
+  compared j {o} f = λ i. slice_cmp nat_cmp
+      (sym (all-at (IsEntry (bytes_of c.bytes)) (named_objects d) j (entries-in Named c k) f).name i) s.now
+
+  -- one behind the entry of the text, or the entry itself, does not stand before the text
+  from-there : (at j : ℕ) {o p : Object} → slice_get (named_objects d) at ≡ Some o
+      → slice_get (named_objects d) j ≡ Some p → slice_cmp nat_cmp o.name s.now ≡ Equal → at ≤ j
+      → (at < j) ⊎ (j ≤ at) → is_before s.now p ≡ false
+  from-there at j {o} {p} f g e l (inl m) = subst (λ n. is_lt (slice_cmp nat_cmp p.name n) ≡ false)
+      (exact_bytes o.name s.now e) (by_name-strict.asym o p
+      (ascends-at (λ o p. by_name o p ≡ true) (named_objects d) at j (objects-ascend Named k.directory) m f g))
+  from-there at j {o} {p} f g e l (inr m) =
+      let same : at ≡ j = omega (arith, l, m) in
+      ap is_lt (subst (λ (q : Object). slice_cmp nat_cmp q.name s.now ≡ Equal)
+      (same_Some o p (sym f ∙ ap (slice_get (named_objects d)) same ∙ g)) e)
+
+  pub parts-absent : (at : ℕ) → IsPlace (bytes_of c.bytes) (Name s) (entries_of Named d) (Absent at)
+      → PartsNames s.now (named_objects d) at
+  parts-absent at p =
+      let each = p.1 (denotes-rises Named c (Name s) k tt) in
+      record {
+        within = omega (arith, p.0, handles-length (named_objects d));
+        ahead = λ j o f l. ap is_lt (compared j f ∙ (each j (handle o.extent) (at-handle (named_objects d) j f)).0 l);
+        from = λ j o f l. ap is_lt (compared j f ∙ (each j (handle o.extent) (at-handle (named_objects d) j f)).1 l);
+      }
+
+  pub parts-found : (at : ℕ) → IsPlace (bytes_of c.bytes) (Name s) (entries_of Named d) (Found at)
+      → PartsNames s.now (named_objects d) at
+  parts-found at p =
+      let t = stands-at (named_objects d) at p.1 in
+      let equal : slice_cmp nat_cmp t.object.name s.now ≡ Equal =
+      compared at t.is ∙ ap (order (bytes_of c.bytes) (Name s)) (sym t.handle) ∙ p.2 in
+      record {
+        within = omega (arith, slice_get_within (named_objects d) at t.object t.is);
+        ahead = λ j o f l. subst (λ n. is_lt (slice_cmp nat_cmp o.name n) ≡ true)
+            (exact_bytes t.object.name s.now equal) (ascends-at (λ o p. by_name o p ≡ true) (named_objects d) j at (objects-ascend Named k.directory) l f t.is);
+        from = λ j o f l. from-there at j t.is f equal l (cases_lt at j);
+      }
+
+-- the same of each directory that the bytes stand for
+pub first-absent : (s : State) (e : Bor (List ℕ)) (at : ℕ)
+    → ForIndex s.cut Named (λ hs. IsPlace (bytes_of s.cut.bytes) (Name e) hs (Absent at)) → IsFirstFrom s e.now at
+first-absent s e at f = record {
+  parts = λ d k. parts-absent s.cut d k.denotes e at
+      (of-directory s Named (λ hs. IsPlace (bytes_of s.cut.bytes) (Name e) hs (Absent at)) k f);
+}
+
+pub first-found : (s : State) (e : Bor (List ℕ)) (at : ℕ)
+    → ForIndex s.cut Named (λ hs. IsPlace (bytes_of s.cut.bytes) (Name e) hs (Found at)) → IsFirstFrom s e.now at
+first-found s e at f = record {
+  parts = λ d k. parts-found s.cut d k.denotes e at
+      (of-directory s Named (λ hs. IsPlace (bytes_of s.cut.bytes) (Name e) hs (Found at)) k f);
+}

@@ -1,0 +1,53 @@
+-- Where the elements of an array, a vector or a string of scalars stand in the image, one after another.
+use Rattle.std.specs.Prelude.{◌≡◌, ℕ, ◌+◌, ◌*◌, ◌%◌, ◌≤◌, Some, None, Result, Ok, Err, List, [], length}
+use Rattle.raw_region.specs.Memory.{Has, bytes_of}
+use Rattle.best_fit.specs.Extents.{handle}
+use Rattle.best_fit.specs.Table.{Table}
+use Rattle.seg_types.specs.declared.kinds.ScalarKind.TheVariants.{U8}
+use Rattle.seg_types.specs.declared.refusals.Refusal.{Refusal}
+use Rattle.seg_types.specs.declared.refusals.Refusal.TheVariants.{NotFound, WrongKind}
+use Rattle.seg_types.specs.Kinds.{size_of}
+use Rattle.seg_types.specs.Names.{Key}
+use Rattle.seg_vector.specs.Vector.{spelled}
+use Rattle.segment_manager.specs.declared.containers.element_runs.ElementRun.{ElementRun}
+use Rattle.segment_manager.specs.Directory.{Value, Numbers, Elements, Bytes, Pairs, Texts, Object, Directory}
+use Rattle.segment_manager.specs.Directory.{object_at, padded}
+use Rattle.segment_manager.specs.Layout.{head_len}
+use Rattle.segment_manager.specs.State.{State, StandsFor}
+
+-- where the storage of a container begins, or 0 where it has none
+abbrev pub storage_offset : Table → ℕ
+storage_offset t = elim t.extent as (λ _. ℕ) [ None ↦ 0 | Some x ↦ handle x ]
+
+-- the run of the elements of a value whose own bytes begin at an offset
+abbrev pub run_in : ℕ → Value → Result ElementRun Refusal
+run_in at (Numbers k zs) = Ok (record { offset = at; count = length zs; kind = k })
+run_in at (Elements k zs t) = Ok (record { offset = storage_offset t; count = length zs; kind = k })
+run_in at (Bytes bs t) = Ok (record { offset = storage_offset t; count = length bs; kind = U8 })
+run_in at (Pairs k v ps) = Err WrongKind
+run_in at (Texts ps t) = Err WrongKind
+
+-- that of an object
+abbrev pub run_of : Object → Result ElementRun Refusal
+run_of o = run_in (handle o.extent + head_len + padded (length o.name)) o.value
+
+-- that of the object of a key
+abbrev pub run_at : Directory → Key → Result ElementRun Refusal
+run_at d key = elim (object_at d key) as (λ _. Result ElementRun Refusal) [ None ↦ Err NotFound | Some o ↦ run_of o ]
+
+-- the bytes that spell the elements of a value, of the object of a key
+abbrev pub spelled_in : Value → List ℕ
+spelled_in (Numbers k zs) = spelled k zs
+spelled_in (Elements k zs t) = spelled k zs
+spelled_in (Bytes bs t) = bs
+spelled_in (Pairs k v ps) = []
+spelled_in (Texts ps t) = []
+
+abbrev pub spelled_at : Directory → Key → List ℕ
+spelled_at d key = elim (object_at d key) as (λ _. List ℕ) [ None ↦ [] | Some o ↦ spelled_in o.value ]
+
+-- A run lies in the image, at a multiple of 8, and its bytes there spell the elements of the object of a key.
+pub record IsRunOf (s : State) (key : Key) (run : ElementRun) : Type 0 where
+  pub inside : run.offset + size_of run.kind * run.count ≤ length s.cut.bytes
+  pub aligned : run.offset % 8 ≡ 0
+  pub spells : (d : Directory) → StandsFor s.cut.bytes d → Has (bytes_of s.cut.bytes) run.offset (spelled_at d key)

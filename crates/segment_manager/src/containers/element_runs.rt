@@ -1,0 +1,84 @@
+//! Where the elements of arrays, vectors and strings of scalars stand in the image.
+ghost use Rattle.std.specs.Option.{unwrap_or};
+ghost use Rattle.std.specs.Prelude.{◌≡◌, ◌+◌, ◌%◌, ◌≤◌, IfOk, IsTrue};
+ghost use Rattle.raw_region.specs.{Format.current, Memory.bytes_of, Memory.word_at};
+ghost use Rattle.offset_link.specs.Link.{link_at};
+ghost use Rattle.best_fit.specs.Heap.{IsHeap, has_room, live_of};
+ghost use Rattle.segment_manager.specs.containers.ElementRuns.{IsRunOf, run_at, run_of};
+ghost use Rattle.segment_manager.specs.{Directory.Object, State.Answers};
+ghost use Rattle.segment_manager.specs.objects.Standing.{HasObject, StandsAt};
+
+use crate::layout::value_at;
+use crate::objects::head::read_head;
+use crate::objects::targets::Target;
+use crate::segment::Segment;
+use best_fit::Heap;
+use seg_types::{Kind, Refusal, ScalarKind};
+
+/// Elements that stand in the image one after another, each the bytes that spell it.
+#[derive(Clone, Copy, Debug, PartialEq, Eq)]
+pub struct ElementRun {
+    /// Where the first one begins, from the front of the segment on; 0 where a container has no storage.
+    pub offset: u64,
+    /// How many they are.
+    pub count: u64,
+    /// Their kind. Those of a string are bytes.
+    pub kind: ScalarKind,
+}
+
+impl Segment {
+    /// Where the elements of the object of a key stand in the image: of scalars, of a vector of scalars, or of a
+    /// string. They stand there until a call moves them.
+    ///
+    /// Example: `let run = segment.element_run(&name)?`.
+    ///
+    /// # Errors
+    ///
+    /// `NotFound` where no object has the key, `WrongKind` where its elements are no scalars.
+    pub fn element_run<O: Target>(&self, key: &O) -> Result<ElementRun, Refusal>
+        requires { O.stands key.now self.now }
+        ensures run { Answers self.now (λ d. run_at d (O.key key.now)) result }
+        ensures bytes { IfOk result (λ run. IsRunOf self.now (O.key key.now) run) }
+    {
+        match key.handle_in(self) {
+            None => Err(Refusal::NotFound),
+            Some(handle) => read_run(&self.heap, handle),
+        }
+    }
+}
+
+/// Where the elements of the object at a handle stand.
+fn read_run(heap: &Heap, handle: u64) -> Result<ElementRun, Refusal>
+    requires heap { IsHeap current heap.now.bytes }
+    requires object { HasObject heap.now.bytes handle }
+    ensures { (o : Object) → StandsAt heap.now.bytes handle o → result ≡ run_of o }
+{
+    let head = read_head(heap, handle);
+    let at = value_at(u64::from(head.name_len));
+    match head.kind {
+        Kind::Scalar(kind) => Ok(ElementRun {
+            offset: handle + at,
+            count: u64::from(head.count),
+            kind,
+        }),
+        Kind::Vector(kind) => Ok(storage_run(heap, handle, at, kind)),
+        Kind::String => Ok(storage_run(heap, handle, at, ScalarKind::U8)),
+        _ => Err(Refusal::WrongKind),
+    }
+}
+
+/// The elements in the storage of the container whose three words stand at `at` in the block of a handle.
+fn storage_run(heap: &Heap, handle: u64, at: u64, kind: ScalarKind) -> ElementRun
+    requires whole { at % 8 ≡ 0 }
+    requires near { at ≤ 4096 }
+    requires room { IsTrue (has_room (live_of heap.now.bytes) handle (at + 24)) }
+    ensures offset { result.offset ≡ unwrap_or (link_at (bytes_of heap.now.bytes) (handle + at)) 0 }
+    ensures count { result.count ≡ word_at (bytes_of heap.now.bytes) (handle + (at + 8)) }
+    ensures kind { result.kind ≡ kind }
+{
+    ElementRun {
+        offset: heap.link(handle, at).unwrap_or(0),
+        count: heap.word(handle, at + 8),
+        kind,
+    }
+}

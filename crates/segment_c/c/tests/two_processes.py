@@ -755,7 +755,10 @@ class Beside:
                     pass
 
     def do_stale(self, name):
-        with open(self.at(f".zaluxhoni-{os.stat(self.at(name)).st_ino:x}"), "wb") as file:
+        number = 0xcbf29ce484222325
+        for byte in os.fsencode(name):
+            number = (number ^ byte) * 0x100000001b3 % 2**64
+        with open(self.at(f".zaluxhoni-{number:016x}"), "wb") as file:
             file.write(b"left")
 
     def left(self, *names):

@@ -169,7 +169,15 @@ class Round:
 
     def end(self):
         self.kill(list(self.savers))
-        zaluxhoni.open(self.path, "w").close()
+        until = time.monotonic() + WAIT
+        while True:
+            try:
+                zaluxhoni.open(self.path, "w").close()
+                break
+            except zaluxhoni.FileInUse:
+                # a run of the program is no child of ours: it may end a moment later
+                if "program" not in self.commands or time.monotonic() > until:
+                    raise
         beside = set(os.listdir(self.folder)) - {"file"}
         # what the program left is the program's
         if beside - ({"file.new"} if "program" in self.commands else set()):

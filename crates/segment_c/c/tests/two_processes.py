@@ -240,8 +240,10 @@ do seed 5
 A open open_only 0: ok
 A set 6: ok
 do remove file
+do stale file
 A close: replaced
-left
+left .zaluxhoni-aad01178f02a6a23
+do remove .zaluxhoni-aad01178f02a6a23
 A saveas create_only other: ok
 A discard: ok
 left other
@@ -533,6 +535,19 @@ do seed 5
 do stale file
 A open open_only 0: ok
 left file
+do stale file
+A set 6: ok
+A save: ok
+left file
+A discard: ok
+
+= a new file that was replaced is left alone
+do seed 50 other
+A open create_only 1024: ok
+do rename other file
+A discard: ok
+A open open_read_only 0: ok
+A get: 50
 A discard: ok
 left file
 """

@@ -86,11 +86,13 @@ returns c =
               (c.settle.ensures.index hs links many i.whole);
           live = laid;
           keeps = keeps;
-          order = keeps-sorted (λ g x f role. (
-            ap (λ (l : LiveSet). extent_at l g) now ∙ unlinked-found q.index g x f role (added (live_of A.bytes)
-                al.extent) (sym (ap (λ (l : LiveSet). extent_at l g) before_live) ∙ found_still g x al f),
-            in-kept (unlinked A at).extents g x keeps (unlinked-found q.index g x f role (live_of A.bytes) f),
-          ));
+          order = keeps-sorted (λ g. record {
+            each = λ x f role. (
+              ap (λ (l : LiveSet). extent_at l g) now ∙ unlinked-found q.index g x f role (added (live_of A.bytes)
+                  al.extent) (sym (ap (λ (l : LiveSet). extent_at l g) before_live) ∙ found_still g x al f),
+              in-kept (unlinked A at).extents g x keeps (unlinked-found q.index g x f role (live_of A.bytes) f),
+            );
+          });
         };
       };
       noop = λ f. absurd (omega arith);

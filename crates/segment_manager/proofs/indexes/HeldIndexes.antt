@@ -3,7 +3,7 @@
 use Rattle.segment_manager.proofs.Common.{◌≡◌, sym, ◌∙◌, ℕ, ◌+◌, ◌≤◌, ◌%◌, [], ◌∷◌, Less, Cut, Name, Code, live}
 use Rattle.segment_manager.proofs.Common.{subst, true, Some, List, arith, Memory, handle, Index, Named, Unique, Object}
 use Rattle.segment_manager.proofs.Common.{length, bytes_of, has_room, place_of, is_class, is_index, is_object, order_of}
-use Rattle.segment_manager.proofs.Common.{IsTrue, IfSome, le-leb, current, HasKeys, Denotes, handles, IsEntry, table_of}
+use Rattle.segment_manager.proofs.Common.{IsTrue, IfSome, le-leb, current, Denotes, handles, IsEntry, table_of}
 use Rattle.segment_manager.proofs.Common.{AllByRecursion, nat_cmp, name_len_at, IsDirectory, IsObjectAt, class_of_index}
 use Rattle.segment_manager.proofs.Common.{slice_cmp, extent_at, IsIndexOf, IsIndexAt, Directory, entries_of, objects_of}
 use Rattle.segment_manager.proofs.objects.Heads.{entries_say_objects, entry-name_len, good-name, good_name-short}
@@ -16,7 +16,7 @@ use Rattle.segment_manager.proofs.{blocks.InUse.unique-in_use, objects.ObjectLis
 use Rattle.segment_manager.proofs.{Calling.denotes-heap, Calling.denotes-live, Frame.object-roomy}
 use Rattle.raw_region.proofs.Facts.{AllByRecursion-filter}
 use Rattle.segment_manager.proofs.Common.{ObjectRole, and_from, and_parts, ap, has_good_name, holds, is_good_value}
-use Rattle.segment_manager.proofs.Common.{is_kind_of, kind_of, object_len, same_role, serves}
+use Rattle.segment_manager.proofs.Common.{◌&&◌, is_kind_of, kind_of, object_len, same_role, serves}
 use Rattle.raw_region.proofs.Facts.{second}
 use Rattle.seg_index.specs.Sorted.{AreSorted, HasSortKey, HasSortedIndex, sort_key_end, sort_order}
 use Rattle.std.specs.List.Sorted.{IsStrictlySortedBy}

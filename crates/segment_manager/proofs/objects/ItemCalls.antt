@@ -131,10 +131,10 @@ module _ (S : Type 0) {A : Type 0} (gives : S → Option A → S → Type 0) (wh
       numbers-made k (map whole f.items) (good-items f.items f.taken.1 f.values) (subst (λ n. IsChanged current m w
       (h + at) (size_of k * n)) (sym (length-map f.items whole)) f.change) f.content
 
-  begun-items : (entry : Option NewEntry) {m : Cut} (h at : ℕ) (xs : List A) → length xs ≡ count
+  begun-items : (entry : Option NewEntry) (m : Cut) (h at : ℕ) (xs : List A) → length xs ≡ count
       → IsBegun s.cut m key (Scalar k) count (size_of k * count) h at entry
       → IsBegun s.cut m key (Scalar k) (length (map whole xs)) (size_of k * length (map whole xs)) h at entry
-  begun-items entry {m} h at xs e g =
+  begun-items entry m h at xs e g =
       subst (λ n. IsBegun s.cut m key (Scalar k) n (size_of k * n) h at entry) (sym (many xs e)) g
 
   -- the object is made of the items
@@ -144,7 +144,7 @@ module _ (S : Type 0) {A : Type 0} (gives : S → Option A → S → Type 0) (wh
       → IsStep s (record s { cut = c }) (asked.ConstructIt key k count (map whole f.items)) (Made h)
   steps-made entry {m} {w} c h at g f led =
       let zs = map whole f.items in let long = many f.items f.taken.1 in
-      let now = value-built (asked.Numbers k zs) b h at entry (begun-items entry h at f.items f.taken.1 g)
+      let now = value-built (asked.Numbers k zs) b h at entry (begun-items entry m h at f.items f.taken.1 g)
       (made-items h at f) led in
       items-made s key k count zs writing h now.place (omega arith) (λ d st.
       let both = now.each d st in
@@ -208,7 +208,7 @@ module _ (S : Type 0) {A : Type 0} (gives : S → Option A → S → Type 0) (wh
       → IsBegun s.cut m key (Scalar k) count (size_of k * count) h at entry
       → Fills gives whole m w k (h + at) count before after filled → IsEnding w h entry filled
   fills-ending entry (Ok tt) {m} {w} h at g f = value-ready (asked.Numbers k (map whole f.items)) s.cut b key h at entry
-      (begun-items entry h at f.items f.taken.1 g) (made-items h at f)
+      (begun-items entry m h at f.items f.taken.1 g) (made-items h at f)
   fills-ending entry (Err why) {m} {w} h at g f = (s.cut, loose entry (Err why) m w h at g f)
 
   -- it is filled, and then made or given back

@@ -139,10 +139,12 @@ growth-stays {a} at None g h = subst (λ (c : Cut). ObjectStays a c h) (sym g.1)
 growth-stays at (Some k) g h = taken-stays g.1 h
 
 pub made-stays : {a b : Cut} (xs : List Extent) → IsTaken a b xs → (h : ℕ) → ObjectStays a b h
-made-stays {a} {b} xs m h x e role = (
-  taken-found a b xs h m e,
-  all_found (SameBlock (bytes_of a.bytes) (bytes_of b.bytes)) h (live_of a.bytes).extents x m.keeps.blocks e,
-)
+made-stays {a} {b} xs m h = record {
+  each = λ x e role. (
+    taken-found a b xs h m e,
+    all_found (SameBlock (bytes_of a.bytes) (bytes_of b.bytes)) h (live_of a.bytes).extents x m.keeps.blocks e,
+  );
+}
 
 -- an object that was made is found, and holds its sort key
 pub made-key : (i : Index) {a b : Cut} {o : Object} → IsMade a b o → HasSortKey b i (handle o.extent)

@@ -6,15 +6,20 @@ use common.{◌≤◌, [], ◌∷◌, Cut, sym, ap, ◌∙◌, suc, ◌-◌, ◌
 use common.{handle, IsHeap, get_or, insert, remove, Memory, nat_lt, others, serves, AllByRecursion, none-some}
 use common.{length-insert, length-remove, slice_get-get_or, comparisons_in, beside_table, same_Some, extent_at}
 use common.{has_room, live-rises, room_block, KeepTargets, cases_Bool, found-room, is_live_in, current, live_of}
-use common.{link_at, AllLead, AreLinks, leb-true, bytes_of, word_at, order_at, place_of, AreKeys}
+use common.{link_at, AllLead, AreLinks, leb-true, bytes_of, word_at, order_at, place_of, AreKeys, Less, ap₂}
 use Rattle.seg_index.proofs.Changing.{changed_used, changed_touches, InHeader}
 use Rattle.seg_index.proofs.Orders.{none_left, same_comparisons}
 use Rattle.std.proofs.lemmas.List.Edits.{get_or-insert_above, get_or-insert_at, get_or-insert_below}
 use Rattle.std.proofs.lemmas.List.Edits.{get_or-remove_above, get_or-remove_below}
 use Rattle.std.proofs.{lemmas.Bool.eqb-true, lemmas.Option.slice_get_within}
 use Rattle.std.specs.{List.list_any, Prelude.find}
-use Rattle.seg_index.specs.{Lookups.HasKey, Lookups.HasKeys, Lookups.IsPlace, declared.index.Index.TheVariants.Named}
+use Rattle.seg_index.specs.{Lookups.HasKey, Lookups.IsPlace, declared.index.Index.TheVariants.Named}
 use Rattle.seg_index.specs.{declared.index.Index.TheVariants.Unique, Comparing.comparisons, declared.index.Index.Index}
+use Rattle.seg_index.specs.Sorted.{HasSortKey, HasSortedIndex, index_of, sort_key_end, sort_order}
+use Rattle.block_tags.specs.declared.tile.Role.TheVariants.{Object as ObjectRole}
+use Rattle.std.proofs.lemmas.Map.Keys.{Less-from_sorted}
+use Rattle.std.specs.List.Sorted.{IsStrictlySortedBy}
+use Rattle.seg_index.proofs.Common.{Ordering}
 use Rattle.best_fit.proofs.Laws.{changed-room}
 
 -- the first extent of a handle
@@ -306,14 +311,40 @@ pub ruleset sizes = (
 
 -- ---- what a search is given, and what its answer says
 
-pub keys_given : (c : Cut) (at : ℕ) (key : Key) (block count : ℕ) → (k : HasKeys c at key)
-    → Placed c at k.table k.handles block → count ≡ word_at (bytes_of c.bytes) (at + 8) → AreKeys c block count key
-keys_given c at key block count k p e = record {
-  room = room-less (live_of c.bytes) block (8 * k.table.capacity) (8 * count) (omega arith) p.room;
-  target = λ i l. (get_or k.handles i 0, entry_here (bytes_of c.bytes) block k.handles i p.links (omega arith));
-  keyed = λ i h l is. all_at (HasKey c key) k.handles i h k.keys
-      (at_links (bytes_of c.bytes) block k.handles i h p.links (omega arith) is);
-}
+-- of two entries in order the first is less
+pub less_at : (o : ℕ → ℕ → Ordering) (hs : List ℕ) (i j g h : ℕ) → IsStrictlySortedBy o hs → i < j
+    → slice_get hs i ≡ Some g → slice_get hs j ≡ Some h → o g h ≡ Less
+less_at o hs i j g h s l e f =
+    let within = slice_get_within hs j h f in
+    ap₂ o (same_Some g (get_or hs i 0) (sym e ∙ slice_get-get_or hs i 0 (omega arith)))
+    (same_Some h (get_or hs j 0) (sym f ∙ slice_get-get_or hs j 0 within)) ∙ Less-from_sorted o hs i j 0 s l within
+
+-- the object of an entry has room for a key of the sort of its index
+key_given : {c : Cut} {i : Index} (key : Key) (h : ℕ) → index_of key ≡ i → IsHeap current c.bytes → HasSortKey c i h
+    → HasKey c key h
+key_given {c} {i} key h e heap k =
+    let m = bytes_of c.bytes in let l = live_of c.bytes in let x = k.extent in let n = sort_key_end i m h in
+    let two = and_parts (same_role x.role ObjectRole) (holds x n) k.fits in
+    record {
+      heap = heap;
+      room = subst (λ j. IsTrue (has_room l h (sort_key_end j m h))) (sym e)
+          (found-room l h n x k.found (leb-true (n + 16) x.len two.1));
+    }
+
+pub keys_given : (c : Cut) (i : Index) (key : Key) (block count : ℕ) → (k : HasSortedIndex c i) → index_of key ≡ i
+    → Placed c (place_of i) k.table k.handles block → count ≡ word_at (bytes_of c.bytes) (place_of i + 8)
+    → AreKeys c block count key
+keys_given c i key block count k sort p e =
+    let m = bytes_of c.bytes in let hs = k.handles in
+    record {
+      room = room-less (live_of c.bytes) block (8 * k.table.capacity) (8 * count) (omega arith) p.room;
+      target = λ x l. (get_or hs x 0, entry_here m block hs x p.links (omega arith));
+      keyed = λ x h l is. key_given key h sort p.index.heap (all_at (HasSortKey c i) hs x h k.index.sorted.keys
+          (at_links m block hs x h p.links (omega arith) is));
+      rises = λ x y g h lt within gx hy.
+          subst (λ j. sort_order j m g h ≡ Less) (sym sort) (less_at (sort_order i m) hs x y g h k.index.sorted.rises lt
+          (at_links m block hs x g p.links (omega arith) gx) (at_links m block hs y h p.links (omega arith) hy));
+    }
 
 pub place_found : (m : Memory) (key : Key) (hs : List ℕ) (block count : ℕ) (r : Lookup) → AreLinks m block hs
     → count ≡ length hs → IsPlaceIn m key block count r → IsPlace m key hs r
@@ -322,13 +353,10 @@ place_found m key hs block count (Found j) a long p = (
   slice_get-get_or hs j 0 (omega arith),
   p.1 (get_or hs j 0) (entry_here m block hs j a (omega arith)),
 )
-place_found m key hs block count (Absent j) a long p =
-    let at = λ (x g : ℕ) (w : x < length hs). at_links m block hs x g a w in (
-      omega arith,
-      λ rises k h e. p.1 (record {
-        each = λ x y g f lt within gx fy. rises.each x y g f lt (at x g (omega arith) gx) (at y f (omega arith) fy);
-      }) k h (let w = slice_get_within hs k h e in omega arith) (links_at m block hs k h a e),
-    )
+place_found m key hs block count (Absent j) a long p = (
+  omega arith,
+  λ k h e. p.1 k h (let w = slice_get_within hs k h e in omega arith) (links_at m block hs k h a e),
+)
 
 -- the comparisons over the links of the block are those over the handles
 pub comparisons_found : (m : Memory) (key : Key) (hs : List ℕ) (block count : ℕ) → AreLinks m block hs

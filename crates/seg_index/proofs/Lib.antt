@@ -4,6 +4,7 @@ mod Changing
 mod Orders
 mod Entries
 mod Staying
+mod SortedEntries
 pub mod Laws
 mod Settling
 unfoldable pub use Common.*
@@ -12,4 +13,5 @@ pub use Changing.*
 pub use Orders.*
 pub use Entries.*
 pub use Staying.*
+pub use SortedEntries.*
 pub use Settling.*

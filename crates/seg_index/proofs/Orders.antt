@@ -9,7 +9,7 @@ use Rattle.std.specs.Cmp.{IsTotalOrder}
 use Rattle.best_fit.proofs.Laws.{bits-le}
 use Rattle.link_tree.proofs.Laws.{bits_most}
 use Rattle.seg_index.specs.{declared.keys.Key.TheVariants.Name, declared.keys.Key.TheVariants.Code, Keys.code_at}
-use Rattle.seg_index.specs.Lookups.{order_of_two, KeysRise, Leads}
+use Rattle.seg_index.specs.{Lookups.Leads, Sorted.index_of, Sorted.sort_order}
 
 greater_on : {K : Type 0} {R : K → K → Ordering} → IsTotalOrder R → (x y z : K) → R x y ≡ Less → R x z ≡ Greater
     → R y z ≡ Greater
@@ -18,13 +18,13 @@ greater_on {K} {R} o x y z a b =
     o.antisymm y z ∙ ap ordering_reverse (o.trans z x y c a)
 
 -- what stands before a key that stands before another
-pub less_before : (m : Memory) (key : Key) (g h : ℕ) → order_of_two m key g h ≡ Less → order m key h ≡ Less
+pub less_before : (m : Memory) (key : Key) (g h : ℕ) → sort_order (index_of key) m g h ≡ Less → order m key h ≡ Less
     → order m key g ≡ Less
 less_before m (Name s) g h a b = nat_list_cmp_total.trans (name_at m g) (name_at m h) s.now a b
 less_before m (Code n) g h a b = nat_cmp_total.trans (code_at m g) (code_at m h) n a b
 
-pub greater_behind : (m : Memory) (key : Key) (g h : ℕ) → order_of_two m key g h ≡ Less → order m key g ≡ Greater
-    → order m key h ≡ Greater
+pub greater_behind : (m : Memory) (key : Key) (g h : ℕ) → sort_order (index_of key) m g h ≡ Less
+    → order m key g ≡ Greater → order m key h ≡ Greater
 greater_behind m (Name s) g h a b = greater_on nat_list_cmp_total (name_at m g) (name_at m h) s.now a b
 greater_behind m (Code n) g h a b = greater_on nat_cmp_total (code_at m g) (code_at m h) n a b
 
@@ -164,10 +164,9 @@ one_order m key block i j h x q e is =
 pub record IsLeft (c : Cut) (key : Key) (block count low high made : ℕ) : Type 0 where
   pub rises : low ≤ high
   pub within : high ≤ count
-  pub before : KeysRise (bytes_of c.bytes) block count key → (j h : ℕ) → j < low → Leads (bytes_of c.bytes) block j h
-      → order (bytes_of c.bytes) key h ≡ Less
-  pub behind : KeysRise (bytes_of c.bytes) block count key → (j h : ℕ) → high ≤ j → j < count
-      → Leads (bytes_of c.bytes) block j h → order (bytes_of c.bytes) key h ≡ Greater
+  pub before : (j h : ℕ) → j < low → Leads (bytes_of c.bytes) block j h → order (bytes_of c.bytes) key h ≡ Less
+  pub behind : (j h : ℕ) → high ≤ j → j < count → Leads (bytes_of c.bytes) block j h
+      → order (bytes_of c.bytes) key h ≡ Greater
   pub few : made + bits (high - low) ≤ bits count
   pub counting : Counting (order_at (bytes_of c.bytes) key block) count low high made
 
@@ -182,8 +181,8 @@ left_up {c} {key} {block} {low = low} {high} keys i l is =
     record {
       rises = omega arith;
       within = i.within;
-      before = λ r j h k e. elim (cases_lt j mid) [
-        | inl first ↦ less_before m key h t.0 (r.each j mid h t.0 first (omega arith) e t.1)
+      before = λ j h k e. elim (cases_lt j mid) [
+        | inl first ↦ less_before m key h t.0 (keys.rises j mid h t.0 first (omega arith) e t.1)
             (one_order m key block mid mid t.0 Less refl t.1 is)
         | inr last ↦ one_order m key block mid j h Less (omega arith) e is
       ];
@@ -203,8 +202,8 @@ left_down {c} {key} {block} {low = low} {high} keys i l is =
       rises = omega arith;
       within = omega arith;
       before = i.before;
-      behind = λ r j h b k e. elim (cases_lt mid j) [
-        | inl last ↦ greater_behind m key t.0 h (r.each mid j t.0 h last k t.1 e)
+      behind = λ j h b k e. elim (cases_lt mid j) [
+        | inl last ↦ greater_behind m key t.0 h (keys.rises mid j t.0 h last k t.1 e)
             (one_order m key block mid mid t.0 Greater refl t.1 is)
         | inr first ↦ one_order m key block mid j h Greater (omega arith) e is
       ];
@@ -235,7 +234,7 @@ pub left_none : {c : Cut} {key : Key} {block count low high made : ℕ} → IsLe
 left_none i l =
     let few = i.few in
     record {
-      place = (omega arith, λ r j h k e. (λ f. i.before r j h f e, λ f. i.behind r j h (omega arith) k e));
+      place = (omega arith, λ j h k e. (λ f. i.before j h f e, λ f. i.behind j h (omega arith) k e));
       few = omega arith;
       exact = counts_none i.counting l;
     }

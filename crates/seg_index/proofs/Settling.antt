@@ -16,7 +16,8 @@ use Rattle.seg_index.proofs.Staying.{still_released, still_taken, still_written,
 use Rattle.seg_index.proofs.{Changing.taken_others, Entries.insert_all, Entries.insert_links}
 use Rattle.seg_index.specs.{Capacities.IsShrunk, Capacities.with_cut, Held.IsIndexIn}
 use Rattle.best_fit.proofs.Laws.{block_aligned, gaps-header, gaps-payload, gaps-then, keeps-refl, resized-live, Rising}
-use Rattle.best_fit.proofs.Laws.{shorter-IsShorter}
+use Rattle.best_fit.proofs.Laws.{found-less, found-more, released-live, shorter-IsShorter}
+use Rattle.seg_index.proofs.SortedEntries.{beside-stays, keeps-sorted, unchanged-sorted}
 use Rattle.std.proofs.lemmas.List.{nil_from_length}
 use Rattle.std.proofs.lemmas.Bool.{cond-false, cond-true, eq-eqb, le-leb, ne_eqb}
 use Rattle.std.specs.Prelude.{option_map}
@@ -374,6 +375,8 @@ shrunk_bare {a} {at} {t} {hs} i leads w = table_cases (λ u. IsIndexOf a at u hs
           (same ∙ sym (cut_none (live_of a.bytes) (length hs) (record { capacity = cap; extent = None }) zero)) j;
       live = j.heap;
       keeps = rest_of (keeps-refl a xs) w;
+      order = unchanged-sorted refl;
+      gaps = λ x none. absurd (none-some x none);
     }) (λ cap x j. absurd (none-some (handle x) (sym leads ∙ j.stands.link))) t i
 
 -- ---- without entries
@@ -420,13 +423,20 @@ pub shrunk_empty : {a c e : Cut} {at block : ℕ} {t : Table} {hs : List ℕ} �
 shrunk_empty {a} {c} {e} {at} {block} {t} {hs} p zero w r h =
     let l = live_of a.bytes in
     let here = still_released h r (λ q. none-some block (sym w.link ∙ q)) (empty_index hs w zero p.index.whole) in
+    let keeps = subst (λ (xs : List Extent). KeepsRest a e at xs) (beside p l.extents)
+    (headed_released_keeps block w r h) in
+    let now : live_of e.bytes ≡ released l block =
+    released-live current c e block r ∙ ap (λ (s : LiveSet). released s block) (same_live w.change) in
+    let leads = p.index.stands.link ∙ ap (option_map (λ (x : Extent). handle x)) p.is ∙ ap (λ k. Some k) p.begins in
     record {
       same = λ without. absurd (none-some p.extent (sym without ∙ p.is));
       index = subst (λ (u : Table). IsIndexOf e at u hs) (sym (cut_none l (length hs) t zero)) here;
       live = subst (λ (s : LiveSet). LaysOut current e.bytes s)
           (ap (λ (s : LiveSet). released s block) (same_live w.change) ∙ cut_zero p l (length hs) zero) r.live;
-      keeps = subst (λ (xs : List Extent). KeepsRest a e at xs) (beside p l.extents)
-          (headed_released_keeps block w r h);
+      keeps = keeps;
+      order = keeps-sorted (beside-stays p.index keeps (λ g x f other. ap (λ (s : LiveSet). extent_at s g) now
+          ∙ found-less g block x l.extents (λ same. other (leads ∙ ap (λ k. Some k) (sym same))) f));
+      gaps = λ x is some. absurd (omega (arith, zero, some));
     }
 
 -- ---- with entries
@@ -504,6 +514,10 @@ shrunk_some a b e at cap x hs p some one word s w =
           ∙ found_cut l x y (live-rises l i.heap.proper) i.held begins;
       whole = i.whole;
     } in
+    let mine : x ≡ s.extent =
+    same_Some x s.extent (sym i.held ∙ ap (λ (k : LiveSet). extent_at k (handle x)) (sym live) ∙ s.found) in
+    let keeps = rest_trans (rest_others (handle x) (keeps_words at one w (omega arith) (omega arith)))
+    (subst (λ (k : LiveSet). KeepsRest b e at (others (handle x) k.extents)) live (rest_of r.keeps w)) in
     let cut : resized (live_of b.bytes) y ≡ with_cut l n (record { capacity = cap; extent = Some x }) =
     ap (λ (k : LiveSet). resized k y) live ∙ sym (cond-false (n == 0) (released l (handle x)) (resized l y)
     (ne_eqb n 0 some)) in
@@ -511,8 +525,18 @@ shrunk_some a b e at cap x hs p some one word s w =
       same = λ without. absurd (none-some x (sym without));
       index = subst (λ (u : Table). IsIndexOf e at u hs) (sym (cut_some l n cap x some)) index;
       live = subst (λ (k : LiveSet). LaysOut current e.bytes k) cut r.live;
-      keeps = rest_trans (rest_others (handle x) (keeps_words at one w (omega arith) (omega arith)))
-          (subst (λ (k : LiveSet). KeepsRest b e at (others (handle x) k.extents)) live (rest_of r.keeps w));
+      keeps = keeps;
+      order = keeps-sorted (beside-stays i keeps (λ g z f other. ap (λ (k : LiveSet). extent_at k g) now
+          ∙ found-more g y z (others (handle y) l.extents)
+          (λ same. other (i.stands.link ∙ ap (λ k. Some k) (sym begins ∙ same)))
+          (found-less g (handle y) z l.extents
+          (λ same. other (i.stands.link ∙ ap (λ k. Some k) (sym begins ∙ sym same))) f)));
+      gaps = λ z is more uncut.
+          let own : x ≡ z = same_Some x z is in
+          let whole : shorter (live_of b.bytes) s.extent (8 * n) ≡ s.extent =
+          subst (λ (q : LiveSet). shorter q s.extent (8 * n) ≡ s.extent) (sym live)
+          (subst (λ (q : Extent). shorter l q (8 * n) ≡ q) (sym own ∙ mine) uncut) in
+          subst (λ (c : Cut). KeepsGaps a c) (sym (s.same whole)) (gaps-header a b (at + 16) 8 one (omega arith));
     }
 
 pub shrunk_short : {a b e : Cut} {at block place n : ℕ} {t : Table} {hs : List ℕ} → Placed a at t hs block → (n ≡ 0 → ⊥)

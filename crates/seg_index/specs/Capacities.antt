@@ -6,9 +6,10 @@ use Rattle.block_tags.specs.declared.tile.Role.TheVariants.{Index as IndexRole}
 use Rattle.offset_link.specs.Link.{link_at}
 use Rattle.best_fit.specs.Extents.{Extent, LiveSet, handle}
 use Rattle.best_fit.specs.Fit.{added, place, released, resized, shorter}
-use Rattle.best_fit.specs.{Heap.IsRefused, Heap.LaysOut, Heap.heap_touches, Heap.live_of, Table.Table, Table.cut_table}
+use Rattle.best_fit.specs.Heap.{IsRefused, KeepsGaps, LaysOut, heap_touches, live_of}
+use Rattle.best_fit.specs.Table.{Table, cut_table}
 use Rattle.seg_index.specs.Growth.{KeepsRest, beside_table, unlinked, without_link}
-use Rattle.seg_index.specs.Held.{IsIndexOf, capacity_at}
+use Rattle.seg_index.specs.{Held.IsIndexOf, Held.capacity_at, Sorted.KeepsSorted}
 
 -- the index has so many places in a new block, and its old one is no longer in use
 pub record IsReserved (old new : Cut) (at n : ℕ) : Type 0 where
@@ -19,6 +20,7 @@ pub record IsReserved (old new : Cut) (at n : ℕ) : Type 0 where
   pub live : LaysOut current new.bytes
       (without_link (added (live_of old.bytes) extent) (link_at (bytes_of old.bytes) at))
   pub keeps : KeepsRest old new at (unlinked old at).extents
+  pub order : KeepsSorted old new
 
 -- nothing changes where there are so many places
 pub record IsRoomy (old new : Cut) (at n : ℕ) : Type 0 where
@@ -41,9 +43,13 @@ with_cut live n t = elim t.extent [
   | Some x ↦ if n == 0 then released live (handle x) else resized live (shorter live x (8 * n))
 ]
 
--- the index has as many places as entries; without a block nothing changes
+-- the index has as many places as entries; without a block nothing changes, and where the block is not cut no byte of
+-- a gap does
 pub record IsShrunk (old new : Cut) (at : ℕ) (t : Table) (handles : List ℕ) : Type 0 where
   pub same : t.extent ≡ None → new ≡ old
   pub index : IsIndexOf new at (cut_table (live_of old.bytes) 8 (length handles) t) handles
   pub live : LaysOut current new.bytes (with_cut (live_of old.bytes) (length handles) t)
   pub keeps : KeepsRest old new at (beside_table t (live_of old.bytes).extents)
+  pub order : KeepsSorted old new
+  pub gaps : (x : Extent) → t.extent ≡ Some x → 0 < length handles
+      → shorter (live_of old.bytes) x (8 * length handles) ≡ x → KeepsGaps old new

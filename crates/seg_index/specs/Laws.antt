@@ -5,9 +5,14 @@ use Rattle.raw_region.specs.{Format.current, Memory.Cut, Memory.Memory, Memory.b
 use Rattle.block_tags.specs.declared.tile.Role.{Role}
 use Rattle.link_tree.specs.Tree.{bits}
 use Rattle.offset_link.specs.Link.{link_at}
-use Rattle.best_fit.specs.{Heap.IsAllocated, Heap.IsChanged, Heap.IsReleased, Heap.has_room, Heap.live_of, Table.Table}
+use Rattle.best_fit.specs.Heap.{IsAllocated, IsChanged, IsReleased, Keeps, LaysOut, has_room, live_of}
+use Rattle.best_fit.specs.Table.{Table}
 use Rattle.seg_index.specs.{declared.index.Index.Index, Growth.CanGrow, Growth.IsGrowth, Held.IsIndexOf, Held.place_of}
 use Rattle.seg_index.specs.{declared.keys.Key.TheVariants.Code, Comparing.comparisons, Comparing.comparisons_among}
+use Rattle.seg_index.specs.{declared.keys.Key.Key, declared.keys.Lookup.Lookup, Lookups.IsPlace}
+use Rattle.seg_index.specs.declared.keys.Lookup.TheVariants.{Absent}
+use Rattle.seg_index.specs.Sorted.{AreSorted, BelongsAt, HasSortKey, IsKeyOf, KeepsSorted, index_of}
+use Rattle.std.specs.List.{AllByRecursion}
 
 -- the link of an index leads to this block
 abbrev pub IsItsBlock : Cut → Index → ℕ → Type 0
@@ -24,6 +29,31 @@ pub record IndexesStay : Type 0 where
   pub written : (i : Index) (a b : Cut) (h at n : ℕ) (t : Table) (handles : List ℕ) → IsIndexOf a (place_of i) t handles
       → IsChanged current a b (h + at) n
       → IsTrue (has_room (live_of a.bytes) h (at + n)) → (IsItsBlock a i h → ⊥) → IsIndexOf b (place_of i) t handles
+
+-- the law: entries stay sorted where a block is taken, where one that is none of their objects' is released or written,
+-- and where the same blocks are in use again with their bytes
+pub record EntriesStaySorted : Type 0 where
+  pub taken : (a b : Cut) (n : ℕ) (role : Role) (h : ℕ) → IsAllocated current a b n role h → KeepsSorted a b
+  pub released : (i : Index) (a b : Cut) (h : ℕ) (handles : List ℕ) → AreSorted a i handles → IsReleased current a b h
+      → AllByRecursion (λ g. g ≡ h → ⊥) handles → AreSorted b i handles
+  pub written : (i : Index) (a b : Cut) (h at n : ℕ) (handles : List ℕ) → AreSorted a i handles
+      → IsChanged current a b (h + at) n → IsTrue (has_room (live_of a.bytes) h (at + n))
+      → AllByRecursion (λ g. g ≡ h → ⊥) handles → AreSorted b i handles
+  pub restored : (a b : Cut) → LaysOut current b.bytes (live_of a.bytes) → Keeps a b (live_of a.bytes).extents
+      → KeepsSorted a b
+
+-- the law: an object whose key a look-up did not find belongs at the place that it answered
+abbrev pub AbsentKeysBelong : Type 0
+AbsentKeysBelong =
+    (c : Cut) (key : Key) (handles : List ℕ) (place h : ℕ) → AreSorted c (index_of key) handles
+    → IsPlace (bytes_of c.bytes) key handles (Absent place) → HasSortKey c (index_of key) h
+    → IsKeyOf key (bytes_of c.bytes) h → BelongsAt c (index_of key) handles place h
+
+-- the law: of a sorted list one place alone is that of a key
+abbrev pub KeysHaveOnePlace : Type 0
+KeysHaveOnePlace =
+    (c : Cut) (key : Key) (handles : List ℕ) (r s : Lookup) → AreSorted c (index_of key) handles
+    → IsPlace (bytes_of c.bytes) key handles r → IsPlace (bytes_of c.bytes) key handles s → r ≡ s
 
 -- the law: what `prepare` answers is what `add` wants, and stays so where a block is taken, and where another is
 -- released or one is written

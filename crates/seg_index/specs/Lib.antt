@@ -7,3 +7,4 @@ pub mod Index
 pub mod Keys
 pub mod Laws
 pub mod Lookups
+pub mod Sorted

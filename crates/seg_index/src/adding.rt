@@ -1,12 +1,13 @@
 //! An entry more, or less.
-ghost use Rattle.std.specs.Prelude.{◌≡◌, ℕ, ◌+◌, ◌-◌, ◌*◌, ◌%◌, ◌<◌, ◌≤◌, IfSome, IsTrue, List, None, Some, insert};
-ghost use Rattle.std.specs.Prelude.{remove};
+ghost use Rattle.std.specs.Prelude.{◌≡◌, ℕ, ◌+◌, ◌-◌, ◌*◌, ◌%◌, ◌<◌, ◌≤◌, ◌⊎◌, IfSome, IsTrue, List, None, Some};
+ghost use Rattle.std.specs.Prelude.{insert, remove};
 ghost use Rattle.raw_region.specs.{Format.current, Memory.bytes_of};
 ghost use Rattle.offset_link.specs.{Link.link_at, Relinked.AllLead, Relinked.KeepTargets};
 ghost use Rattle.best_fit.specs.Heap.{IsChanged, IsHeap, KeepsGaps, LaysOut, has_room, heap_touches, live_of};
 ghost use Rattle.best_fit.specs.Table.{Table as ATable};
 ghost use Rattle.seg_index.specs.Growth.{AddKeeps, Adds, CanGrow, KeepsRest, beside_table, grown_live};
 ghost use Rattle.seg_index.specs.Held.{HasIndex, IsIndexOf, entry_count, place_of};
+ghost use Rattle.seg_index.specs.Sorted.{AreSorted, CanAdd, IsSortedIndex, KeepsSorted};
 
 use crate::growing::{Growth, LINK, grown};
 use crate::index::Index;
@@ -17,17 +18,20 @@ impl Index {
     /// Puts an entry at a place, in the block of a growth if there is one. The old block is then released. The entries
     /// from that place on stand one place further.
     pub fn add(self, heap: &mut Heap, place: u64, handle: u64, growth: Growth, steps: &mut Steps)
-        requires index { HasIndex heap.old (place_of self) }
+        requires entry { CanAdd heap.old self place handle }
         requires growth { CanGrow heap.old (place_of self) growth.block }
-        requires within { place ≤ entry_count heap.old (place_of self) }
-        requires handle { handle % 16 ≡ 0 }
         ensures index { (t : ATable) (handles : List ℕ) → IsIndexOf heap.old (place_of self) t handles
             → Adds heap.old heap.new (place_of self) t (insert handles place handle) growth.block }
+        ensures sorted { (t : ATable) (handles : List ℕ) → IsIndexOf heap.old (place_of self) t handles
+            → AreSorted heap.new self (insert handles place handle) }
+        ensures order { KeepsSorted heap.old heap.new }
         ensures live { LaysOut current heap.new.bytes (grown_live heap.old (place_of self) growth.block) }
         ensures keeps { (t : ATable) (handles : List ℕ) → IsIndexOf heap.old (place_of self) t handles
             → AddKeeps heap.old heap.new (place_of self) t growth.block }
         ensures gaps { growth.block ≡ None → KeepsGaps heap.old heap.new }
         ensures counted { steps.old ≤ steps.new }
+        ensures noop { (growth.block ≡ None) ⊎ (link_at (bytes_of heap.old.bytes) (place_of self) ≡ None)
+            → steps.new ≡ steps.old }
         ensures went { IfSome growth.block (λ block. IfSome (link_at (bytes_of heap.old.bytes) (place_of self))
             (λ old. steps.old < steps.new)) }
         ensures steps { steps.new ≤ steps.old + heap_touches (live_of heap.old.bytes) }
@@ -56,6 +60,9 @@ impl Index {
         requires below { place < entry_count heap.old (place_of self) }
         ensures index { (t : ATable) (handles : List ℕ) → IsIndexOf heap.old (place_of self) t handles
             → IsIndexOf heap.new (place_of self) t (remove handles place) }
+        ensures sorted { (t : ATable) (handles : List ℕ) → IsSortedIndex heap.old self t handles
+            → AreSorted heap.new self (remove handles place) }
+        ensures order { KeepsSorted heap.old heap.new }
         ensures live { LaysOut current heap.new.bytes (live_of heap.old.bytes) }
         ensures keeps { (t : ATable) (handles : List ℕ) → IsIndexOf heap.old (place_of self) t handles
             → KeepsRest heap.old heap.new (place_of self) (beside_table t (live_of heap.old.bytes).extents) }

@@ -1,5 +1,5 @@
 //! An index with more places, or with no more than it has entries.
-ghost use Rattle.std.specs.Prelude.{◌≡◌, ◌≢◌, ℕ, ◌+◌, ◌*◌, ◌%◌, ◌^◌, ◌<◌, ◌≤◌, IfSome, IsTrue, List, length};
+ghost use Rattle.std.specs.Prelude.{◌≡◌, ◌≢◌, ℕ, ◌+◌, ◌*◌, ◌%◌, ◌^◌, ◌<◌, ◌≤◌, IfSome, IsTrue, List, None, length};
 ghost use Rattle.std.specs.List.{AllByRecursion};
 ghost use Rattle.raw_region.specs.{Format.current, Memory.bytes_of};
 ghost use Rattle.offset_link.specs.Link.{link_at};
@@ -7,8 +7,8 @@ ghost use Rattle.best_fit.specs.Heap.{IsHeap, LaysOut, heap_touches, is_live_in,
 ghost use Rattle.best_fit.specs.Table.{Table as ATable};
 ghost use Rattle.seg_index.specs.Capacities.{IsShrunk, Reserves, reserve_steps};
 ghost use Rattle.seg_index.specs.Growth.{GivesBack, IsBlockFor, IsHeld, KeepsRest, Prepares, Restores, unlinked};
-ghost use Rattle.seg_index.specs.Held.{HasIndex, IsIndexIn, IsIndexOf, place_of};
-ghost use Rattle.seg_index.specs.Index.{AreLinks, grown_capacity};
+ghost use Rattle.seg_index.specs.Held.{HasIndex, IsIndexIn, IsIndexOf, capacity_at, entry_count, place_of};
+ghost use Rattle.seg_index.specs.{Index.AreLinks, Index.grown_capacity, Sorted.KeepsSorted};
 
 use crate::index::Index;
 use best_fit::{Heap, NoSpace};
@@ -32,7 +32,10 @@ impl Index {
     pub fn prepare(self, heap: &mut Heap, steps: &mut Steps) -> Result<Growth, NoSpace>
         requires index { HasIndex heap.old (place_of self) }
         ensures growth { Prepares heap.old heap.new (place_of self) result }
+        ensures order { KeepsSorted heap.old heap.new }
         ensures counted { steps.old ≤ steps.new }
+        ensures noop { entry_count heap.old (place_of self) < capacity_at heap.old (place_of self)
+            → steps.new ≡ steps.old }
         ensures went { heap.new ≢ heap.old → steps.old < steps.new }
         ensures steps { steps.new ≤ steps.old + heap_touches (live_of heap.old.bytes) }
     {
@@ -50,6 +53,7 @@ impl Index {
         ensures change { GivesBack heap.old heap.new growth.block }
         ensures restored { Restores heap.old heap.new growth }
         ensures counted { steps.old ≤ steps.new }
+        ensures noop { growth.block ≡ None → steps.new ≡ steps.old }
         ensures went { heap.new ≢ heap.old → steps.old < steps.new }
         ensures steps { steps.new ≤ steps.old + heap_touches (live_of heap.old.bytes) }
     {
@@ -68,6 +72,7 @@ impl Index {
         requires index { HasIndex heap.old (place_of self) }
         ensures reserved { Reserves heap.old heap.new (place_of self) n result }
         ensures counted { steps.old ≤ steps.new }
+        ensures noop { n ≤ capacity_at heap.old (place_of self) → steps.new ≡ steps.old }
         ensures went { heap.new ≢ heap.old → steps.old < steps.new }
         ensures steps { steps.new ≤ steps.old + reserve_steps (live_of heap.old.bytes) n }
     {
@@ -90,6 +95,7 @@ impl Index {
         ensures shrunk { (t : ATable) (handles : List ℕ) → IsIndexOf heap.old (place_of self) t handles
             → IsShrunk heap.old heap.new (place_of self) t handles }
         ensures counted { steps.old ≤ steps.new }
+        ensures noop { link_at (bytes_of heap.old.bytes) (place_of self) ≡ None → steps.new ≡ steps.old }
         ensures went { live_of heap.new.bytes ≢ live_of heap.old.bytes → steps.old < steps.new }
         ensures steps { steps.new ≤ steps.old + heap_touches (live_of heap.old.bytes) }
     {
@@ -122,6 +128,7 @@ impl Index {
         ensures live { LaysOut current heap.new.bytes (unlinked heap.old (place_of self)) }
         ensures keeps { KeepsRest heap.old heap.new (place_of self) (unlinked heap.old (place_of self)).extents }
         ensures counted { steps.old ≤ steps.new }
+        ensures noop { link_at (bytes_of heap.old.bytes) (place_of self) ≡ None → steps.new ≡ steps.old }
         ensures went { IfSome (link_at (bytes_of heap.old.bytes) (place_of self)) (λ h. steps.old < steps.new) }
         ensures steps { steps.new ≤ steps.old + heap_touches (live_of heap.old.bytes) }
     {

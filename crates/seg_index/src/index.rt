@@ -3,8 +3,9 @@ ghost use Rattle.std.specs.Prelude.{◌≡◌, ℕ, ◌+◌, ◌<◌, ◌≤◌,
 ghost use Rattle.raw_region.specs.{Memory.bytes_of, Format.current};
 ghost use Rattle.link_tree.specs.Tree.{bits};
 ghost use Rattle.best_fit.specs.{Heap.IsChanged, Table.Table as ATable, Table.no_table};
-ghost use Rattle.seg_index.specs.{Comparing.comparisons, Lookups.HasKeys, Lookups.IsPlace};
+ghost use Rattle.seg_index.specs.{Comparing.comparisons, Lookups.IsPlace};
 ghost use Rattle.seg_index.specs.Held.{HasIndex, IsIndexOf, capacity_at, entry_count, place_of};
+ghost use Rattle.seg_index.specs.Sorted.{HasSortedIndex, IsSortedIndex, index_of};
 
 use crate::comparing::Comparisons;
 use crate::keys::{Key, Lookup};
@@ -35,7 +36,7 @@ impl Index {
 
     /// Makes it an index without a place, whatever its words were. A block that it had is not released.
     pub fn start(self, heap: &mut Heap)
-        ensures index { IsIndexOf heap.new (place_of self) no_table [] }
+        ensures index { IsSortedIndex heap.new self no_table [] }
         ensures change { IsChanged current heap.old heap.new (place_of self) 24 }
     {
         let place = self.place();
@@ -76,7 +77,8 @@ impl Index {
     /// Where a key stands among the keys of the objects that the entries lead to, by binary search: each step is a
     /// comparison of two keys.
     pub fn lookup(self, heap: &Heap, key: Key<'_>, steps: &mut Steps) -> Lookup
-        requires keys { HasKeys heap.now (place_of self) key }
+        requires index { HasSortedIndex heap.now self }
+        requires sort { index_of key ≡ self }
         ensures place { (t : ATable) (handles : List ℕ) → IsIndexOf heap.now (place_of self) t handles
             → IsPlace (bytes_of heap.now.bytes) key.entry handles result }
         ensures counted { steps.old ≤ steps.new }

@@ -1,9 +1,25 @@
 //! What holds of indexes while their heap is used for other things.
-ghost use Rattle.seg_index.specs.Laws.{GrowthsStay, IndexesStay, SearchesHalve};
+ghost use Rattle.seg_index.specs.Laws.{AbsentKeysBelong, EntriesStaySorted, GrowthsStay, IndexesStay};
+ghost use Rattle.seg_index.specs.Laws.{KeysHaveOnePlace, SearchesHalve};
 
 /// An index stays where a block is taken, and where a block that is not its own is released or written.
 pub fn indexes_stay()
     ensures { IndexesStay }
+{}
+
+/// Entries stay sorted where a block is taken, and where one that is none of their objects' is released or written.
+pub fn entries_stay_sorted()
+    ensures { EntriesStaySorted }
+{}
+
+/// An object whose key a look-up did not find belongs at the place that it answered.
+pub fn absent_keys_belong()
+    ensures { AbsentKeysBelong }
+{}
+
+/// Of a sorted index one place alone is what a look-up of a key may answer.
+pub fn keys_have_one_place()
+    ensures { KeysHaveOnePlace }
 {}
 
 /// What `prepare` answered may be given to `add` behind other calls of the heap that leave its block in use.

@@ -80,7 +80,7 @@ pub use Rattle.seg_index.specs.declared.index.Index.TheVariants.{Named, Unique}
 pub use Rattle.seg_index.specs.declared.keys.Lookup.TheVariants.{Absent, Found}
 pub use Rattle.seg_index.specs.{Capacities.IsReserved, declared.index.Index.Index, declared.keys.Key.Key as Entry}
 pub use Rattle.seg_index.specs.{Capacities.IsRoomy, Capacities.IsShrunk, Growth.without_link, Index.grown_capacity}
-pub use Rattle.seg_index.specs.{Growth.grown_bytes, Index.IsIndexAt, Keys.name_len_at, Lookups.HasKeys, Lookups.IsPlace}
+pub use Rattle.seg_index.specs.{Growth.grown_bytes, Index.IsIndexAt, Keys.name_len_at, Lookups.IsPlace}
 pub use Rattle.seg_index.specs.{Growth.unlinked, declared.keys.Key.TheVariants.Code, declared.keys.Key.TheVariants.Name}
 pub use Rattle.segment_manager.specs.Answers.{Answer, Done, Element, Made, Number, Refused, TextElement, Truth}
 pub use Rattle.segment_manager.specs.objects.Begun.{Begins, IsAbsentAt, IsBegun, IsBegunAlone, IsBegunEntry, IsHeaded}

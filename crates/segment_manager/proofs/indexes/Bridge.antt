@@ -8,7 +8,7 @@ use common.{Memory, bytes_of, handle, NamedClass, UniqueClass, Kind, code_of, sa
 use common.{Code, Found, Absent, IsPlace, Object, Directory, IsDirectory, has_key, insert_by, is_class, kind_of}
 use common.{object_at, remove_object, rises_from, same_bytes, with_object, without_object, Denotes, handles, IsEntry}
 use common.{Seeks, class_of_index, entries_of, objects_of, order_of, table_of, by_name, by_kind}
-use Rattle.segment_manager.proofs.indexes.HeldIndexes.{IsSort, all-in, denotes-rises, directory-index, entries-in}
+use Rattle.segment_manager.proofs.indexes.HeldIndexes.{all-in, directory-index, entries-in}
 use Rattle.segment_manager.proofs.indexes.HeldIndexes.{objects-ascend, order-strict}
 use Rattle.segment_manager.proofs.indexes.KeyOrder.{Says, code-of, kinds-apart, kinds-class, kinds-say, name-of}
 use Rattle.segment_manager.proofs.indexes.KeyOrder.{same-itself, names-apart, names-class, names-say}
@@ -21,7 +21,7 @@ use Rattle.segment_manager.proofs.objects.ObjectLists.{rises-rest, all-found}
 use Rattle.segment_manager.proofs.objects.Ranks.{IsRanked, all-ordered}
 use Rattle.segment_manager.proofs.{Faces.ordered-without, Denoted.handles-length, Live.IsIn, blocks.InUse.all-both}
 use Rattle.raw_region.proofs.Facts.{first}
-use Rattle.seg_index.specs.{declared.keys.Key.Key, Lookups.order}
+use Rattle.seg_index.specs.{declared.keys.Key.Key, Lookups.order, Sorted.index_of}
 use Rattle.seg_types.specs.Names as names
 
 -- what a place among the entries means: the object of the key, which that entry leads to
@@ -105,11 +105,11 @@ by-handle {d} key {o} h e = all-found (λ (p : Object). object_at d (names.ByHan
 
 -- ---- what a look-up means
 
--- the keys of the entries rise
-pub sought-rises : (i : Index) (e : Key) (key : names.Key) → Seeks i e key → IsSort i e
-sought-rises Named (Name s) (names.ByName name) q = tt
-sought-rises Unique (Code n) (names.ByKind k) q = tt
-sought-rises i e key q = absurd q
+-- the key is of the sort of the index
+pub seeks-sort : (i : Index) (e : Key) (key : names.Key) → Seeks i e key → index_of e ≡ i
+seeks-sort Named (Name s) (names.ByName name) q = refl
+seeks-sort Unique (Code n) (names.ByKind k) q = refl
+seeks-sort i e key q = absurd q
 
 module _ (i : Index) (c : Cut) {d : Directory} (e : Key) (key : names.Key) (k : Denotes current c.bytes d)
     (q : Seeks i e key) where
@@ -133,10 +133,10 @@ module _ (i : Index) (c : Cut) {d : Directory} (e : Key) (key : names.Key) (k : 
 
   absent-one : (at j : ℕ) {o : Object} → IsPlace (bytes_of c.bytes) e (entries_of i d) (Absent at)
       → slice_get (objects_of i d) j ≡ Some o → (j < at) ⊎ (at ≤ j) → has_key key o ≡ false
-  absent-one at j {o} p f (inl l) = (says-at j f).less ((p.1 (denotes-rises i c e k (sought-rises i e key q)) j
-      (handle o.extent) (at-handle (objects_of i d) j f)).0 l)
-  absent-one at j {o} p f (inr l) = (says-at j f).greater
-      ((p.1 (denotes-rises i c e k (sought-rises i e key q)) j (handle o.extent) (at-handle (objects_of i d) j f)).1 l)
+  absent-one at j {o} p f (inl l) =
+      (says-at j f).less ((p.1 j (handle o.extent) (at-handle (objects_of i d) j f)).0 l)
+  absent-one at j {o} p f (inr l) =
+      (says-at j f).greater ((p.1 j (handle o.extent) (at-handle (objects_of i d) j f)).1 l)
 
   -- no entry has the key, and no object
   pub lookup-absent : {at : ℕ} → IsPlace (bytes_of c.bytes) e (entries_of i d) (Absent at) → IsNoEntryFor i d key at
@@ -155,8 +155,7 @@ place-of : (i : Index) (c : Cut) {d : Directory} (e : Key) (key : names.Key) (at
     → has_key key o ≡ true → IsPlaceOf (order_of i) o (objects_of i d) at
 place-of i c {d} e key at o k q p h j r f =
     let says = says-at i c e key k q j f in
-    let each =
-    p.1 (denotes-rises i c e k (sought-rises i e key q)) j (handle r.extent) (at-handle (objects_of i d) j f) in
+    let each = p.1 j (handle r.extent) (at-handle (objects_of i d) j f) in
     ((λ l. says.behind o h (each.0 l)), (λ l. says.ahead o h (each.1 l)))
 
 -- the objects of an index with one more

@@ -3,7 +3,7 @@
 use Rattle.segment_manager.proofs.Common.{◌≡◌, sym, ◌∙◌, ℕ, ◌+◌, ◌≤◌, ◌%◌, [], ◌∷◌, Less, Cut, Name, Code, live}
 use Rattle.segment_manager.proofs.Common.{subst, true, Some, List, arith, Memory, handle, Index, Named, Unique, Object}
 use Rattle.segment_manager.proofs.Common.{length, bytes_of, has_room, place_of, is_class, is_index, is_object, order_of}
-use Rattle.segment_manager.proofs.Common.{IsTrue, IfSome, le-leb, current, HasKeys, Denotes, handles, IsEntry, table_of}
+use Rattle.segment_manager.proofs.Common.{IsTrue, IfSome, le-leb, current, Denotes, handles, IsEntry, table_of}
 use Rattle.segment_manager.proofs.Common.{AllByRecursion, nat_cmp, name_len_at, IsDirectory, IsObjectAt, class_of_index}
 use Rattle.segment_manager.proofs.Common.{slice_cmp, extent_at, IsIndexOf, IsIndexAt, Directory, entries_of, objects_of}
 use Rattle.segment_manager.proofs.objects.Heads.{entries_say_objects, entry-name_len, good-name, good_name-short}
@@ -15,7 +15,11 @@ use Rattle.segment_manager.proofs.objects.Ranks.{all-ordered, IsStrict}
 use Rattle.segment_manager.proofs.{blocks.InUse.unique-in_use, objects.ObjectLists.each-true, Denoted.handles-length}
 use Rattle.segment_manager.proofs.{Calling.denotes-heap, Calling.denotes-live, Frame.object-roomy}
 use Rattle.raw_region.proofs.Facts.{AllByRecursion-filter}
-use Rattle.seg_index.specs.{declared.keys.Key.Key, Lookups.HasKey, Lookups.Rises, Lookups.key_end, Lookups.order_of_two}
+use Rattle.segment_manager.proofs.Common.{ObjectRole, and_from, and_parts, ap, has_good_name, holds, is_good_value}
+use Rattle.segment_manager.proofs.Common.{◌&&◌, is_kind_of, kind_of, object_len, same_role, serves}
+use Rattle.raw_region.proofs.Facts.{second}
+use Rattle.seg_index.specs.Sorted.{AreSorted, HasSortKey, HasSortedIndex, sort_key_end, sort_order}
+use Rattle.std.specs.List.Sorted.{IsStrictlySortedBy}
 
 -- ---- an index of a directory
 
@@ -89,31 +93,22 @@ all-known c {d} k = all-both (λ (o : Object). IsInUse (live d) o.extent) (λ (o
     (IsObjectAt (bytes_of c.bytes)) (λ (o : Object). IsTrue (is_object current o) × IsObjectAt (bytes_of c.bytes) o)
     (λ o g a. (g, a)) d.objects (each-true (is_object current) d.objects k.directory.objects) k.objects)
 
-key-room : {c : Cut} {d : Directory} (e : Key) {o : Object} → IsKnown c d o
-    → IsTrue (has_room (live d) (handle o.extent) (key_end (bytes_of c.bytes) e (handle o.extent)))
-key-room {c} (Name s) {o} u =
-    let room = (object-roomy current o u.good).room in
-    let same = entry-name_len (bytes_of c.bytes) o (good_name-short current o (good-name current o u.good)) u.at in
-    let fits : 16 + name_len_at (bytes_of c.bytes) (handle o.extent) + 16 ≤ o.extent.len = omega (arith, room, same) in
-    u.live_block.room (16 + name_len_at (bytes_of c.bytes) (handle o.extent))
-    (le-leb (16 + name_len_at (bytes_of c.bytes) (handle o.extent) + 16) o.extent.len fits)
-key-room (Code n) {o} u =
-    let fits : 16 + 16 ≤ o.extent.len = omega (arith, ((object-roomy current o u.good).room)) in
-    u.live_block.room 16 (le-leb (16 + 16) o.extent.len fits)
-
-pub denotes-keys : (i : Index) {c : Cut} {d : Directory} {e : Key} → Denotes current c.bytes d
-    → HasKeys c (place_of i) e
-denotes-keys i {c} {d} {e} k = record {
-  table = table_of i d;
-  handles = entries_of i d;
-  index = denotes-index i c k;
-  keys = all-handles (HasKey c e) (objects_of i d) (all-in (λ (o : Object). HasKey c e (handle o.extent)) i d
-      (all-each (IsKnown c d) (λ (o : Object). HasKey c e (handle o.extent)) (λ o u. record {
-        heap = denotes-heap current c.bytes d k;
-        room = subst (λ l. IsTrue (has_room l (handle o.extent) (key_end (bytes_of c.bytes) e (handle o.extent))))
-            (sym (denotes-live current c.bytes d k)) (key-room e u);
-      }) d.objects (all-known c k)));
-}
+-- a block of an object holds its sort key
+pub key-fits : (i : Index) {m : Memory} (o : Object) → IsTrue (is_object current o) → IsObjectAt m o
+    → IsTrue (serves o.extent ObjectRole (sort_key_end i m (handle o.extent)))
+key-fits i {m} o good at =
+    let x = o.extent in let room = (object-roomy current o good).room in
+    let two = and_parts (same_role x.role ObjectRole) (holds x (object_len o.name o.value))
+    (second (has_good_name current o && is_kind_of current (kind_of o.value) && is_good_value o.value)
+    (serves x ObjectRole (object_len o.name o.value)) good) in
+    let n = sort_key_end i m (handle x) in
+    and_from (same_role x.role ObjectRole) (holds x n) two.0 (le-leb (n + 16) x.len (by_index i room))
+  where
+    by_index : (j : Index) → object_len o.name o.value + 16 ≤ o.extent.len
+        → sort_key_end j m (handle o.extent) + 16 ≤ o.extent.len
+    by_index Named room =
+        let same = entry-name_len m o (good_name-short current o (good-name current o good)) at in omega arith
+    by_index Unique room = omega arith
 
 -- ---- and the keys rise
 
@@ -127,25 +122,37 @@ pub objects-ascend : {format : ℕ} (i : Index) {d : Directory} → IsDirectory 
 objects-ascend i {d} h = rises-ascends (order_of i) (order-strict i) (objects_of i d)
     (index-parts (table_of i d) (objects_of i d) (order_of i) (directory-index i h)).2
 
--- what is looked up in an index: names in one, codes in the other
-abbrev pub IsSort : Index → Key → Type 0
-IsSort Named (Name s) = Unit {0}
-IsSort Unique (Code n) = Unit {0}
-IsSort i e = ⊥
+two-less : (i : Index) {m : Memory} {o p : Object} → IsEntry m o → IsEntry m p → order_of i o p ≡ true
+    → sort_order i m (handle o.extent) (handle p.extent) ≡ Less
+two-less Named {m} {o} {p} a b l = (λ j. slice_cmp nat_cmp (a.name j) (b.name j)) ∙ name-less o p l
+two-less Unique {m} {o} {p} a b l = (λ j. nat_cmp (a.code j) (b.code j)) ∙ kind-less o p l
 
-two-less : (i : Index) {m : Memory} (e : Key) {o p : Object} → IsSort i e → IsEntry m o → IsEntry m p
-    → order_of i o p ≡ true → order_of_two m e (handle o.extent) (handle p.extent) ≡ Less
-two-less Named (Name s) {o} {p} q a b l = (λ j. slice_cmp nat_cmp (a.name j) (b.name j)) ∙ name-less o p l
-two-less Unique (Code n) {o} {p} q a b l = (λ j. nat_cmp (a.code j) (b.code j)) ∙ kind-less o p l
-two-less i e q a b l = absurd q
+less-all : (i : Index) (m : Memory) (o : Object) (os : List Object) → IsEntry m o → AllByRecursion (IsEntry m) os
+    → AllByRecursion (λ p. order_of i o p ≡ true) os
+    → AllByRecursion (λ h. sort_order i m (handle o.extent) h ≡ Less) (handles os)
+less-all i m o [] a es l = tt
+less-all i m o (p ∷ ps) a es l = (two-less i a es.0 l.0, less-all i m o ps a es.1 l.1)
 
-pub denotes-rises : (i : Index) (c : Cut) {d : Directory} (e : Key) → Denotes current c.bytes d → IsSort i e
-    → Rises (bytes_of c.bytes) e (entries_of i d)
-denotes-rises i c {d} e k q = record {
-  each = λ x y g h l f f'.
-      let m = bytes_of c.bytes in let os = objects_of i d in
-      let o = stands-at os x f in let p = stands-at os y f' in
-      let before = ascends-at (λ o p. order_of i o p ≡ true) os x y (objects-ascend i k.directory) l o.is p.is in
-      (λ j. order_of_two m e (o.handle j) (p.handle j)) ∙ two-less i e q (all-at (IsEntry m) os x (entries-in i c k)
-      o.is) (all-at (IsEntry m) os y (entries-in i c k) p.is) before;
+sorted-handles : (i : Index) (m : Memory) (os : List Object) → AllByRecursion (IsEntry m) os
+    → Ascends (λ o p. order_of i o p ≡ true) os → IsStrictlySortedBy (sort_order i m) (handles os)
+unfolding IsStrictlySortedBy
+sorted-handles i m [] es a = tt
+sorted-handles i m (o ∷ os) es a = (less-all i m o os es.0 es.1 a.0, sorted-handles i m os es.1 a.1)
+
+pub denotes-sorted : (i : Index) (c : Cut) {d : Directory} → Denotes current c.bytes d → AreSorted c i (entries_of i d)
+denotes-sorted i c {d} k = record {
+  keys = all-handles (HasSortKey c i) (objects_of i d) (all-in (λ (o : Object). HasSortKey c i (handle o.extent)) i d
+      (all-each (IsKnown c d) (λ (o : Object). HasSortKey c i (handle o.extent)) (λ o u. record {
+        extent = o.extent;
+        found = ap (λ l. extent_at l (handle o.extent)) (denotes-live current c.bytes d k) ∙ u.live_block.found;
+        fits = key-fits i o u.good u.at;
+      }) d.objects (all-known c k)));
+  rises = sorted-handles i (bytes_of c.bytes) (objects_of i d) (entries-in i c k) (objects-ascend i k.directory);
+}
+
+pub denotes-sorted_index : (i : Index) {c : Cut} {d : Directory} → Denotes current c.bytes d → HasSortedIndex c i
+denotes-sorted_index i {c} {d} k = record {
+  table = table_of i d;
+  handles = entries_of i d;
+  index = record { index = denotes-index i c k; sorted = denotes-sorted i c k };
 }

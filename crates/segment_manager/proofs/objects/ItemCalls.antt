@@ -10,16 +10,16 @@ use common.{IsNotBegun, length-map, ObjectRole, ScalarKind, OutOfRange, IsTakenK
 use common.{is_read_only, with_new_object, if◌then◌else◌, mul-le-mul_left, length-replicate, IsAllocated, is_good_value}
 use Rattle.segment_manager.proofs.Steps.{step-segment, perform-new, refuses-read_only, by_no_change, by_step, lands}
 use Rattle.segment_manager.proofs.objects.Constructed.{IsMet, IsNewObject, numbers-met, restored-denotes, IsNoObject}
-use Rattle.segment_manager.proofs.objects.NewValues.{away-in, value-built, no_key-none}
+use Rattle.segment_manager.proofs.objects.NewValues.{away-in, value-built, value-ready, no_key-none}
 use Rattle.segment_manager.proofs.objects.NotBegun.{key-taken, value-not_begun}
 use Rattle.segment_manager.proofs.objects.ArrayItems.{by-items, from-items}
 use Rattle.segment_manager.proofs.{Steps.open-writing, objects.FoundOrMade.made_handle, objects.NewNumbers.numbers-made}
-use Rattle.segment_manager.proofs.{Steps.step-plan, indexes.HeldIndexes.denotes-index, objects.MadeValues.headed-change}
+use Rattle.segment_manager.proofs.{Steps.step-plan, objects.MadeValues.headed-change}
 use Rattle.segment_manager.proofs.{Steps.step-refuse, objects.Loose.begun-room, objects.NewKeys.key-seeks}
-use Rattle.segment_manager.proofs.{objects.Loose.loose-ready, objects.FoundOrMade.makes, indexes.Bridge.lookup-absent}
-use Rattle.segment_manager.proofs.{objects.KeyCalls.segment-index, objects.NewKeys.numbers-value, Calling.denotes-live}
+use Rattle.segment_manager.proofs.{objects.FoundOrMade.makes, indexes.Bridge.lookup-absent}
+use Rattle.segment_manager.proofs.{objects.NewKeys.numbers-value, Calling.denotes-live}
 use Rattle.segment_manager.specs.objects.Begun.{Ends, IsEnding, Fills}
-use Rattle.segment_manager.specs.{containers.Filled.numbers_shape, declared.containers.fillings.Shape.Shape}
+use Rattle.segment_manager.specs.{containers.Filled.IsMadeValue, containers.Filled.numbers_shape, declared.containers.fillings.Shape.Shape}
 use Rattle.seg_index.specs.declared.keys.Key.{Key}
 use Rattle.seg_types.specs.Names as names
 use Rattle.seg_types.specs.Commands as asked
@@ -124,6 +124,19 @@ module _ (S : Type 0) {A : Type 0} (gives : S → Option A → S → Type 0) (wh
       → IsTrue (is_good_value (Numbers k (map whole xs)))
   good-items xs e all = let l = many xs e in numbers-value k (map whole xs) (omega arith) (omega arith) all
 
+  -- the value is that of the items
+  made-items : {m w : Cut} (h at : ℕ) → (f : Fills gives whole m w k (h + at) count before after (Ok tt))
+      → IsMadeValue (asked.Numbers k (map whole f.items)) m w (record { handle = h; at = at })
+  made-items {m} {w} h at f =
+      numbers-made k (map whole f.items) (good-items f.items f.taken.1 f.values) (subst (λ n. IsChanged current m w
+      (h + at) (size_of k * n)) (sym (length-map f.items whole)) f.change) f.content
+
+  begun-items : (entry : Option NewEntry) (m : Cut) (h at : ℕ) (xs : List A) → length xs ≡ count
+      → IsBegun s.cut m key (Scalar k) count (size_of k * count) h at entry
+      → IsBegun s.cut m key (Scalar k) (length (map whole xs)) (size_of k * length (map whole xs)) h at entry
+  begun-items entry m h at xs e g =
+      subst (λ n. IsBegun s.cut m key (Scalar k) n (size_of k * n) h at entry) (sym (many xs e)) g
+
   -- the object is made of the items
   steps-made : (entry : Option NewEntry) {m w : Cut} (c : Cut) (h at : ℕ)
       → IsBegun s.cut m key (Scalar k) count (size_of k * count) h at entry
@@ -131,10 +144,8 @@ module _ (S : Type 0) {A : Type 0} (gives : S → Option A → S → Type 0) (wh
       → IsStep s (record s { cut = c }) (asked.ConstructIt key k count (map whole f.items)) (Made h)
   steps-made entry {m} {w} c h at g f led =
       let zs = map whole f.items in let long = many f.items f.taken.1 in
-      let made = numbers-made k zs (good-items f.items f.taken.1 f.values) (subst (λ n. IsChanged current m w (h + at)
-      (size_of k * n)) (sym (length-map f.items whole)) f.change) f.content in
-      let now = value-built (asked.Numbers k zs) b h at entry
-      (subst (λ n. IsBegun s.cut m key (Scalar k) n (size_of k * n) h at entry) (sym long) g) made led in
+      let now = value-built (asked.Numbers k zs) b h at entry (begun-items entry m h at f.items f.taken.1 g)
+      (made-items h at f) led in
       items-made s key k count zs writing h now.place (omega arith) (λ d st.
       let both = now.each d st in
       (both.0, subst (λ ys. IsNewObject c d key (asked.Numbers k ys) h) (sym (whole-list f.items f.taken.1)) both.1))
@@ -183,17 +194,12 @@ module _ (S : Type 0) {A : Type 0} (gives : S → Option A → S → Type 0) (wh
     takes = g.takes;
     change = headed-change (size_of k * count) g.headed f.change (most filled f);
   }
-  loose (Some e) filled m w h at g f =
-      let x = denotes-index e.index s.cut b.1.denotes in
-      let away = g.absent (table_of e.index b.0) (entries_of e.index b.0) x in
-      record {
-        len = room_for g.name (size_of k * count);
-        taken = g.taken;
-        requested = g.requested;
-        change = headed-change (size_of k * count) g.headed f.change (most filled f);
-        index = segment-index e.index b;
-        within = subst (λ n. e.place ≤ n) (sym x.stands.count) away.0;
-      }
+  loose (Some e) filled m w h at g f = record {
+    len = room_for g.name (size_of k * count);
+    taken = g.taken;
+    requested = g.requested;
+    change = headed-change (size_of k * count) g.headed f.change (most filled f);
+  }
 
   -- ---- all together
 
@@ -201,7 +207,8 @@ module _ (S : Type 0) {A : Type 0} (gives : S → Option A → S → Type 0) (wh
   pub fills-ending : (entry : Option NewEntry) (filled : Result (Unit {0}) Refusal) {m w : Cut} (h at : ℕ)
       → IsBegun s.cut m key (Scalar k) count (size_of k * count) h at entry
       → Fills gives whole m w k (h + at) count before after filled → IsEnding w h entry filled
-  fills-ending entry (Ok u) {m} {w} h at g f = loose-ready entry s.cut w h (loose entry (Ok u) m w h at g f)
+  fills-ending entry (Ok tt) {m} {w} h at g f = value-ready (asked.Numbers k (map whole f.items)) s.cut b key h at entry
+      (begun-items entry m h at f.items f.taken.1 g) (made-items h at f)
   fills-ending entry (Err why) {m} {w} h at g f = (s.cut, loose entry (Err why) m w h at g f)
 
   -- it is filled, and then made or given back

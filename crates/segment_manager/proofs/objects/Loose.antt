@@ -4,7 +4,7 @@ use Rattle.segment_manager.proofs.Common.{Class, Key, Role, ℕ, Option, IfSome,
 use Rattle.segment_manager.proofs.Common.{IsHeaded, IsLoose, IsWanted, room_for, IsGrowth, [], ObjectRole, IsReleased}
 use Rattle.segment_manager.proofs.Common.{has_room, is_live_in, GivesBack, place_of, NewEntry, IsReadyFor, IsRestored}
 use Rattle.segment_manager.proofs.Common.{IsAllocated, allocated-is_live, allocated-room, changed-room, lay_out_one}
-use Rattle.segment_manager.proofs.objects.Taking.{growth-held, ready, requested-aligned, restored-taken, written-taken}
+use Rattle.segment_manager.proofs.objects.Taking.{growth-held, restored-taken, written-taken}
 use Rattle.segment_manager.proofs.{Common.IsLooseAlone, Common.IsLooseEntry, objects.Pieces.changed-heap}
 use Rattle.best_fit.proofs.Laws.{taken-back}
 
@@ -28,22 +28,6 @@ pub begun-heap : (entry : Option NewEntry) (a m : Cut) (key : Key) (kind : Kind)
     → IsBegun a m key kind count body h at entry → IsHeap current m.bytes
 begun-heap None a m key kind count body h at g = changed-heap g.headed.change
 begun-heap (Some e) a m key kind count body h at g = changed-heap g.headed.change
-
--- ---- an entry is to lead there
-
-pub loose-wanted : {old now : Cut} {h : ℕ} {e : NewEntry} → IsLooseEntry old now h e → IsWanted now h e
-loose-wanted {e} l =
-    let q = l.index in let ok = ready e.index q.index l.requested l.change in
-    record {
-      index = record { table = q.table; handles = q.handles; index = ok.index };
-      growth = ok.growth;
-      within = subst (λ n. e.place ≤ n) (q.index.stands.count ∙ sym ok.index.stands.count) l.within;
-      aligned = requested-aligned l.requested.takes;
-    }
-
-pub loose-ready : (entry : Option NewEntry) (old now : Cut) (h : ℕ) → IsLoose old now h entry → IsReadyFor now h entry
-loose-ready None old now h l = tt
-loose-ready (Some e) old now h l = loose-wanted l
 
 -- ---- all is given back
 

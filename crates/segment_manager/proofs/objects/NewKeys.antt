@@ -3,10 +3,11 @@ use Rattle.segment_manager.proofs.Common as common
 use common.{◌≡◌, sym, ◌∙◌, zero, suc, ◌≤◌, Bool, true, ◌&&◌, ◌==◌, None, List, Kind, Name, Code, Seeks, refl, subst}
 use common.{arith, IsTrue, nat_le, eq-eqb, le-leb, Extent, serves, Index, Named, Unique, Value, Object, ap, length}
 use common.{and_from, current, code_of, is_value, is_name, Numbers, has_key, kind_of, class_of, name_of, ℕ}
-use common.{length-replicate, ObjectRole, ScalarKind, is_text_name, has_good_name, is_good_value, class_of_index, ℤ}
+use common.{Memory, handle, IsEntry, length-replicate, ObjectRole, ScalarKind, is_text_name, has_good_name, is_good_value, class_of_index, ℤ}
 use common.{replicate, list_all, is_kind_of, Directory, is_object, object_at, object_len, same_bytes, IsNewKeyOf}
 use Rattle.segment_manager.proofs.{indexes.Entered.key_in, indexes.KeyOrder.same-itself, objects.Heads.name-short}
-use Rattle.seg_index.specs.declared.keys.Key.{Key}
+use Rattle.segment_manager.proofs.indexes.Bridge.{seeks-sort}
+use Rattle.seg_index.specs.{declared.keys.Key.Key, Sorted.IsKeyOf, Sorted.index_of}
 use Rattle.seg_types.specs.Names as names
 
 -- ---- numbers
@@ -57,6 +58,17 @@ pub key-seeks : (i : Index) (e : Key) (key : names.Key) (name : List ℕ) (kind 
 key-seeks Named (Name s) (names.ByName n) name kind h = h.0
 key-seeks Unique (Code c) (names.ByKind u) name kind h = h.0
 key-seeks i e key name kind h = absurd h
+
+pub key-sort : (i : Index) (e : Key) (key : names.Key) (name : List ℕ) (kind : Kind) → IsNewKeyOf i e key name kind
+    → index_of e ≡ i
+key-sort i e key name kind h = seeks-sort i e key (key-seeks i e key name kind h)
+
+-- an object of the name and the kind has the sort key
+pub key-of : (i : Index) (e : Key) (key : names.Key) {m : Memory} (name : List ℕ) (o : Object)
+    → IsNewKeyOf i e key name (kind_of o.value) → o.name ≡ name → IsEntry m o → IsKeyOf e m (handle o.extent)
+key-of Named (Name s) (names.ByName n) name o h is a = a.name ∙ is ∙ h.1 ∙ sym h.0
+key-of Unique (Code c) (names.ByKind u) name o h is a = a.code ∙ sym (h.0 ∙ ap code_of h.2)
+key-of i e key name o h is a = absurd h
 
 -- its name is short
 pub key-short : (i : Index) (e : Key) (key : names.Key) (name : List ℕ) (kind : Kind) → IsNewKeyOf i e key name kind

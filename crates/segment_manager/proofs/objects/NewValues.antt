@@ -9,18 +9,20 @@ use common.{kind_of, IsGiven, and_from, SamePlace, IsChanged, laid-heap, IsNewKe
 use common.{NewEntry, IsHeaded, IsWanted, count_of, IsDenied, table_of, head_len, bytes_of, added, place_of, AddKeeps}
 use common.{IsGrowth, prepared, IsSegment, StandsFor, SamePlace-trans, IsBegunAlone, is_good_value, value_extents}
 use common.{class_of_index, ObjectRole, IsAllocated, is_kind_of, IsBegunEntry, with_object, IsMadeValue, Anonymous}
-use common.{IsIndexOf, Directory, is_object, object_at, value_len, IsNoValue}
+use common.{IsIndexOf, Directory, is_object, object_at, value_len, IsNoValue, handle}
 use Rattle.segment_manager.proofs.objects.Taking.{IsMade, IsTaken, taken-growth, taken-index, growth-index}
-use Rattle.segment_manager.proofs.objects.Taking.{requested-aligned, restored-taken}
+use Rattle.segment_manager.proofs.objects.Taking.{growth-stays, made-key, made-stays, restored-taken}
 use Rattle.segment_manager.proofs.objects.MadeValues.{empty-taken, made-object, made-taken, placed-next}
 use Rattle.segment_manager.proofs.objects.Constructed.{IsNewObject, IsNoObject, content-denied, content-entered}
 use Rattle.segment_manager.proofs.{objects.Constructed.restored-denotes, Codes.known-kind, indexes.Bridge.lookup-absent}
 use Rattle.segment_manager.proofs.{Calling.denotes-live, Denoted.denotes-with, indexes.HeldIndexes.denotes-index}
-use Rattle.segment_manager.proofs.{objects.KeyCalls.segment-index, Live.adding, blocks.NewBlocks.allocated-serves}
-use Rattle.segment_manager.proofs.{objects.NewKeys.key-object, objects.NewKeys.key-seeks, Steps.perform-new}
+use Rattle.segment_manager.proofs.{objects.Heads.object-entry, blocks.NewBlocks.allocated-serves}
+use Rattle.segment_manager.proofs.objects.NewKeys.{key-object, key-of, key-seeks, key-short, key-sort, object_of}
+use Rattle.segment_manager.proofs.{Live.adding, Steps.perform-new, indexes.HeldIndexes.denotes-sorted}
 use Rattle.seg_index.specs.declared.keys.Key.{Key}
 use Rattle.segment_manager.specs.objects.Begun.{GivesAllBack, IsEntryAdded}
-use Rattle.seg_index.proofs.Laws.{place_behind, place_small}
+use Rattle.seg_index.proofs.Laws.{ObjectStays, belongs-at, keeps-sorted, place_behind, place_small, stays-trans}
+use Rattle.seg_index.specs.Sorted.{BelongsAt}
 use Rattle.seg_types.specs.Names as names
 
 -- ---- places
@@ -214,11 +216,27 @@ module _ (content : Content) where
         prepared a mid (place_of i) e.growth.block t hs x g.requested.grows (place_behind i) (place_small i) in
         let index : IsIndexOf w (place_of i) t hs =
         taken-index _ taken (place_behind i) (place_small i) (growth-index i e.growth.block g.requested.grows x) in
+        let stay : (n : ℕ) → ObjectStays a w n = stays-trans {b = mid} (growth-stays (place_of i) e.growth.block
+        g.requested.grows) (made-stays _ taken) in
+        let sorted = denotes-sorted i a b.1.denotes in
+        let new = subst (IsNewKeyOf i g.entry key g.name) (sym r.is_kind) g.is in
+        let o = object_of i g.name r.value took.extent in
+        let made : IsMade mid w o = made-in mid g.taken m w (class_of_index i) g.name h at g.requested.takes g.headed r
+        (key-object i g.entry key g.name r.value took.extent new (known-kind (kind_of r.value)) r.good
+        (serving mid g.taken m w (class_of_index i) g.name h at g.requested.takes g.headed r)) in
+        let short = key-short i g.entry key g.name (kind_of r.value) new in
+        let belongs = belongs-at {a = a} {b = w} g.entry e.place (handle took.extent)
+        (key-sort i g.entry key g.name (kind_of r.value) new) sorted stay (made-key i made)
+        (key-of i g.entry key {m = bytes_of w.bytes} g.name o new refl (object-entry (bytes_of w.bytes) o short made.at))
+        (g.absent t hs x) in
         record {
-          index = record { table = t; handles = hs; index = index };
+          entry = record {
+            table = t;
+            handles = hs;
+            index = record { index = index; sorted = keeps-sorted stay i hs sorted };
+            belongs = subst (BelongsAt w i hs e.place) (sym took.at) belongs;
+          };
           growth = taken-growth mid w _ (place_of i) e.growth.block taken (place_behind i) (place_small i) grown;
-          within = subst (λ n. e.place ≤ n) (sym index.stands.count) (g.absent t hs x).0;
-          aligned = requested-aligned took;
         }
 
     pub value-ready : (entry : Option NewEntry) {w : Cut} → IsBegun a m key kind many long h at entry
@@ -234,21 +252,16 @@ module _ (content : Content) where
       takes = restored-taken (empty-taken g.takes g.headed r.change) r.restored;
       change = unchanged (live_of r.empty.bytes) r.restored.laid;
     }
-    value-loose (Some e) w why g r =
-        let x = denotes-index e.index a b.1.denotes in
-        let away = g.absent (table_of e.index b.0) (entries_of e.index b.0) x in
-        record {
-          len = room_for g.name long;
-          taken = w;
-          requested = record {
-            between = g.requested.between;
-            grows = g.requested.grows;
-            takes = restored-taken (empty-taken g.requested.takes g.headed r.change) r.restored;
-          };
-          change = unchanged (live_of r.empty.bytes) r.restored.laid;
-          index = segment-index e.index b;
-          within = subst (λ n. e.place ≤ n) (sym x.stands.count) away.0;
-        }
+    value-loose (Some e) w why g r = record {
+      len = room_for g.name long;
+      taken = w;
+      requested = record {
+        between = g.requested.between;
+        grows = g.requested.grows;
+        takes = restored-taken (empty-taken g.requested.takes g.headed r.change) r.restored;
+      };
+      change = unchanged (live_of r.empty.bytes) r.restored.laid;
+    }
 
     -- ---- all directories
 
@@ -257,10 +270,10 @@ module _ (content : Content) where
           → SamePlace a c
       entry-place r added =
           let i : Index = e.index in let mid : Cut = g.requested.between in
-          let q = (entry-wanted g r).index in
+          let q = (entry-wanted g r).entry in
           SamePlace-trans a mid c (growth-place (place_of i) e.growth.block g.requested.grows)
           (SamePlace-trans mid w c (entry-taken g r).keeps.place
-          (keeps-place (place_of i) q.table e.growth.block (added.keeps q.table q.handles q.index)))
+          (keeps-place (place_of i) q.table e.growth.block (added.keeps q.table q.handles q.index.index)))
 
       -- it is made
       value-made : IsMadeValue content m w (record { handle = h; at = at }) → IsEntryAdded w c h e

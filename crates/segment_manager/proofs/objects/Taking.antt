@@ -7,10 +7,13 @@ use common.{IndexRole, IsAllocated, IsChanged, IsHeap, IsRefused, Keeps, LaysOut
 use common.{allocated-is_live, allocated-room, keeps-refl, laid-heap, room_block, Index, CanGrow, GivesBack, IsGrowth}
 use common.{grown_bytes, IsIndexOf, place_of, prepared, IsRequested, IsRestored, IsUnmet, ◌≤◌, Bool, [], ◌∷◌, find}
 use common.{Same-part, Same-word, Same-link, Extent, handle, extent_at, lay_out_one, grown_capacity, Object, extents_of}
-use common.{is_object, IsObjectAt}
+use common.{is_object, IsObjectAt, value_extents}
 use Rattle.segment_manager.proofs.{Order.all_of-insert, Order.live-rises, Order.rising-insert, Live.adding}
 use Rattle.best_fit.proofs.Laws.{block_aligned, still_allocated-block, found-inserted, found-new, found-none}
-use Rattle.seg_index.proofs.Laws.{place_behind, place_small, Around-kept, stays}
+use Rattle.seg_index.proofs.Laws.{ObjectStays, all_found, place_behind, place_small, stays-itself, taken-stays}
+use Rattle.seg_index.proofs.Laws.{Around-kept, stays}
+use Rattle.seg_index.specs.Sorted.{HasSortKey}
+use Rattle.segment_manager.proofs.{indexes.HeldIndexes.key-fits, Order.inserted}
 use Rattle.best_fit.specs.Fit.{insert}
 use Rattle.seg_index.specs.Growth.{IsBlockFor}
 
@@ -130,25 +133,30 @@ pub meant : {a b : Cut} {at m n : ℕ} {g : Option ℕ} {h : ℕ} → m ≡ n �
     → IsRequested a b at n g h
 meant {a} {b} {at} {g} {h} e r = subst (λ (k : ℕ). IsRequested a b at k g h) e r
 
--- what `add` wants
-pub record IsReady (i : Index) (c : Cut) (t : Table) (hs : List ℕ) (g : Option ℕ) : Type 0 where
-  pub index : IsIndexOf c (place_of i) t hs
-  pub growth : CanGrow c (place_of i) g
+-- the objects stay where the index takes its block, and where the object's own are taken
+pub growth-stays : {a b : Cut} (at : ℕ) (g : Option ℕ) → IsGrowth a b at g → (h : ℕ) → ObjectStays a b h
+growth-stays {a} at None g h = subst (λ (c : Cut). ObjectStays a c h) (sym g.1) (stays-itself {a = a} h)
+growth-stays at (Some k) g h = taken-stays g.1 h
 
-pub ready : (i : Index) {a m b : Cut} {n h : ℕ} {g : Option ℕ} {t : Table} {hs : List ℕ} → IsIndexOf a (place_of i) t hs
-    → (r : IsRequested a m (place_of i) n g h) → IsChanged current m b h n → IsReady i b t hs g
-ready i {a} {b} {n} {h} {g} {t} {hs} x r change =
-    let took = written-taken r.takes change in
-    let can = prepared a r.between (place_of i) g t hs x r.grows (place_behind i) (place_small i) in
+pub made-stays : {a b : Cut} (xs : List Extent) → IsTaken a b xs → (h : ℕ) → ObjectStays a b h
+made-stays {a} {b} xs m h = record {
+  each = λ x e role. (
+    taken-found a b xs h m e,
+    all_found (SameBlock (bytes_of a.bytes) (bytes_of b.bytes)) h (live_of a.bytes).extents x m.keeps.blocks e,
+  );
+}
+
+-- an object that was made is found, and holds its sort key
+pub made-key : (i : Index) {a b : Cut} {o : Object} → IsMade a b o → HasSortKey b i (handle o.extent)
+made-key i {a} {b} {o} m =
+    let zs = inserted (value_extents o.value) (live_of a.bytes).extents in let x = o.extent in
+    let up = live-rises (adding (live_of a.bytes) (extents_of o)) m.taken.live.proper in
     record {
-      index = taken-index _ (requested-taken took) (place_behind i) (place_small i) (growth-index i g r.grows x);
-      growth = taken-growth r.between b _ (place_of i) g (requested-taken took) (place_behind i) (place_small i) can;
+      extent = x;
+      found = ap (λ (l : LiveSet). find (has_handle (handle x)) l.extents) (taken-live a b (extents_of o) m.taken)
+          ∙ found-new x zs (rising-insert 128 x zs up).differs;
+      fits = key-fits i o m.good m.at;
     }
-
--- the block of a request begins at a multiple of 16
-pub requested-aligned : {a b : Cut} {n h : ℕ} → IsAllocated current a b n ObjectRole h → h % 16 ≡ 0
-requested-aligned {a} {b} {n} {h} take = block_aligned b h (room_block b h 0 (laid-heap b.bytes (added (live_of a.bytes)
-    take.extent) take.live) (allocated-room current a b n ObjectRole h 0 take (omega arith))).block
 
 -- ---- blocks as they were
 

@@ -1,6 +1,6 @@
 -- How an object comes to be whose numbers come one by one: it is begun, it is filled, and then it gets its entry or is
 -- given back.
-use Rattle.std.specs.Prelude.{◌≡◌, ℕ, ◌<◌, ◌*◌, ◌+◌, ◌%◌, ◌≤◌, ◌⊎◌, ⊤, ℤ, Option, Some, None, Result, Ok, Err}
+use Rattle.std.specs.Prelude.{◌≡◌, ℕ, ◌<◌, ◌*◌, ◌+◌, ◌⊎◌, ⊤, ℤ, Option, Some, None, Result, Ok, Err}
 use Rattle.std.specs.Prelude.{MatchResult, List, [], insert, length, map, IsTrue}
 use Rattle.std.specs.List.{list_all}
 use Rattle.std.specs.Iterator.{Yields, YieldsThen}
@@ -21,8 +21,7 @@ use Rattle.seg_index.specs.declared.index.Index.{Index}
 use Rattle.seg_index.specs.declared.keys.Key.{Key}
 use Rattle.seg_index.specs.declared.keys.Lookup.TheVariants.{Absent, Found}
 use Rattle.seg_index.specs.Growth.{AddKeeps, Adds, CanGrow, grown_live}
-use Rattle.seg_index.specs.Held.{HasIndex, IsIndexOf, entry_count, place_of}
-use Rattle.seg_index.specs.Lookups.{IsPlace}
+use Rattle.seg_index.specs.{Held.IsIndexOf, Held.place_of, Lookups.IsPlace, Sorted.CanAdd}
 use Rattle.seg_vector.specs.Vector.{spelled}
 use Rattle.segment_manager.specs.declared.objects.beginning.Begun.{Begun}
 use Rattle.segment_manager.specs.declared.objects.beginning.NewEntry.{NewEntry}
@@ -146,8 +145,6 @@ pub record IsLooseEntry (old now : Cut) (h : ℕ) (e : NewEntry) : Type 0 where
   pub taken : Cut
   pub requested : IsRequested old taken (place_of e.index) len e.growth.block h
   pub change : IsChanged current taken now h len
-  pub index : HasIndex old (place_of e.index)
-  pub within : e.place ≤ entry_count old (place_of e.index)
 
 pub record IsLooseAlone (old now : Cut) (h : ℕ) : Type 0 where
   pub len : ℕ
@@ -159,12 +156,10 @@ abbrev pub IsLoose : Cut → Cut → ℕ → Option NewEntry → Type 0
 IsLoose old now h None = IsLooseAlone old now h
 IsLoose old now h (Some e) = IsLooseEntry old now h e
 
--- an index has what it needs for an entry that leads to a block
+-- an index has what it needs for an entry that leads to an object: its key belongs there
 pub record IsWanted (now : Cut) (h : ℕ) (e : NewEntry) : Type 0 where
-  pub index : HasIndex now (place_of e.index)
+  pub entry : CanAdd now e.index e.place h
   pub growth : CanGrow now (place_of e.index) e.growth.block
-  pub within : e.place ≤ entry_count now (place_of e.index)
-  pub aligned : h % 16 ≡ 0
 
 abbrev pub IsReadyFor : Cut → ℕ → Option NewEntry → Type 0
 IsReadyFor now h None = ⊤

@@ -2,6 +2,7 @@
 ghost use Rattle.std.specs.Prelude.{◌≡◌, ℕ, OnErr, true, false};
 ghost use Rattle.seg_types.specs.Commands.{Destroy, DestroyPtr};
 ghost use Rattle.seg_types.specs.{Keys.index_key_seen, Names.ByHandle};
+ghost use Rattle.seg_index.specs.Sorted.{index_of};
 ghost use Rattle.segment_manager.specs.{objects.Found.is_object_at, Keeping.KeepsWhere, Keeping.LacksKey};
 ghost use Rattle.segment_manager.specs.indexes.Listed.{HasEntries, IsListed};
 ghost use Rattle.segment_manager.specs.objects.Destroyed.{HoldsEntry, HoldsObject, RemovesAnonymous, RemovesEntry};
@@ -94,6 +95,7 @@ impl Segment {
 
     /// Where an entry of an index stands that an object has.
     fn listed_under(&self, index: Index, entry: Entry<'_>) -> Option<Listed>
+        requires { index_of entry ≡ index }
         ensures { (handle : ℕ) → HasEntries self.now index entry.entry handle → IsListed self.now handle result }
     {
         match index.lookup(&self.heap, entry, &mut Steps::new()) {

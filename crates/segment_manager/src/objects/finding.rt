@@ -3,6 +3,7 @@ ghost use Rattle.std.specs.Prelude.{length, slice_get, Some, ◌≡◌};
 ghost use Rattle.seg_types.specs.declared.kinds.{Kind.Kind as AnyKind, Kind.TheVariants.Scalar as ScalarOf};
 ghost use Rattle.seg_types.specs.{Commands.Find, Commands.NumNamed, Commands.NumUnique, Keys.index_key_seen};
 ghost use Rattle.seg_types.specs.{Keys.key_seen, Names.Key as AnyKey};
+ghost use Rattle.seg_index.specs.Sorted.{index_of};
 ghost use Rattle.segment_manager.specs.{Answers.Number, Denotes.handles, State.Answers, State.IsReply};
 ghost use Rattle.segment_manager.specs.{indexes.Indexed.Seeks, objects.NewObjects.IsNewKeyOf};
 ghost use Rattle.segment_manager.specs.{objects.NewObjects.IsOfKind};
@@ -80,6 +81,7 @@ impl Segment {
 
     /// The handle of the object under an entry of an index, or nothing where there is none.
     fn look_up(&self, index: Index, entry: Entry<'_>) -> Option<Handle>
+        requires { index_of entry ≡ index }
         ensures { (key : AnyKey) → Seeks index entry.entry key → Answers self.now (λ d. handle_at d key) result }
     {
         match index.lookup(&self.heap, entry, &mut Steps::new()) {

@@ -5,6 +5,9 @@ use Rattle.seg_index.proofs.{arith, insert, length-insert, current, LiveSet, Lay
 use Rattle.seg_index.proofs.{IsIndexOf, block_and_count, capacity_at, filled, gaps_kept, grown_capacity, has_places}
 use Rattle.seg_index.proofs.{in_header, index_in, insert_all, inserted, links_lead, offer, place_of, same_live, source}
 use Rattle.seg_index.proofs.{target, written, written_both, written_keeps, IsChanged, Offer, Placed, bytes_of, link_at}
+use Rattle.seg_index.proofs.{added-sorted, aligned, beside-stays, extent_at, inl, inr, keeps-sorted, live_of, moved-stays}
+use Rattle.seg_index.proofs.{none-some, unlinked}
+use Rattle.best_fit.proofs.Laws.{lay_out_one}
 use Rattle.best_fit.specs.Table.{Table as ATable}
 use Rattle.seg_index.specs.{Growth.AddKeeps, Growth.Adds, Growth.CanGrow, Growth.grown_live, Held.entry_count}
 use Rattle.seg_index.proofs.index.Index.add.Goals as goal
@@ -22,16 +25,20 @@ had c i =
 
 pub spread-requires-clause-links : goal.spread-requires-clause-links
 spread-requires-clause-links c =
-    let q = c.requires.index in let p = had (goal.at.spread-requires-clause-links c).After-unwrap_or-block q.index in
-    links_lead c.unwrap_or-block.result c.args.place (c.len-count.result - c.args.place) q.handles p.links q.index.whole
-    (omega arith)
+    let q = c.requires.entry in
+    let p = had (goal.at.spread-requires-clause-links c).After-unwrap_or-block q.index.index in
+    links_lead c.unwrap_or-block.result c.args.place (c.len-count.result - c.args.place) q.handles p.links
+    q.index.index.whole (omega arith)
+
+pub spread-requires-clause-handle : goal.spread-requires-clause-handle
+spread-requires-clause-handle c = aligned c.requires.entry
 
 pub returns-in-None-clause-index : goal.returns-in-None-clause-index
 returns-in-None-clause-index c = λ t hs i.
     let A = c.args.heap.now in let at = place_of c.args.self in
     let v = (goal.at.returns-in-None-clause-index c).After-unwrap_or-block in let left = few v in let p = had v i in
     subst (λ b. Adds A c.set_header_word.new.self at t (insert hs c.args.place c.args.handle) b) (sym c.in-None.is)
-    (inserted p (in_header c.args.self) (c.len-count.ensures.len t hs i) (omega arith) (omega arith) c.requires.handle
+    (inserted p (in_header c.args.self) (c.len-count.ensures.len t hs i) (omega arith) (omega arith) (aligned c.requires.entry)
     c.spread.ensures.change c.spread.ensures.here c.spread.ensures.tail c.place-in-None.ensures
     c.set_header_word.ensures.change c.set_header_word.ensures.word)
 
@@ -52,7 +59,7 @@ returns-in-None-clause-keeps c = λ t hs i.
 pub returns-in-None-clause-gaps : goal.returns-in-None-clause-gaps
 returns-in-None-clause-gaps c = λ none.
     let v = (goal.at.returns-in-None-clause-gaps c).After-unwrap_or-block in let left = few v in
-    let p = had v c.requires.index.index in
+    let p = had v c.requires.entry.index.index in
     gaps_kept p (in_header c.args.self) (8 * c.args.place) c.spread.ensures.change (omega arith)
     c.place-in-None.ensures c.set_header_word.ensures.change
 
@@ -80,35 +87,35 @@ all c = written_both c.in-Some.block c.shift_non_null_links.ensures.change c.spr
 
 pub shift_non_null_links-requires : goal.shift_non_null_links-requires
 shift_non_null_links-requires c =
-    let q = c.requires.index in let place = c.args.place in
-    let o = given (goal.at.shift_non_null_links-requires c).After-unwrap_or-from q.index in let s = source o in
+    let q = c.requires.entry in let place = c.args.place in
+    let o = given (goal.at.shift_non_null_links-requires c).After-unwrap_or-from q.index.index in let s = source o in
     record {
       from_whole = refl;
       to_whole = refl;
       source = s.room (0 + 8 * place) (omega arith);
       target = target (0 + 8 * place) o (omega arith);
-      links = links_lead c.unwrap_or-from.result 0 place q.handles s.links q.index.whole (omega arith);
+      links = links_lead c.unwrap_or-from.result 0 place q.handles s.links q.index.index.whole (omega arith);
     }
 
 pub spread-requires-in-Some : goal.spread-requires-in-Some
 spread-requires-in-Some c =
-    let q = c.requires.index in let place = c.args.place in let count = c.len-count.result in
-    let o = given (goal.at.spread-requires-in-Some c).After-unwrap_or-from q.index in
+    let q = c.requires.entry in let place = c.args.place in let count = c.len-count.result in
+    let o = given (goal.at.spread-requires-in-Some c).After-unwrap_or-from q.index.index in
     let p = written o c.shift_non_null_links.ensures.change (omega arith) in let s = source p in
     record {
       heap = p.index.heap;
       within = omega arith;
       source = s.room (8 * count) (omega arith);
       target = target (8 * count + 8) p (omega arith);
-      links = links_lead c.unwrap_or-from.result place (count - place) q.handles s.links q.index.whole (omega arith);
-      handle = c.requires.handle;
+      links = links_lead c.unwrap_or-from.result place (count - place) q.handles s.links q.index.index.whole (omega arith);
+      handle = (aligned c.requires.entry);
     }
 
 pub settle-requires : goal.settle-requires
 settle-requires c =
     let at = goal.at.settle-requires c in
     let cap = c.grown-capacity.ensures ∙ ap grown_capacity c.capacity.ensures.word in
-    let p = written (given at.After-unwrap_or-from c.requires.index.index) (all at.After-spread-in-Some)
+    let p = written (given at.After-unwrap_or-from c.requires.entry.index.index) (all at.After-spread-in-Some)
     (omega arith) in
     record {
       heap = p.index.heap;
@@ -128,7 +135,7 @@ returns-in-Some-clause-index c = λ t hs i.
     let links = filled c.unwrap_or-from.result c.in-Some.block hs (source before).links (source behind).links
     long (omega arith) c.shift_non_null_links.ensures.lead c.spread-in-Some.ensures.change
     c.spread-in-Some.ensures.here c.spread-in-Some.ensures.tail in
-    let whole = insert_all (λ k. k % 16 ≡ 0) hs place c.args.handle (omega arith) i.whole c.requires.handle in
+    let whole = insert_all (λ k. k % 16 ≡ 0) hs place c.args.handle (omega arith) i.whole (aligned c.requires.entry) in
     subst (λ b. Adds A c.settle.new.heap (place_of c.args.self) t (insert hs place c.args.handle) b) (sym c.in-Some.is)
     (index_in A c.spread-in-Some.new.heap c.settle.new.heap c.in-Some.block (same_live (all at.After-spread-in-Some))
     cap (c.settle.ensures.index (insert hs place c.args.handle) links (omega arith) whole))
@@ -136,21 +143,59 @@ returns-in-Some-clause-index c = λ t hs i.
 pub returns-in-Some-clause-live : goal.returns-in-Some-clause-live
 returns-in-Some-clause-live c =
     let at = goal.at.returns-in-Some-clause-live c in let d = all at.After-spread-in-Some in
-    let o = given at.After-unwrap_or-from c.requires.index.index in let E = c.settle.new.heap in
+    let o = given at.After-unwrap_or-from c.requires.entry.index.index in let E = c.settle.new.heap in
     subst (λ b. LaysOut current E.bytes (grown_live c.args.heap.now (place_of c.args.self) b)) (sym c.in-Some.is)
     (subst (λ (l : LiveSet). LaysOut current E.bytes l)
     (ap₂ without_link (same_live d) ((written o d (omega arith)).leads ∙ sym o.leads)) c.settle.ensures.live)
 
 pub returns-in-Some-clause-keeps : goal.returns-in-Some-clause-keeps
 returns-in-Some-clause-keeps c = λ t hs i.
-    let at = goal.at.returns-in-Some-clause-keeps c in let o = given at.After-unwrap_or-from c.requires.index.index in
+    let at = goal.at.returns-in-Some-clause-keeps c in let o = given at.After-unwrap_or-from c.requires.entry.index.index in
     subst (λ b. AddKeeps c.args.heap.now c.settle.new.heap (place_of c.args.self) t b) (sym c.in-Some.is)
     (written_keeps o (all at.After-spread-in-Some) (omega arith) c.settle.ensures.keeps)
 
 pub returns-in-Some-clause-went : goal.returns-in-Some-clause-went
 returns-in-Some-clause-went c =
-    let at = goal.at.returns-in-Some-clause-went c in let o = given at.After-unwrap_or-from c.requires.index.index in
+    let at = goal.at.returns-in-Some-clause-went c in let o = given at.After-unwrap_or-from c.requires.entry.index.index in
     let more = λ (l : Option ℕ). IfSome l (λ old. c.args.steps.now < c.settle.new.steps) in
     subst (λ (b : Option ℕ). IfSome b (λ block. more (link_at (bytes_of c.args.heap.now.bytes) (place_of c.args.self))))
     (sym c.in-Some.is)
     (subst more ((written o (all at.After-spread-in-Some) (omega arith)).leads ∙ sym o.leads) c.settle.ensures.went)
+
+-- ---- the order
+
+pub returns-in-None-clause-order : goal.returns-in-None-clause-order
+returns-in-None-clause-order c =
+    let v = (goal.at.returns-in-None-clause-order c).After-unwrap_or-block in let left = few v in
+    let q = c.requires.entry.index.index in let p = had v q in
+    let live = same_live c.set_header_word.ensures.change ∙ same_live c.spread.ensures.change in
+    keeps-sorted (beside-stays q (block_and_count p (in_header c.args.self) (8 * c.args.place) c.spread.ensures.change
+    (omega arith) c.place-in-None.ensures c.set_header_word.ensures.change)
+    (λ h x f other. ap (λ (l : LiveSet). extent_at l h) live ∙ f))
+
+pub returns-in-None-clause-sorted : goal.returns-in-None-clause-sorted
+returns-in-None-clause-sorted c = λ t hs i. returns-in-None-clause-order c c.args.self
+    (insert hs c.args.place c.args.handle) (added-sorted c.requires.entry i)
+
+pub returns-in-Some-clause-order : goal.returns-in-Some-clause-order
+returns-in-Some-clause-order c =
+    let at = goal.at.returns-in-Some-clause-order c in let d = all at.After-spread-in-Some in
+    let q = c.requires.entry.index.index in let o = given at.After-unwrap_or-from q in
+    let A = c.args.heap.now in let E = c.settle.new.heap in
+    let live : live_of E.bytes ≡ unlinked A (place_of c.args.self) =
+    lay_out_one current E.bytes (unlinked c.spread-in-Some.new.heap (place_of c.args.self)) c.settle.ensures.live
+    ∙ ap₂ without_link (same_live d) ((written o d (omega arith)).leads ∙ sym o.leads) in
+    keeps-sorted (moved-stays q o.offered live (written_keeps o d (omega arith) c.settle.ensures.keeps))
+
+pub returns-in-Some-clause-sorted : goal.returns-in-Some-clause-sorted
+returns-in-Some-clause-sorted c = λ t hs i. returns-in-Some-clause-order c c.args.self
+    (insert hs c.args.place c.args.handle) (added-sorted c.requires.entry i)
+
+pub returns-in-Some-clause-noop : goal.returns-in-Some-clause-noop
+returns-in-Some-clause-noop c =
+    let at = goal.at.returns-in-Some-clause-noop c in
+    let o = given at.After-unwrap_or-from c.requires.entry.index.index in
+    let leads = (written o (all at.After-spread-in-Some) (omega arith)).leads ∙ sym o.leads in λ either. elim either [
+      | inl none ↦ absurd (none-some c.in-Some.block (sym none ∙ c.in-Some.is))
+      | inr none ↦ c.settle.ensures.noop (leads ∙ none)
+    ]

@@ -1,5 +1,5 @@
 -- The search goes over the links of the block.
-use Rattle.seg_index.proofs.{◌≡◌, ◌+◌, sym, ap, ◌∙◌, arith, bytes_of, comparisons_in, place_of, AreKeys, IsPlaceIn}
+use Rattle.seg_index.proofs.{◌≡◌, ◌+◌, sym, ap, ◌∙◌, arith, bytes_of, comparisons_in, AreKeys, IsPlaceIn}
 use Rattle.seg_index.proofs.{comparisons_found, comparisons_none, keys_given, leads_from, no_entries, place_found}
 use Rattle.seg_index.proofs.{placed, same_search}
 use Rattle.seg_index.proofs.index.Index.lookup.Goals as goal
@@ -7,10 +7,10 @@ use Rattle.seg_index.proofs.index.Index.lookup.Goals as goal
 pub search-result-requires-clause-keys : goal.search-result-requires-clause-keys
 search-result-requires-clause-keys c =
     let e = c.new-comparisons.ensures in let n = c.len.result in let block = c.in-Some.block in
-    let p = placed block c.requires.keys.index (leads_from c.args.heap.now c.place.ensures c.header_link.ensures
-    c.in-Some.is) in
+    let q = c.requires.index in
+    let p = placed block q.index.index (leads_from c.args.heap.now c.place.ensures c.header_link.ensures c.in-Some.is) in
     same_search (λ v k b. AreKeys v b n k) (sym e.heap) (sym e.key) (sym e.block)
-    (keys_given c.args.heap.now (place_of c.args.self) c.args.key block n c.requires.keys p c.len.ensures.word)
+    (keys_given c.args.heap.now c.args.self c.args.key block n q c.requires.sort p c.len.ensures.word)
 
 pub returns-clause-place : goal.returns-clause-place
 returns-clause-place c = λ t hs i.

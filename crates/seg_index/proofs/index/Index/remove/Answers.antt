@@ -1,7 +1,8 @@
 -- The links behind the place close up.
 use Rattle.seg_index.proofs.{◌≡◌, ◌+◌, ◌-◌, ◌*◌, subst, arith, current, bytes_of, AllLead, LiveSet, LaysOut, same_live}
 use Rattle.seg_index.proofs.{ℕ, List, IsIndexOf, place_of, has_places, in_header, links_lead, block_and_count}
-use Rattle.seg_index.proofs.{gaps_kept, removed}
+use Rattle.seg_index.proofs.{gaps_kept, removed, ap, ◌∙◌, remove, extent_at, beside-stays, keeps-sorted, one-less}
+use Rattle.seg_index.specs.Sorted.{KeepsSorted}
 use Rattle.best_fit.specs.Table.{Table as ATable}
 use Rattle.seg_index.proofs.index.Index.remove.Goals as goal
 
@@ -20,12 +21,20 @@ returns c =
     let counted = c.set_header_word.ensures in
     let p = λ (t : ATable) (hs : List ℕ) (i : IsIndexOf c.args.heap.now (place_of c.args.self) t hs).
     has_places i (omega arith) c.place.ensures c.header_link.ensures c.unwrap_or-block.ensures in
+    let q = c.requires.index in let r = p q.table q.handles q.index in
+    let keeps = block_and_count r w (8 * c.args.place) moved.change (omega (arith, r)) c.place-2.ensures counted.change in
+    let live = same_live counted.change ∙ same_live moved.change in
+    let order : KeepsSorted c.args.heap.now D = keeps-sorted (beside-stays q.index keeps
+    (λ h x f other. ap (λ (l : LiveSet). extent_at l h) live ∙ f)) in
     record {
       index = λ t hs i. removed (p t hs i) w (c.len-count.ensures.len t hs i) (omega arith) moved.change moved.lead
           c.place-2.ensures counted.change counted.word;
+      sorted = λ t hs s.
+          let long = s.index.stands.count in
+          order c.args.self (remove hs c.args.place) (one-less s.sorted (omega arith));
+      order = order;
       live = subst (λ (l : LiveSet). LaysOut current D.bytes l) (same_live moved.change) counted.change.live;
       keeps = λ t hs i. block_and_count (p t hs i) w (8 * c.args.place) moved.change (omega (arith, p t hs i))
           c.place-2.ensures counted.change;
-      gaps = let q = c.requires.index in let r = p q.table q.handles q.index in
-          gaps_kept r w (8 * c.args.place) moved.change (omega arith) c.place-2.ensures counted.change;
+      gaps = gaps_kept r w (8 * c.args.place) moved.change (omega arith) c.place-2.ensures counted.change;
     }

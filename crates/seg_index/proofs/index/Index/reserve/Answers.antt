@@ -3,7 +3,9 @@ use Rattle.seg_index.proofs.{◌≡◌, ap, ap₂, refl, sym, subst, ◌∙◌, 
 use Rattle.seg_index.proofs.{current, Extent, LiveSet, added, place, LaysOut, extent_at, heap_touches, live_of}
 use Rattle.seg_index.proofs.{allocated-live, without_link, IsIndexOf, capacity_at, place_of, same_live, in_header}
 use Rattle.seg_index.proofs.{links_lead, asked, is_found, meant, moved, source, taken_keeps, taken_offer, target}
-use Rattle.seg_index.proofs.{written, written_keeps, IndexRole}
+use Rattle.seg_index.proofs.{written, written_keeps, IndexRole, bytes_of, link_at, unlinked, found_still, in-kept}
+use Rattle.seg_index.proofs.{keeps-sorted, unlinked-found}
+use Rattle.best_fit.proofs.Laws.{lay_out_one}
 use Rattle.seg_index.specs.Capacities.{IsRoomy}
 use Rattle.std.proofs.lemmas.Result.{MatchResult-from_err}
 use Rattle.best_fit.specs.Heap.{IsRefused}
@@ -59,6 +61,12 @@ returns c =
     let p = written o one few in let same = o.index.stands.link ∙ sym q.index.stands.link in
     let live : live_of c.shift_non_null_links.new.self.bytes ≡ added (live_of A.bytes) al.extent =
     same_live one ∙ allocated-live current A B c.saturating_mul.result IndexRole h al in
+    let keeps = taken_keeps w al same (written_keeps o one few c.settle.ensures.keeps) in
+    let laid = subst (λ (l : LiveSet). LaysOut current E.bytes l) (ap₂ without_link live (p.leads ∙ sym o.leads ∙ same))
+    c.settle.ensures.live in
+    let before_live = allocated-live current A B c.saturating_mul.result IndexRole h al in
+    let now = lay_out_one current E.bytes (without_link (added (live_of A.bytes) al.extent)
+    (link_at (bytes_of A.bytes) at)) laid in
     let there : place (live_of A.bytes) (8 * n) IndexRole ≡ Some al.extent =
     subst (λ j. place (live_of A.bytes) j IndexRole ≡ Some al.extent) k al.placed in
     record {
@@ -76,11 +84,18 @@ returns c =
               subst (λ (x : Option Extent). IsIndexOf E at (record { capacity = n; extent = x }) hs)
               (ap (λ (l : LiveSet). extent_at l h) (same_live one) ∙ is_found al)
               (c.settle.ensures.index hs links many i.whole);
-          live = subst (λ (l : LiveSet). LaysOut current E.bytes l)
-              (ap₂ without_link live (p.leads ∙ sym o.leads ∙ same)) c.settle.ensures.live;
-          keeps = taken_keeps w al same (written_keeps o one few c.settle.ensures.keeps);
+          live = laid;
+          keeps = keeps;
+          order = keeps-sorted (λ g. record {
+            each = λ x f role. (
+              ap (λ (l : LiveSet). extent_at l g) now ∙ unlinked-found q.index g x f role (added (live_of A.bytes)
+                  al.extent) (sym (ap (λ (l : LiveSet). extent_at l g) before_live) ∙ found_still g x al f),
+              in-kept (unlinked A at).extents g x keeps (unlinked-found q.index g x f role (live_of A.bytes) f),
+            );
+          });
         };
       };
+      noop = λ f. absurd (omega arith);
       counted = let second = c.settle.ensures.counted in omega arith;
       went = λ differ. omega (arith, c.in_ok-block.ensures.went refl, c.settle.ensures.counted);
       steps = subst (λ (x : Option Extent). c.settle.new.steps ≤ c.args.steps.now + (heap_touches (live_of A.bytes)

@@ -2,7 +2,7 @@
 use Rattle.seg_index.proofs.{◌≡◌, ap, sym, subst, ◌∙◌, ◌+◌, ◌≤◌, arith, current, LiveSet, released, LaysOut}
 use Rattle.seg_index.proofs.{heap_touches, live_of, KeepsRest, unlinked, without_link, place_of, same_live, in_header}
 use Rattle.seg_index.proofs.{leads_from, keeps_words, block_whole, gone, headed, headed_released_keeps, settled}
-use Rattle.seg_index.proofs.{settled_released, ℕ, ◌<◌, Option, IfSome}
+use Rattle.seg_index.proofs.{settled_released, ℕ, ◌<◌, Option, IfSome, none-some, refl}
 use Rattle.seg_index.proofs.index.Index.settle.Goals as goal
 
 pub set_header_link-requires-clause-target : goal.set_header_link-requires-clause-target
@@ -27,6 +27,7 @@ returns-in-Some c =
       keeps = subst (λ (l : LiveSet). KeepsRest A E (place_of c.args.self) l.extents) (sym is)
           (headed_released_keeps old w r h);
       counted = omega arith;
+      noop = λ none. absurd (none-some old (sym none ∙ leads));
       went = subst (λ (l : Option ℕ). IfSome l (λ h. c.args.steps.now < c.deallocate.new.steps)) (sym leads)
           c.deallocate.ensures.counted;
       steps = subst (λ (l : LiveSet). c.deallocate.new.steps ≤ c.args.steps.now + heap_touches l) live
@@ -49,6 +50,7 @@ returns-in_default c =
       keeps = subst (λ (l : LiveSet). KeepsRest A D at l.extents) (sym is)
           (keeps_words at w.change h (omega arith) (omega arith));
       counted = omega arith;
+      noop = λ none. refl;
       went = subst (λ (l : Option ℕ). IfSome l (λ h. c.args.steps.now < c.args.steps.now)) (sym leads) tt;
       steps = omega arith;
     }

@@ -2,15 +2,19 @@
 use Rattle.segment_manager.proofs.Common.{exit-is, ◌≡◌, sym, subst, Ok, Err, Write, Object, kind_of, Constructs}
 use Rattle.segment_manager.proofs.Common.{FindsOrConstructs, with_count, pair_answer, IsNewKeyOf, bare, StandsAt}
 use Rattle.segment_manager.proofs.objects.FilledCalls.{begun-for, found-absent, found-all, found-built, found-not_begun}
-use Rattle.segment_manager.proofs.objects.NewKeys.{key-seeks, key-short}
+use Rattle.segment_manager.proofs.objects.NewKeys.{key-seeks, key-short, key-sort}
 use Rattle.segment_manager.proofs.objects.KeyCalls.{place-below, found-answers, segment-index}
 use Rattle.segment_manager.proofs.{Common.pair_of_kind, Common.State, objects.FilledCalls.no-object}
-use Rattle.segment_manager.proofs.{objects.Here.has-object, indexes.HeldIndexes.denotes-keys}
+use Rattle.segment_manager.proofs.{objects.Here.has-object, indexes.HeldIndexes.denotes-sorted_index}
 use Rattle.seg_types.specs.Commands as asked
 use Rattle.segment_manager.proofs.objects.finding_or_constructing.find_or_construct_entered.Goals as goal
 
 pub lookup-requires : goal.lookup-requires
-lookup-requires g c = record { keys = denotes-keys c.args.index c.requires.segment.1.denotes }
+lookup-requires g c = record {
+  index = denotes-sorted_index c.args.index c.requires.segment.1.denotes;
+  sort = key-sort c.args.index c.args.entry c.requires.key.0 c.args.name.now
+      (kind_of (bare (g.F.Filling.content c.args.filling.now))) c.requires.key.1;
+}
 
 pub at-requires-clause-index : goal.at-requires-clause-index
 at-requires-clause-index g c = segment-index c.args.index c.requires.segment

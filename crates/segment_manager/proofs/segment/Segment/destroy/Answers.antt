@@ -1,7 +1,7 @@
 -- The key says which index has the entry. It is removed with its object, or there is none.
 use Rattle.segment_manager.proofs.Common.{refl, sym, ◌∙◌}
 use Rattle.segment_manager.proofs.objects.Destroys.{destroys-entered, destroys-none, found-entry}
-use Rattle.segment_manager.proofs.{indexes.HeldIndexes.denotes-keys, Keeping.keeps-found, Steps.refuses-read_only}
+use Rattle.segment_manager.proofs.{indexes.Bridge.seeks-sort, indexes.HeldIndexes.denotes-sorted_index, Keeping.keeps-found, Steps.refuses-read_only}
 use Rattle.seg_types.specs.{Commands.Destroy, Keys.index_key_seen}
 use Rattle.segment_manager.proofs.segment.Segment.destroy.Goals as goal
 
@@ -11,7 +11,9 @@ returns-then-is_read_only-clause-step c = refuses-read_only c.args.self.now (Des
 
 pub lookup-requires : goal.lookup-requires
 lookup-requires c = record {
-  keys = denotes-keys c.entry_of-index.result.0 c.self.invariant.1.denotes;
+  index = denotes-sorted_index c.entry_of-index.result.0 c.self.invariant.1.denotes;
+  sort = seeks-sort c.entry_of-index.result.0 c.entry_of-index.result.1 (index_key_seen c.args.key.now)
+      c.entry_of-index.ensures.seeks;
 }
 
 pub remove_entered-requires : goal.remove_entered-requires

@@ -1,10 +1,10 @@
 -- An entry that an object has is found.
 use Rattle.segment_manager.proofs.Common.{sym, subst, Some, HasEntries, IsListed}
-use Rattle.segment_manager.proofs.{indexes.HeldIndexes.denotes-keys, objects.OwnEntries.listed-found}
+use Rattle.segment_manager.proofs.{indexes.HeldIndexes.denotes-sorted_index, objects.OwnEntries.listed-found}
 use Rattle.segment_manager.proofs.segment.Segment.listed_under.Goals as goal
 
 pub lookup-requires : goal.lookup-requires
-lookup-requires c = record { keys = denotes-keys c.args.index c.self.invariant.1.denotes }
+lookup-requires c = record { index = denotes-sorted_index c.args.index c.self.invariant.1.denotes; sort = c.requires }
 
 pub returns-in-Found : goal.returns-in-Found
 returns-in-Found c = λ h each. subst

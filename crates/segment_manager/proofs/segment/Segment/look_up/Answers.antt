@@ -1,11 +1,11 @@
 -- The index stands in the heap of the segment, and what is found there is the object of the key.
 use Rattle.segment_manager.proofs.Common.{subst, Some, None, handle_at, Answers}
-use Rattle.segment_manager.proofs.indexes.HeldIndexes.{denotes-keys}
+use Rattle.segment_manager.proofs.indexes.HeldIndexes.{denotes-sorted_index}
 use Rattle.segment_manager.proofs.objects.KeyCalls.{absent-answers, found-answers, place-below, segment-index}
 use Rattle.segment_manager.proofs.segment.Segment.look_up.Goals as goal
 
 pub lookup-requires : goal.lookup-requires
-lookup-requires c = record { keys = denotes-keys c.args.index c.self.invariant.1.denotes }
+lookup-requires c = record { index = denotes-sorted_index c.args.index c.self.invariant.1.denotes; sort = c.requires }
 
 pub at-requires-clause-index : goal.at-requires-clause-index
 at-requires-clause-index c = segment-index c.args.index c.self.invariant

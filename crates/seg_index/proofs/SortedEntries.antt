@@ -3,13 +3,13 @@ use Rattle.seg_index.proofs.Common as common
 use common.{◌≡◌, refl, sym, ap, ap₂, subst, ◌∙◌, ℕ, zero, suc, ◌+◌, ◌<◌, ◌≤◌, ◌==◌, List, [], ◌∷◌, length, get_or, arith}
 use common.{IsTrue, Option, Some, None, inl, inr, insert, remove, slice_get, AllByRecursion, none-some, same_Some, Less}
 use common.{Greater, Ordering, ordering_reverse, slice_cmp, nat_cmp, nat_list_cmp_total, cases_Bool, leb-true, holds}
-use common.{and_parts, slice_get-get_or, current, Cut, Memory, bytes_of, word_at, Same-word, Role, IndexRole, link_at}
-use common.{Extent, LiveSet, handle, added, others, released, IsAllocated, IsReleased, IsHeap, LaysOut, Keeps, SameBlock}
+use common.{and_parts, slice_get-get_or, current, Cut, Memory, bytes_of, Same-word, Role, IndexRole, link_at}
+use common.{Extent, LiveSet, handle, others, IsAllocated, IsReleased, LaysOut, Keeps, SameBlock}
 use common.{extent_at, live_of, Table, same_role, serves, found-room, found-less, IsBlockFor, KeepsRest, beside_table}
 use common.{unlinked, without_link, IsIndexOf, AreLinks, Key, name_at, name_len_at, released-live, nat_lt, order}
 use common.{IsChanged, Absent, changed-keeps, has_room, read, ◌*◌, ◌%◌, Equal, Found, Lookup, cases_lt}
 use Rattle.std.specs.Cmp.{IsTotalOrder}
-use Rattle.seg_index.proofs.Entries.{Placed, all_at, all_found, first, found_handle, insert_all, no_entries, placed}
+use Rattle.seg_index.proofs.Entries.{all_at, all_found, first, insert_all, no_entries, placed}
 use Rattle.seg_index.proofs.Entries.{less_at, remove_all, table_cases}
 use Rattle.seg_index.proofs.Staying.{found_still}
 use Rattle.seg_index.specs.declared.index.Index.{Index, TheVariants.Named, TheVariants.Unique}
@@ -19,7 +19,7 @@ use Rattle.seg_index.specs.{Lookups.IsPlace, declared.keys.Key.TheVariants.Code,
 use Rattle.block_tags.specs.{Tiles.role_bits, declared.tile.Role.TheVariants.Object as ObjectRole}
 use Rattle.best_fit.proofs.Laws.{SameBlock-trans, block_aligned, lay_out_one, room_block}
 use Rattle.seg_index.proofs.Changing.{same_live}
-use Rattle.best_fit.specs.{Extents.end_of, Fit.resized}
+use Rattle.best_fit.specs.{Extents.end_of}
 use Rattle.raw_region.proofs.Laws.{Same-read}
 use Rattle.std.proofs.lemmas.{Bool.eqb-true, Cmp.nat_cmp_total, List.nil_from_length}
 use Rattle.std.specs.List.Sorted.{IsStrictlySortedBy}

@@ -1,14 +1,14 @@
 -- Bytes that denote a directory hold its two indexes: each stands in its heap with its block, and its entries lead to
 -- rising keys.
-use Rattle.segment_manager.proofs.Common.{◌≡◌, sym, ◌∙◌, ℕ, ◌+◌, ◌≤◌, ◌%◌, [], ◌∷◌, Less, Cut, Name, Code, live}
+use Rattle.segment_manager.proofs.Common.{◌≡◌, sym, ◌∙◌, ℕ, ◌+◌, ◌≤◌, ◌%◌, [], ◌∷◌, Less, Cut, live}
 use Rattle.segment_manager.proofs.Common.{subst, true, Some, List, arith, Memory, handle, Index, Named, Unique, Object}
-use Rattle.segment_manager.proofs.Common.{length, bytes_of, has_room, place_of, is_class, is_index, is_object, order_of}
+use Rattle.segment_manager.proofs.Common.{length, bytes_of, place_of, is_class, is_index, is_object, order_of}
 use Rattle.segment_manager.proofs.Common.{IsTrue, IfSome, le-leb, current, Denotes, handles, IsEntry, table_of}
-use Rattle.segment_manager.proofs.Common.{AllByRecursion, nat_cmp, name_len_at, IsDirectory, IsObjectAt, class_of_index}
+use Rattle.segment_manager.proofs.Common.{AllByRecursion, nat_cmp, IsDirectory, IsObjectAt, class_of_index}
 use Rattle.segment_manager.proofs.Common.{slice_cmp, extent_at, IsIndexOf, IsIndexAt, Directory, entries_of, objects_of}
 use Rattle.segment_manager.proofs.objects.Heads.{entries_say_objects, entry-name_len, good-name, good_name-short}
 use Rattle.segment_manager.proofs.blocks.InUse.{IsInUse, all-both, all-each, named-in_use, objects-in_use}
-use Rattle.segment_manager.proofs.indexes.EntryPlaces.{Ascends, all-at, ascends-at, rises-ascends, stands-at}
+use Rattle.segment_manager.proofs.indexes.EntryPlaces.{Ascends, rises-ascends}
 use Rattle.segment_manager.proofs.indexes.KeyOrder.{kind-less, name-less}
 use Rattle.segment_manager.proofs.indexes.Indexes.{index-parts, by_kind-strict, by_name-strict}
 use Rattle.segment_manager.proofs.objects.Ranks.{all-ordered, IsStrict}

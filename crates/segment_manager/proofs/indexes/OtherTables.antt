@@ -3,7 +3,7 @@ use Rattle.segment_manager.proofs.Common as common
 use common.{◌≡◌, Same-part, IndexRole, is_proper, SameBlock, entries_of, option_map, IsReserved, rises_from, objects_of}
 use common.{refl, Option, IsTrue, Memory, Extent, LiveSet, handle, LaysOut, live_of, Denotes, resized, link_at, handles}
 use common.{sym, ◌∙◌, ◌+◌, ◌≤◌, Some, None, List, Cut, live, ◌*◌, Bool, true, ◌&&◌, ◌==◌, [], ◌||◌, place, ◌∷◌}
-use common.{ap, subst, arith, added, others, Keeps, Table, Index, Object, false, length, nat_le, nat_lt, eq-eqb, serves}
+use common.{ap, subst, arith, added, Keeps, Table, Index, Object, false, length, nat_le, nat_lt, eq-eqb, serves}
 use common.{ℕ, flat_map, bytes_of, no_table, unlinked, IsIndexOf, Directory, is_object, cut_table, KeepsRest, IsIndexAt}
 use common.{AllByRecursion, class_of_index, with_table_of, if◌then◌else◌, placed_is_proper, lay_out_one, without_object}
 use common.{current, place_of, table_of, list_all, eqb-true, released, is_table, IsShrunk, IsHeader, is_index, order_of}

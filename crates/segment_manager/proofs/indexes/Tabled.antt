@@ -5,7 +5,7 @@ use common.{AllByRecursion, Cut, Same, SamePlace, bytes_of, current, Same-part, 
 use common.{handle, is_proper, added, others, IsAllocated, Keeps, LaysOut, SameBlock, extent_at, live_of, Table}
 use common.{no_table, allocated-live, blocks-trans, Index, AddKeeps, Adds, beside_table, unlinked, without_link}
 use common.{IsIndexOf, place_of, grown_capacity, Object, Directory, extents_of, is_object, live, object_at, with_object}
-use common.{Denotes, IsObjectAt, class_of_index, entries_of, table_of, with_table_of, place}
+use common.{Denotes, IsObjectAt, class_of_index, entries_of, table_of, with_table_of}
 use Rattle.segment_manager.proofs.objects.Taking.{IsMade, allocated-found, taken-found, taken-live}
 use Rattle.segment_manager.proofs.indexes.Entered.{HasOne, OfRest, entered-other, entered-own, has_both, key_in, of_all}
 use Rattle.segment_manager.proofs.indexes.Entered.{of_rest, other, other-stays, other-words}

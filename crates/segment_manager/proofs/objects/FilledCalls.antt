@@ -5,7 +5,7 @@ use common.{IfErr, none-some, Cut, Kind, Refusal, Exists, NoSpace, Command, Cont
 use common.{Made, Refused, is_untouched, Begins, IsAbsentAt, IsNotBegun, Object, Directory, count_of, kind_of}
 use common.{object_at, value_len, Constructs, FindsOrConstructs, IsBegunFor, MakesValue, with_count, handle_at}
 use common.{pair_answer, IsNewKeyOf, bare, StandsAt, pair_of_kind, Answers, IsSegment, IsStep, State, answer_of}
-use common.{handle_answer, is_read_only, Reply, effect, found, with_new_object, handle, place, step}
+use common.{handle_answer, is_read_only, Reply, effect, found, with_new_object}
 use Rattle.segment_manager.proofs.objects.FoundOrMade.{constructs-exists, finds, found-there, made_for, made_handle}
 use Rattle.segment_manager.proofs.objects.FoundOrMade.{makes, makes-nothing}
 use Rattle.segment_manager.proofs.objects.NewValues.{IsMadeNever, IsMadeNow, away-in, value-built, value-loose}

@@ -20,7 +20,6 @@ use Rattle.block_tags.specs.contracts.tile.Role.{the_type}
 use denote.Enum.Bare.{sameb}
 use Rattle.seg_types.specs.Names.{NoKey}
 use Rattle.segment_manager.specs.Answers.{Absent}
-use Rattle.segment_manager.proofs.indexes.EntryPlaces as places
 use Rattle.seg_types.specs.Commands as asked
 
 -- ---- a handle from outside

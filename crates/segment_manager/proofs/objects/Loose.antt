@@ -1,8 +1,8 @@
 -- The blocks of an object that no entry leads to yet: what an index wants to lead there, and how they are given back.
-use Rattle.segment_manager.proofs.Common.{◌∙◌, sym, subst, ◌+◌, ◌≤◌, Some, None, List, arith, IsTrue, Cut, IsHeap, Kind}
+use Rattle.segment_manager.proofs.Common.{sym, subst, ◌+◌, Some, None, List, arith, IsTrue, Cut, IsHeap, Kind}
 use Rattle.segment_manager.proofs.Common.{Class, Key, Role, ℕ, Option, IfSome, current, LiveSet, live_of, IsBegun}
-use Rattle.segment_manager.proofs.Common.{IsHeaded, IsLoose, IsWanted, room_for, IsGrowth, [], ObjectRole, IsReleased}
-use Rattle.segment_manager.proofs.Common.{has_room, is_live_in, GivesBack, place_of, NewEntry, IsReadyFor, IsRestored}
+use Rattle.segment_manager.proofs.Common.{IsHeaded, IsLoose, room_for, IsGrowth, [], ObjectRole, IsReleased}
+use Rattle.segment_manager.proofs.Common.{has_room, is_live_in, GivesBack, place_of, NewEntry, IsRestored}
 use Rattle.segment_manager.proofs.Common.{IsAllocated, allocated-is_live, allocated-room, changed-room, lay_out_one}
 use Rattle.segment_manager.proofs.objects.Taking.{growth-held, restored-taken, written-taken}
 use Rattle.segment_manager.proofs.{Common.IsLooseAlone, Common.IsLooseEntry, objects.Pieces.changed-heap}

@@ -4,7 +4,7 @@ use Rattle.segment_manager.proofs.Common as common
 use common.{◌≡◌, sym, true, ◌&&◌, Some, None, List, find, Kind, Value, live, Plan, bare, refl, LiveSet, resized}
 use common.{LaysOut, live_of, Refusal, Content, IsPlace, room_for, ap, Extent, place, Keeps, Table, serves, Class}
 use common.{Index, Absent, Object, padded, subst, IsAbsentAt, IsReadyFor, LeadsThere, extents_of, object_len}
-use common.{entries_of, ◌∙◌, ℕ, ◌+◌, ◌≤◌, [], ◌∷◌, Cut, Option, length, IsTrue, IsBegun, IsLoose, Denotes, has_key}
+use common.{entries_of, ◌∙◌, ℕ, ◌+◌, [], ◌∷◌, Cut, Option, length, IsTrue, IsBegun, IsLoose, Denotes, has_key}
 use common.{kind_of, IsGiven, and_from, SamePlace, IsChanged, laid-heap, IsNewKeyOf, IsRestored, with_value, current}
 use common.{NewEntry, IsHeaded, IsWanted, count_of, IsDenied, table_of, head_len, bytes_of, added, place_of, AddKeeps}
 use common.{IsGrowth, prepared, IsSegment, StandsFor, SamePlace-trans, IsBegunAlone, is_good_value, value_extents}

@@ -7,7 +7,6 @@ use Rattle.segment_manager.proofs.objects.Constructed.{content-none, restored-de
 use Rattle.segment_manager.proofs.objects.NewValues.{no_key-none, away-in, IsMadeNever}
 use Rattle.segment_manager.proofs.{indexes.Bridge.lookup-absent, indexes.Bridge.lookup-found, Calling.denotes-live}
 use Rattle.segment_manager.proofs.{indexes.HeldIndexes.denotes-index, objects.NewKeys.key-seeks, Steps.perform-no_space}
-use Rattle.seg_index.specs.declared.keys.Key.{Key}
 use Rattle.segment_manager.specs.objects.Begun.{IsUnmetEntry}
 use Rattle.seg_types.specs.Names as names
 

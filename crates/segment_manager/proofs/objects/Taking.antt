@@ -4,12 +4,12 @@ use Rattle.segment_manager.proofs.Common as common
 use common.{◌≡◌, sym, ap, subst, ◌∙◌, ℕ, ◌+◌, ◌-◌, ◌/◌, ◌%◌, ◌==◌, inr, Some, None, Option, List, arith, Role, LiveSet}
 use common.{SameBlock, allocated-live, bytes_of, keeps-trans, word_at, IfSome, IsTrue, Cut, current, ObjectRole}
 use common.{IndexRole, IsAllocated, IsChanged, IsHeap, IsRefused, Keeps, LaysOut, is_live_in, live_of, Table, added}
-use common.{allocated-is_live, allocated-room, keeps-refl, laid-heap, room_block, Index, CanGrow, GivesBack, IsGrowth}
-use common.{grown_bytes, IsIndexOf, place_of, prepared, IsRequested, IsRestored, IsUnmet, ◌≤◌, Bool, [], ◌∷◌, find}
+use common.{allocated-is_live, allocated-room, keeps-refl, laid-heap, Index, CanGrow, GivesBack, IsGrowth}
+use common.{grown_bytes, IsIndexOf, place_of, IsRequested, IsRestored, IsUnmet, ◌≤◌, Bool, [], ◌∷◌, find}
 use common.{Same-part, Same-word, Same-link, Extent, handle, extent_at, lay_out_one, grown_capacity, Object, extents_of}
 use common.{is_object, IsObjectAt, value_extents}
 use Rattle.segment_manager.proofs.{Order.all_of-insert, Order.live-rises, Order.rising-insert, Live.adding}
-use Rattle.best_fit.proofs.Laws.{block_aligned, still_allocated-block, found-inserted, found-new, found-none}
+use Rattle.best_fit.proofs.Laws.{still_allocated-block, found-inserted, found-new, found-none}
 use Rattle.seg_index.proofs.Laws.{ObjectStays, all_found, place_behind, place_small, stays-itself, taken-stays}
 use Rattle.seg_index.proofs.Laws.{Around-kept, stays}
 use Rattle.seg_index.specs.Sorted.{HasSortKey}

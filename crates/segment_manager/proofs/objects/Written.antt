@@ -2,7 +2,7 @@
 use Rattle.segment_manager.proofs.Common as common
 use common.{◌≡◌, refl, sym, ap, subst, ◌∙◌, ℕ, zero, suc, ◌+◌, ◌*◌, ◌<◌, ◌≤◌, ℤ, Bool, true, false, Some, None, Ok, Err}
 use common.{List, [], ◌∷◌, length, arith, IsTrue, list_all, mul-le-mul_left, slice_get_within, current, Has, bytes_of}
-use common.{handle, ScalarKind, Scalar, Refusal, is_value, size_of, spelling, Key, spelled, Numbers, Object, Directory}
+use common.{ScalarKind, Scalar, Refusal, is_value, size_of, spelling, Key, spelled, Numbers, Object, Directory}
 use common.{count_of, is_object, kind_of, padded, value_len, Denotes, IsValueAt, Answers, State, Literal}
 use common.{value_of_literal, Mode, Refused, Done, live, perform, IsSegment, step_of_kind, done_answer, ◌&&◌, nat_le}
 use common.{and_from, Cut, SameBut, ObjectRole, IsChanged, serves, literal_of, has_good_name, value_extents}

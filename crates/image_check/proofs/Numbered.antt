@@ -1,21 +1,19 @@
--- Blocks in the order of their places: what is found at a number, and what a search by halves knows.
-use Rattle.std.proofs.Common.{◌≡◌, ◌≢◌, refl, sym, ap, subst, ◌∙◌, ℕ, zero, suc, ◌+◌, ◌≤◌, ◌<◌, [], ◌∷◌, ◌++◌, length, arith, ◌⊎◌, inl, inr, ⊎_elim}
-use Rattle.std.specs.Prelude.{Some, None, nat_eq, slice_get, slice_set, slice_index_or}
-use Rattle.std.specs.Map.{set_value}
-use Rattle.std.proofs.lemmas.Bool.{eq-eqb, ne_eqb, cond-true, cond-false}
-use Rattle.std.proofs.lemmas.Option.{get_or_from_slice_get, slice_get-get_or, slice_get_within}
+-- Blocks in the order of their places: what is found at a number and by a payload.
+use Rattle.std.proofs.Common.{◌≡◌, ◌≢◌, refl, sym, ap, subst, ◌∙◌, ℕ, zero, suc, ◌+◌, ◌≤◌, ◌<◌, ◌^◌, [], ◌∷◌, ◌++◌, length, arith, ◌⊎◌, inl, inr, ⊎_elim}
+use Rattle.std.specs.Prelude.{Option, Some, None, IfSome, IsOk, OnOk, Result, Ok, Err, nat_eq, position, slice_get}
+use Rattle.std.specs.Map.{keys_of, set_value}
+use Rattle.std.proofs.lemmas.Bool.{eq-eqb, eqb-true, false≢true, ne_eqb, cond-true, cond-false}
+use Rattle.std.proofs.lemmas.List.Quantifiers.{position-Some}
+use Rattle.std.proofs.lemmas.Option.{slice_get-get_or, slice_get_within}
+use Rattle.indexmap.specs.IndexMap.{set_value_at}
 use Rattle.image_check.specs.declared.owners.Block.{Block}
 use Rattle.image_check.specs.Owners.{Blocks, block_at}
-use Rattle.image_check.specs.Rows.{AreBelow, IsBetween, IsRow, Rises}
+use Rattle.image_check.specs.Rows.{AreBelow, AreInOrder, IsRow, Rises}
 
 -- ---- a block of a number
 
-pub row-read : (es : Blocks) (n i : ℕ) (d : ℕ × Block) → i < length es → (slice_index_or es i d).0 ≡ n → IsRow es n i
-row-read es n i d h e = record { block = (slice_index_or es i d).1; is = slice_get-get_or es i d h ∙ ap (λ (k : ℕ). Some (k, (slice_index_or es i d).1)) e }
-
--- what is said of a payload, of the one at its number
-pub payload-read : (es : Blocks) (i : ℕ) (x : ℕ × Block) (p : ℕ) → x ≡ slice_index_or es i x → p ≡ x.0 → p ≡ (slice_index_or es i x).0
-payload-read es i x p e f = f ∙ ap (λ (y : ℕ × Block). y.0) e
+pub row-within : (es : Blocks) (n i : ℕ) → IsRow es n i → i < length es
+row-within es n i w = slice_get_within es i (n, w.block) w.is
 
 rises-behind : (e : ℕ × Block) (es : Blocks) → Rises (e ∷ es) → Rises es
 rises-behind e es r i j x y h f g = r (suc i) (suc j) x y (omega arith) f g
@@ -32,21 +30,36 @@ row-found (e ∷ es) n (suc i) r w =
     cond-false (nat_eq n e.0) (Some e.1) (block_at es n) (ne_eqb n e.0 (λ f. absurd (omega arith)))
     ∙ row-found es n i (rises-behind e es r) (record { block = w.block; is = w.is })
 
-pub found-read : (es : Blocks) (n i : ℕ) (x : ℕ × Block) → Rises es → IsRow es n i → x ≡ slice_index_or es i x → Some x.1 ≡ block_at es n
-found-read es n i x r w e = ap (λ (p : ℕ × Block). Some p.1) (e ∙ get_or_from_slice_get es i (n, w.block) x w.is) ∙ sym (row-found es n i r w)
+-- what stands at a number is found by its payload
+pub entry-found : (es : Blocks) (i : ℕ) (x : ℕ × Block) → Rises es → slice_get es i ≡ Some x → block_at es x.0 ≡ Some x.1
+entry-found es i x r g = row-found es x.0 i r (record { block = x.1; is = g })
 
--- what is read at the number of a row is of its payload
-pub row-payload : (es : Blocks) (n i : ℕ) (x : ℕ × Block) → IsRow es n i → x ≡ slice_index_or es i x → x.0 ≡ n
-row-payload es n i x w e = ap (λ (p : ℕ × Block). p.0) (e ∙ get_or_from_slice_get es i (n, w.block) x w.is)
+-- and what is found at the number of a row is its block
+pub row-entry : (es : Blocks) (n i : ℕ) (x : ℕ × Block) → IsRow es n i → slice_get es i ≡ Some x → x.0 ≡ n
+row-entry es n i x w g = let h = w.is in let same : x ≡ (n, w.block) = cc in ap (λ (p : ℕ × Block). p.0) same
 
-pub here-read : (es : Blocks) (n i : ℕ) (x : ℕ × Block) → Rises es → i < length es → x ≡ slice_index_or es i x → x.0 ≡ n → Some x.1 ≡ block_at es n
-here-read es n i x r h e f = found-read es n i x r (row-read es n i x h (sym (ap (λ (p : ℕ × Block). p.0) e) ∙ f)) e
+-- ---- a payload that is looked for
 
-pub row-absent : (es : Blocks) (n : ℕ) → ((i : ℕ) (x : ℕ × Block) → slice_get es i ≡ Some x → x.0 ≢ n) → block_at es n ≡ None
+pub key-row : (es : Blocks) (n i : ℕ) → slice_get (keys_of es) i ≡ Some n → IsRow es n i
+key-row [] n i h = absurd (cc)
+key-row (e ∷ es) n zero h = let same : e.0 ≡ n = cc in record { block = e.1; is = ap (λ (k : ℕ). Some (k, e.1)) same }
+key-row (e ∷ es) n (suc i) h = let w = key-row es n i h in record { block = w.block; is = w.is }
+
+pub position-row : (es : Blocks) (n : ℕ) (r : Option ℕ) → r ≡ position (nat_eq n) (keys_of es) → IfSome r (IsRow es n)
+position-row es n None e = tt
+position-row es n (Some i) e =
+    let p = position-Some (nat_eq n) (keys_of es) i 0 (sym e) in
+    key-row es n i (slice_get-get_or (keys_of es) i 0 p.0 ∙ ap Some (sym (eqb-true n _ p.1)))
+
+row-absent : (es : Blocks) (n : ℕ) → ((i : ℕ) (x : ℕ × Block) → slice_get es i ≡ Some x → x.0 ≢ n) → block_at es n ≡ None
 row-absent [] n h = refl
 row-absent (e ∷ es) n h =
     cond-false (nat_eq n e.0) (Some e.1) (block_at es n) (ne_eqb n e.0 (λ f. h 0 e refl (sym f)))
     ∙ row-absent es n (λ i x g. h (suc i) x g)
+
+-- no payload is as large as a bound of all
+pub bound-absent : (es : Blocks) (m n : ℕ) → AreBelow es m → m ≤ n → block_at es n ≡ None
+bound-absent es m n below h = row-absent es n (λ i x g f. let z = below i x g in absurd (omega arith))
 
 -- ---- one more, and another in the place of one
 
@@ -57,70 +70,65 @@ pushed [] e (suc i) x g = absurd (cc)
 pushed (d ∷ es) e zero x g = inl g
 pushed (d ∷ es) e (suc i) x g = ⊎_elim (λ p. inl p) (λ p. inr (omega (arith, p.0), p.1)) (pushed es e i x g)
 
-pub rises-push : (es : Blocks) (n : ℕ) (b : Block) → Rises es → AreBelow es n → Rises (es ++ (n, b) ∷ [])
+rises-push : (es : Blocks) (n : ℕ) (b : Block) → Rises es → AreBelow es n → Rises (es ++ (n, b) ∷ [])
 rises-push es n b r h i j x y l f g =
     ⊎_elim
     (λ p. ⊎_elim (λ q. r i j x y l q p) (λ q. let k = slice_get_within es j y p in let k2 = q.0 in absurd (omega arith)) (pushed es (n, b) i x f))
     (λ p. ⊎_elim (λ q. subst (λ (z : ℕ × Block). x.0 < z.0) p.1 (h i x q)) (λ q. let a = p.0 in let c = q.0 in absurd (omega arith)) (pushed es (n, b) i x f))
     (pushed es (n, b) j y g)
 
-pub set-row : (es : Blocks) (n i : ℕ) (b : Block) → Rises es → IsRow es n i → set_value (nat_eq n) es b ≡ slice_set es i (n, b)
-set-row [] n i b r w = let h = w.is in absurd (cc)
-set-row (e ∷ es) n zero b r w =
+pub order-push : (es : Blocks) (n : ℕ) (b : Block) → n < 2 ^ 32 → AreInOrder es → AreBelow es n → AreInOrder (es ++ (n, b) ∷ [])
+order-push es n b s o h = record {
+  rises = rises-push es n b o.rises h;
+  small = λ i x g. ⊎_elim (λ p. o.small i x p) (λ p. subst (λ (z : ℕ × Block). z.0 < 2 ^ 32) p.1 s) (pushed es (n, b) i x g);
+}
+
+-- a payload that all are below is a new one
+pub below-new : (es : Blocks) (n : ℕ) → AreBelow es n → block_at es n ≡ None
+below-new es n h = bound-absent es n n h (omega arith)
+
+-- another block at a number: payloads stay
+pub record Stays (es : Blocks) (j : ℕ) (x : ℕ × Block) : Type 0 where
+  pub was : ℕ × Block
+  pub is : slice_get es j ≡ Some was
+  pub payload : x.0 ≡ was.0
+
+put-stays : (es : Blocks) (i : ℕ) (b : Block) (j : ℕ) (x : ℕ × Block) → slice_get (set_value_at es i b) j ≡ Some x → Stays es j x
+put-stays [] i b j x g = absurd (cc)
+put-stays (e ∷ es) zero b zero x g = let same : (e.0, b) ≡ x = cc in record { was = e; is = refl; payload = sym (ap (λ (p : ℕ × Block). p.0) same) }
+put-stays (e ∷ es) zero b (suc j) x g = record { was = x; is = g; payload = refl }
+put-stays (e ∷ es) (suc i) b zero x g = let same : e ≡ x = cc in record { was = e; is = refl; payload = sym (ap (λ (p : ℕ × Block). p.0) same) }
+put-stays (e ∷ es) (suc i) b (suc j) x g = let w = put-stays es i b j x g in record { was = w.was; is = w.is; payload = w.payload }
+
+pub order-put : (es : Blocks) (i : ℕ) (b : Block) → AreInOrder es → AreInOrder (set_value_at es i b)
+order-put es i b o = record {
+  rises = λ j k x y l f g.
+      let u = put-stays es i b j x f in
+      let v = put-stays es i b k y g in
+      let p = u.payload in
+      let q = v.payload in
+      let r = o.rises j k u.was v.was l u.is v.is in
+      omega arith;
+  small = λ j x g. let u = put-stays es i b j x g in let p = u.payload in let r = o.small j u.was u.is in omega arith;
+}
+
+pub put-row : (es : Blocks) (n i : ℕ) (b : Block) → Rises es → IsRow es n i → set_value_at es i b ≡ set_value (nat_eq n) es b
+put-row [] n i b r w = let h = w.is in absurd (cc)
+put-row (e ∷ es) n zero b r w =
     let h = w.is in
     let same : e ≡ (n, w.block) = cc in
-    let key = ap (λ (p : ℕ × Block). p.0) same in
-    cond-true (nat_eq n e.0) ((e.0, b) ∷ es) (e ∷ set_value (nat_eq n) es b) (eq-eqb n e.0 (sym key)) ∙ ap (λ (k : ℕ). (k, b) ∷ es) key
-set-row (e ∷ es) n (suc i) b r w =
+    sym (cond-true (nat_eq n e.0) ((e.0, b) ∷ es) (e ∷ set_value (nat_eq n) es b) (eq-eqb n e.0 (sym (ap (λ (p : ℕ × Block). p.0) same))))
+put-row (e ∷ es) n (suc i) b r w =
     let low = r 0 (suc i) e (n, w.block) (omega arith) refl w.is in
-    cond-false (nat_eq n e.0) ((e.0, b) ∷ es) (e ∷ set_value (nat_eq n) es b) (ne_eqb n e.0 (λ f. absurd (omega arith)))
-    ∙ ap (λ (fs : Blocks). e ∷ fs) (set-row es n i b (rises-behind e es r) (record { block = w.block; is = w.is }))
-
--- ---- a search by halves
+    ap (λ (fs : Blocks). e ∷ fs) (put-row es n i b (rises-behind e es r) (record { block = w.block; is = w.is }))
+    ∙ sym (cond-false (nat_eq n e.0) ((e.0, b) ∷ es) (e ∷ set_value (nat_eq n) es b) (ne_eqb n e.0 (λ f. absurd (omega arith))))
 
 pub one-more : (j i : ℕ) → j < i + 1 → (j < i) ⊎ (j ≡ i)
 one-more j zero h = inr (omega arith)
 one-more zero (suc i) h = inl (omega arith)
 one-more (suc j) (suc i) h = ⊎_elim (λ k. inl (omega (arith, k))) (λ k. inr (omega (arith, k))) (one-more j i (omega arith))
 
-pub less-or : (i n : ℕ) → (i < n) ⊎ (n ≤ i)
-less-or zero zero = inr (omega arith)
-less-or zero (suc n) = inl (omega arith)
-less-or (suc i) zero = inr (omega arith)
-less-or (suc i) (suc n) = ⊎_elim (λ k. inl (omega (arith, k))) (λ k. inr (omega (arith, k))) (less-or i n)
-
-pub between-up : (es : Blocks) (n low high i : ℕ) (d : ℕ × Block) → Rises es → IsBetween es n low high → i < length es → (slice_index_or es i d).0 < n → IsBetween es n (i + 1) high
-between-up es n low high i d r b h l = record { within = b.within; below = λ j y m g. by j y m g; above = b.above }
-  where
-    by : (j : ℕ) (y : ℕ × Block) → j < i + 1 → slice_get es j ≡ Some y → y.0 < n
-    by j y m g = ⊎_elim
-        (λ k. let z = r j i y (slice_index_or es i d) k g (slice_get-get_or es i d h) in omega arith)
-        (λ k. let same = get_or_from_slice_get es i y d (ap (slice_get es) (sym k) ∙ g) in subst (λ (z : ℕ × Block). z.0 < n) same l)
-        (one-more j i m)
-
-one-up : (i j : ℕ) → i ≤ j → (j ≡ i) ⊎ (i < j)
-one-up i j m = ⊎_elim (λ k. inr k) (λ k. inl (omega arith)) (less-or i j)
-
-pub between-down : (es : Blocks) (n low high i : ℕ) (d : ℕ × Block) → Rises es → IsBetween es n low high → i < length es → (slice_index_or es i d).0 ≢ n → n ≤ (slice_index_or es i d).0
-    → IsBetween es n low i
-between-down es n low high i d r b h other l = record { within = omega arith; below = b.below; above = λ j y m g. by j y m g }
-  where
-    behind : n < (slice_index_or es i d).0
-    behind = omega (arith, other, l)
-
-    by : (j : ℕ) (y : ℕ × Block) → i ≤ j → slice_get es j ≡ Some y → n < y.0
-    by j y m g = ⊎_elim
-        (λ k. let same = get_or_from_slice_get es i y d (ap (slice_get es) (sym k) ∙ g) in subst (λ (z : ℕ × Block). n < z.0) same behind)
-        (λ k. let z = r i j (slice_index_or es i d) y k (slice_get-get_or es i d h) g in omega arith)
-        (one-up i j m)
-
--- from a number on all payloads are above a place
-abbrev pub AreAbove : Blocks → ℕ → ℕ → Type 0
-AreAbove es n high = (i : ℕ) (x : ℕ × Block) → high ≤ i → slice_get es i ≡ Some x → n < x.0
-
--- nothing is left between them
-pub between-none : (es : Blocks) (n low high : ℕ) → IsBetween es n low high → high ≤ low → block_at es n ≡ None
-between-none es n low high b h = row-absent es n (λ i x g f. ⊎_elim (λ k. let z = b.below i x k g in absurd (omega arith)) (λ k. let z = b.above i x k g in absurd (omega arith)) (split i))
-  where
-    split : (i : ℕ) → (i < low) ⊎ (high ≤ i)
-    split i = ⊎_elim (λ k. inl k) (λ k. inr (omega arith)) (less-or i low)
+-- what an insertion leaves where it succeeds
+pub ok-then : {A E : Type 0} (r : Result A E) (P : Type 0) → IsOk r → OnOk r P → P
+ok-then (Ok x) P i p = p
+ok-then (Err e) P i p = absurd (false≢true i)

@@ -1,5 +1,5 @@
 -- Blocks in the order of their places, by number.
-use Rattle.std.specs.Prelude.{◌≡◌, ℕ, ◌≤◌, ◌<◌, Some, length, slice_get}
+use Rattle.std.specs.Prelude.{◌≡◌, ℕ, ◌<◌, ◌^◌, Some, slice_get}
 use Rattle.image_check.specs.declared.owners.Block.{Block}
 use Rattle.image_check.specs.Owners.{Blocks}
 
@@ -16,8 +16,7 @@ Rises es = (i j : ℕ) (x y : ℕ × Block) → i < j → slice_get es i ≡ Som
 abbrev pub AreBelow : Blocks → ℕ → Type 0
 AreBelow es n = (i : ℕ) (x : ℕ × Block) → slice_get es i ≡ Some x → x.0 < n
 
--- a payload that is looked for stands from a number on and before another, if anywhere
-pub record IsBetween (es : Blocks) (n low high : ℕ) : Type 0 where
-  pub within : high ≤ length es
-  pub below : (i : ℕ) (x : ℕ × Block) → i < low → slice_get es i ≡ Some x → x.0 < n
-  pub above : (i : ℕ) (x : ℕ × Block) → high ≤ i → slice_get es i ≡ Some x → n < x.0
+-- payloads of four bytes, which rise with the numbers
+pub record AreInOrder (es : Blocks) : Type 0 where
+  pub rises : Rises es
+  pub small : AreBelow es (2 ^ 32)

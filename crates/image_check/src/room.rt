@@ -2,6 +2,7 @@
 ghost use Rattle.std.specs.Prelude.{◌≡◌, ◌≤◌, IfOk, IsOk, []};
 
 use crate::image_window::Blocks;
+use indexmap::IndexMap;
 use std::alloc::{AllocError, Global};
 
 /// The allocator refused memory. Its field is private: only [`room_for`] makes one, from the allocator's refusal.
@@ -27,8 +28,8 @@ pub(crate) fn room_for(alloc: Global, count: usize, end: u64) -> Result<Blocks, 
     };
     // There is room, so that no memory is asked for.
     let _ = lasts.resize(count, 0);
-    match Vec::with_capacity(alloc, count) {
-        Ok(rows) => Ok(Blocks::new(rows, lasts, shift_for(count, end))),
+    match IndexMap::with_capacity(alloc, count) {
+        Ok(map) => Ok(Blocks::new(map, lasts, shift_for(count, end))),
         Err(refusal) => Err(NoMemory { refusal }),
     }
 }

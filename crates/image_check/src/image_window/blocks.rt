@@ -1,19 +1,20 @@
 //! The map of the blocks in use, in which each look-up is counted.
-ghost use Rattle.std.specs.Prelude.{◌≡◌, ◌+◌, ◌^◌, ◌++◌, ◌∷◌, ◌<◌, ◌≤◌, [], nat_eq, length, IfSome, IfNone, None, Some, slice_get, vec_capacity};
-ghost use Rattle.std.specs.Map.{set_value};
+ghost use Rattle.std.specs.Prelude.{◌≡◌, ◌+◌, ◌^◌, ◌++◌, ◌∷◌, ◌<◌, ◌≤◌, [], nat_eq, length, IfSome, IfNone, None, Some, slice_get};
+ghost use Rattle.std.specs.Map.{keys_of, set_value};
+ghost use Rattle.indexmap.specs.IndexMap.{IsEmpty, spare};
 ghost use Rattle.image_check.specs.Owners.{block_at};
 ghost use Rattle.image_check.specs.Rows.{AreBelow, IsRow};
 
 use crate::checking::Visits;
 use crate::owners::Block;
-use crate::rows::{Row, bounds, halved, near};
+use crate::rows::{Row, near};
+use indexmap::IndexMap;
 use std::marker::Model;
 
-/// The blocks in use by payload.
+/// The blocks in use by payload, in the order of their places.
 #[derive(Drop)]
 pub(crate) struct Blocks {
-    /// Each with its payload, in the order of their places.
-    rows: Vec<Row>,
+    map: IndexMap<u32, Row>,
     /// For each stretch of the image the number of the last block whose payload begins in it: where a look-up begins.
     /// It may be any number, since what is found there is compared.
     lasts: Vec<u32>,
@@ -22,25 +23,25 @@ pub(crate) struct Blocks {
 }
 
 impl Model for Blocks {
-    ghost use Rattle.std.specs.Prelude.{◌-◌, length, vec_capacity};
+    ghost use Rattle.indexmap.specs.IndexMap.{spare};
     ghost use Rattle.image_check.specs.Owners.{BlockMap};
-    ghost use Rattle.image_check.specs.Rows.{Rises};
+    ghost use Rattle.image_check.specs.Rows.{AreInOrder};
 
     ghost Value = { BlockMap };
 
-    ghost view = { λ b. record { entries = b.rows.items; room = vec_capacity b.rows - length b.rows.items } };
+    ghost view = { λ b. record { entries = b.map.entries; room = spare b.map } };
 
-    ghost invariant = { λ b. Rises b.rows.items };
+    ghost invariant = { λ b. AreInOrder b.map.entries };
 }
 
 impl Blocks {
-    /// No blocks, with the room of `rows`, and with `lasts` for stretches of 2 to the power of `shift` bytes.
-    pub(crate) fn new(rows: Vec<Row>, lasts: Vec<u32>, shift: u32) -> Blocks
-        requires { rows.items ≡ [] }
+    /// No blocks, in a map with its room, and with `lasts` for stretches of 2 to the power of `shift` bytes.
+    pub(crate) fn new(map: IndexMap<u32, Row>, lasts: Vec<u32>, shift: u32) -> Blocks
+        requires { IsEmpty map }
         ensures entries { result.entries ≡ [] }
-        ensures room { result.room ≡ vec_capacity rows }
+        ensures room { result.room ≡ spare map }
     {
-        Blocks { rows, lasts, shift }
+        Blocks { map, lasts, shift }
     }
 
     /// The place among `lasts` of the stretch in which `target` lies.
@@ -48,30 +49,46 @@ impl Blocks {
         (target >> (self.shift % 64)) as usize
     }
 
+    /// The payloads, in order.
+    fn payloads(&self) -> &[u32]
+        ensures { result.now ≡ keys_of self.now.entries }
+    {
+        self.map.keys().as_slice()
+    }
+
     /// The number of the block whose payload begins at `target`.
     fn number_of(&self, target: u64) -> Option<usize>
         ensures found { IfSome result (IsRow self.now.entries target) }
         ensures none { IfNone result (block_at self.now.entries target ≡ None) }
     {
-        let rows = self.rows.as_slice();
         let stretch = self.stretch(target);
-        let last = if stretch < self.lasts.len() {
-            self.lasts[stretch] as usize
-        } else {
-            rows.len()
-        };
-        if let Some(number) = near(rows, last, target) {
-            return Some(number);
+        if stretch < self.lasts.len() {
+            let last = self.lasts[stretch] as usize;
+            if let Some(number) = near(self.payloads(), last, target) {
+                return Some(number);
+            }
         }
-        let (low, high) = bounds(rows, last, target);
-        halved(rows, low, high, target)
+        match u32::try_from(target) {
+            Ok(payload) => self.map.get_index_of(&payload),
+            Err(_) => None,
+        }
     }
 
     /// How many they are.
     pub(crate) fn len(&self) -> usize
         ensures { result ≡ length self.now.entries }
     {
-        self.rows.len()
+        self.map.len()
+    }
+
+    /// The block of number `nth`, behind its payload. The caller counts it.
+    fn entry(&self, nth: usize) -> (u32, Block)
+        requires { nth < length self.now.entries }
+        ensures row { slice_get self.now.entries nth ≡ Some result }
+        ensures block { block_at self.now.entries result.0 ≡ Some result.1 }
+    {
+        let (payload, row) = self.map.get_index(nth).unwrap();
+        (*payload, row.block())
     }
 
     /// The block of number `nth`, in the order of the places, behind its payload. One visit.
@@ -82,8 +99,7 @@ impl Blocks {
         ensures visits { visits.new ≡ visits.old + 1 }
     {
         visits.visit();
-        let row = &self.rows[nth];
-        (row.payload(), row.block())
+        self.entry(nth)
     }
 
     /// The block whose payload begins at `target`. The caller counts it.
@@ -91,7 +107,7 @@ impl Blocks {
         ensures { result ≡ block_at self.now.entries target }
     {
         match self.number_of(target) {
-            Some(number) => Some(self.rows[number].block()),
+            Some(number) => Some(self.entry(number).1),
             None => None,
         }
     }
@@ -107,8 +123,8 @@ impl Blocks {
         visits.visit();
         match self.number_of(target) {
             Some(number) => {
-                let row = &self.rows[number];
-                Some((number, row.payload(), row.block()))
+                let (payload, block) = self.entry(number);
+                Some((number, payload, block))
             }
             None => None,
         }
@@ -130,10 +146,10 @@ impl Blocks {
         ensures visits { visits.new ≡ visits.old + 1 }
     {
         visits.visit();
-        if guess < self.rows.len() {
-            let row = &self.rows[guess];
-            if row.payload() as u64 == target {
-                return Some(row.block());
+        if guess < self.map.len() {
+            let (payload, block) = self.entry(guess);
+            if payload as u64 == target {
+                return Some(block);
             }
         }
         self.get(target)
@@ -146,8 +162,7 @@ impl Blocks {
         ensures visits { visits.new ≡ visits.old + 1 }
     {
         visits.visit();
-        let payload = self.rows[number].payload();
-        self.rows[number] = Row::new(payload, block);
+        self.map[number] = Row::new(block);
     }
 
     /// Adds a block at `target`, behind all others, to those of which there is room for one more. One visit.
@@ -162,8 +177,9 @@ impl Blocks {
         visits.visit();
         let stretch = self.stretch(target);
         if stretch < self.lasts.len() {
-            self.lasts[stretch] = u32::try_from(self.rows.len()).unwrap_or(0);
+            self.lasts[stretch] = u32::try_from(self.map.len()).unwrap_or(0);
         }
-        self.rows.push_reserved(Row::new(target as u32, block));
+        // There is room, so that no memory is asked for.
+        let _ = self.map.insert(target as u32, Row::new(block));
     }
 }

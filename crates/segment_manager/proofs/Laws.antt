@@ -43,6 +43,9 @@ pub use Rattle.segment_manager.proofs.containers.TextMoves.{of_kind-leads_on}
 pub use Rattle.segment_manager.proofs.Renewed.{denotes-later, directory-later}
 -- a command on the elements of an object keeps each object
 pub use Rattle.segment_manager.proofs.objects.StayingObjects.{leads_on-stay, objects_stay}
+-- an object whose handle is answered when it is made is there, as is one whose block a walk over the tiles comes to
+pub use Rattle.segment_manager.proofs.objects.MadeObjects.{made-here}
+pub use Rattle.segment_manager.proofs.blocks.OwnWalks.{objects-few, tile-here}
 -- the elements of the object of a key, one after another: what a reading of one says, and how many there are
 unfoldable pub use Rattle.segment_manager.proofs.objects.ElementLists.{got}
 pub use Rattle.segment_manager.proofs.objects.ElementLists.{array-length, array-read, text-read, vector-length}

@@ -34,3 +34,4 @@ pub mod ElementCommands
 pub mod ArrayItems
 pub mod Locating
 pub mod StayingObjects
+pub mod MadeObjects

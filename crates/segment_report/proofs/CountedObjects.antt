@@ -1,23 +1,24 @@
 -- What is counted of the objects of a segment, one more at a time.
-use Rattle.std.proofs.Common.{◌≡◌, ℕ, ◌+◌, ◌^◌, ◌<◌, ◌≤◌, Bool, true, false, List, [], ◌∷◌, ◌++◌, length, map, take, Some, None, slice_get, refl, sym, ap, subst, ◌∙◌, arith, length-take, if◌then◌else◌}
-use Rattle.std.specs.Prelude.{Option, count_by, filter_map, slice_index, ◌==◌}
-use Rattle.std.specs.List.{cons_option}
-use Rattle.std.proofs.lemmas.List.{append-nil, take_all}
-use Rattle.std.proofs.lemmas.List.Elements.{filter_map-append}
+use Rattle.std.proofs.Common.{◌≡◌, ℕ, ◌+◌, ◌^◌, ◌<◌, ◌≤◌, Bool, true, false, List, [], ◌∷◌, ◌++◌, length, map, take}
+use Rattle.std.proofs.Common.{Some, slice_get, refl, sym, ap, subst, ◌∙◌, arith, length-take, if◌then◌else◌}
+use Rattle.std.specs.Prelude.{count_by, slice_index, ◌==◌}
+use Rattle.std.proofs.lemmas.List.{take_all, take_more}
 use Rattle.std.proofs.lemmas.List.Sums.{count_by-le-length, sum_by_push}
-use Rattle.std.proofs.lemmas.Option.{slice_get_within}
-use Rattle.best_fit.specs.Extents.{Span, spans}
+use Rattle.std.proofs.lemmas.Option.{get_or_from_slice_get, slice_get_within}
 use Rattle.seg_types.specs.declared.kinds.ScalarKind.TheVariants.{Bool as BoolKind, U8, I32, I64, U64}
 use Rattle.seg_types.specs.declared.kinds.Kind.{Kind}
 use Rattle.seg_types.specs.declared.kinds.Kind.TheVariants.{Scalar, String, Vector, Map, Strings}
 use Rattle.seg_types.specs.declared.kinds.Class.{Class}
 use Rattle.seg_types.specs.declared.kinds.Class.TheVariants.{Anonymous, Named, Unique}
 use Rattle.seg_types.specs.Kinds.{class_code, kinds, same_kind}
-use Rattle.segment_manager.specs.Directory.{Directory, Object, is_class, kind_of, live}
-use Rattle.segment_manager.specs.State.{IsSegment, StandsFor}
+use Rattle.segment_manager.specs.declared.objects.telling.Instance.{Instance}
+use Rattle.segment_manager.specs.Directory.{Directory, Object, is_class, kind_of}
+use Rattle.segment_manager.specs.objects.Instances.{IsInstance, SaysAt}
+use Rattle.segment_manager.specs.State.{IsSegment, State, StandsFor}
+use Rattle.segment_manager.proofs.Laws.{objects-few}
 use Rattle.segment_report.specs.declared.objects.ObjectTally.{ObjectTally}
-use Rattle.segment_report.specs.Objects.{HasRoomFor, count_of_kind, counted_if, is_of_kind, kind_place, object_counted, object_of, object_tally_of, objects_tally, one_more_at}
-use Rattle.segment_report.proofs.Counts.{IsEnd, are_few, taken}
+use Rattle.segment_report.specs.Objects.{HasRoomFor, count_of_kind, is_of_kind, kind_place, object_counted}
+use Rattle.segment_report.specs.Objects.{object_tally_of, objects_tally, one_more_at}
 
 -- ---- one object more
 
@@ -143,32 +144,11 @@ object-more os o Anonymous e = λ i. record {
   kinds = kinds-more os o i;
 }
 
--- ---- the object of one block or gap more
+-- ---- a walk over all objects
 
-block-more : (os : List Object) (o : Option Object) → objects_tally (os ++ cons_option o []) ≡ counted_if (objects_tally os) o
-block-more os None = ap objects_tally (append-nil os)
-block-more os (Some o) = object-more os o o.class refl
-
-tally-more : (d : Directory) (ss : List Span) (i : ℕ) (s : Span) → Some s ≡ slice_get ss i
-    → objects_tally (filter_map (object_of d) (take (i + 1) ss)) ≡ counted_if (objects_tally (filter_map (object_of d) (take i ss))) (object_of d s)
-tally-more d ss i s e =
-    ap (λ (l : List Span). objects_tally (filter_map (object_of d) l)) (taken ss i s e)
-    ∙ ap objects_tally (filter_map-append (object_of d) (take i ss) (s ∷ [])) ∙ block-more (filter_map (object_of d) (take i ss)) (object_of d s)
-
--- ---- how many they are
-
-few-cons : (o : Option Object) (os : List Object) (n : ℕ) → length os ≤ n → length (cons_option o os) ≤ n + 1
-few-cons None os n h = omega arith
-few-cons (Some o) os n h = omega arith
-
-few-objects : (d : Directory) (ss : List Span) → length (filter_map (object_of d) ss) ≤ length ss
-few-objects d [] = omega arith
-few-objects d (s ∷ ss) = let h = few-cons (object_of d s) (filter_map (object_of d) ss) (length ss) (few-objects d ss) in omega arith
-
--- ---- a walk
-
+-- what was counted of the objects before a place
 pub record AreCounted (b : List ℕ) (t : ObjectTally) (i : ℕ) : Type 0 where
-  pub told : (d : Directory) → StandsFor b d → t ≡ objects_tally (filter_map (object_of d) (take i (spans (live d))))
+  pub told : (d : Directory) → StandsFor b d → t ≡ objects_tally (take i d.objects)
 
 pub no_objects : (b : List ℕ) → AreCounted b (objects_tally []) 0
 no_objects b = record { told = λ d k. refl }
@@ -184,21 +164,37 @@ room-for os i h = record {
   kinds = λ k. let e = kind-there (count_of_kind os) k in omega (arith, e, count_by-le-length (is_of_kind k) os);
 }
 
-module _ (b : List ℕ) (t : ObjectTally) (i : ℕ) (was : AreCounted b t i) (s : Span) (next : (d : Directory) → StandsFor b d → Some s ≡ slice_get (spans (live d)) i) where
-  pub objects-room : IsSegment b → (n : ℕ) × HasRoomFor t n × (n < 2 ^ 63)
-  objects-room (d, k) =
-      let ss = spans (live d) in
-      let few = are_few d k.denotes.directory.proper in
-      let within : i < length ss = slice_get_within ss i s (sym (next d k)) in
-      let os = filter_map (object_of d) (take i ss) in
-      let fewer = few-objects d (take i ss) in
-      (i, subst (λ (u : ObjectTally). HasRoomFor u i) (sym (was.told d k)) (room-for os i (omega (arith, fewer, take-few ss i))), omega (arith, few.count, few.size))
+taken : (os : List Object) (i : ℕ) (o : Object) → slice_get os i ≡ Some o → take (i + 1) os ≡ take i os ++ o ∷ []
+taken os i o e =
+    take_more os i o (slice_get_within os i o e) ∙ ap (λ t. take i os ++ t ∷ []) (get_or_from_slice_get os i o o e)
 
-  pub objects-more : (new : ObjectTally) → ((d : Directory) → StandsFor b d → new ≡ counted_if t (object_of d s)) → AreCounted b new (i + 1)
+tally-more : (os : List Object) (i : ℕ) (o : Object) (said : Instance) → slice_get os i ≡ Some o → IsInstance o said
+    → object_counted (objects_tally (take i os)) said.class said.kind ≡ objects_tally (take (i + 1) os)
+tally-more os i o said e is =
+    (λ j. object_counted (objects_tally (take i os)) (is.class j) (is.kind j))
+    ∙ sym (object-more (take i os) o o.class refl) ∙ ap objects_tally (sym (taken os i o e))
+
+module _ (s : State) (t : ObjectTally) (i : ℕ) (was : AreCounted s.cut.bytes t i) (said : Instance)
+    (at : SaysAt s (λ (d : Directory). d.objects) i said) where
+  pub objects-room : IsSegment s.cut.bytes → (n : ℕ) × HasRoomFor t n × (n < 2 ^ 63)
+  objects-room g =
+      let os : List Object = g.0.objects in
+      let o = at.says g.0 g.1 in
+      let within : i < length os = slice_get_within os i o.0 o.1 in (
+        i,
+        subst (λ (u : ObjectTally). HasRoomFor u i) (sym (was.told g.0 g.1))
+            (room-for (take i os) i (take-few os i)),
+        omega (arith, within, objects-few s.cut.bytes g),
+      )
+
+  pub objects-more : (new : ObjectTally) → new ≡ object_counted t said.class said.kind → AreCounted s.cut.bytes new (i + 1)
   objects-more new h = record {
-    told = λ d k. h d k ∙ ap (λ (u : ObjectTally). counted_if u (object_of d s)) (was.told d k) ∙ sym (tally-more d (spans (live d)) i s (next d k));
+    told = λ d k.
+        let o = at.says d k in
+        h ∙ ap (λ (u : ObjectTally). object_counted u said.class said.kind) (was.told d k)
+        ∙ tally-more d.objects i o.0 said o.1 o.2;
   }
 
-pub objects-all : (b : List ℕ) (t : ObjectTally) (i : ℕ) → AreCounted b t i → IsEnd b i → (d : Directory) → StandsFor b d → t ≡ object_tally_of d
-objects-all b t i was end d k =
-    was.told d k ∙ ap (λ (l : List Span). objects_tally (filter_map (object_of d) l)) (take_all i (spans (live d)) (end d k))
+pub objects-all : (b : List ℕ) (t : ObjectTally) (i : ℕ) → AreCounted b t i
+    → ((d : Directory) → StandsFor b d → length d.objects ≤ i) → (d : Directory) → StandsFor b d → t ≡ object_tally_of d
+objects-all b t i was end d k = was.told d k ∙ ap objects_tally (take_all i d.objects (end d k))

@@ -1,9 +1,11 @@
 -- The blocks and gaps of a segment lie in it, and what is written of each in its picture.
 use Rattle.std.proofs.Common.{◌≡◌, ℕ, zero, suc, ◌+◌, ◌-◌, ◌^◌, ◌<◌, ◌≤◌, Bool, true, false, List, [], ◌∷◌, ◌++◌}
 use Rattle.std.proofs.Common.{nat_lt, if◌then◌else◌, Some, None, slice_get, refl, sym, ap, subst, ◌∙◌, arith}
-use Rattle.std.specs.Prelude.{IsTrue, codes}
+use Rattle.std.specs.Prelude.{IsTrue, Option, codes}
 use Rattle.std.specs.List.{AllByRecursion}
 use Rattle.std.proofs.lemmas.Bool.{and_parts, ltb-true}
+use Rattle.block_tags.specs.declared.tile.Role.{Role}
+use Rattle.block_tags.specs.declared.tile.Role.TheVariants.{Object as ObjectRole, Index, Storage, Node}
 use Rattle.block_tags.specs.Format.{is_legal_size}
 use Rattle.best_fit.specs.Extents.{Extent, LiveSet, Span, end_of, free_bytes, is_proper, proper_from, span_between}
 use Rattle.best_fit.specs.Extents.{spans, spans_from}
@@ -13,11 +15,10 @@ use Rattle.seg_types.specs.Names.{ByHandle}
 use Rattle.segment_manager.specs.declared.objects.telling.Instance.{Instance}
 use Rattle.segment_manager.specs.Answers.{Number}
 use Rattle.segment_manager.specs.Directory.{Directory, live, object_at}
-use Rattle.segment_manager.specs.objects.Instances.{IsMissing, SaysOf}
+use Rattle.segment_manager.specs.objects.Instances.{SaysOf}
 use Rattle.segment_manager.specs.State.{IsReply, IsSegment, State, StandsFor}
-use Rattle.segment_manager.proofs.Laws.{AllByRecursion-append, live-size}
-use Rattle.seg_types.specs.declared.refusals.Refusal.{Refusal}
-use Rattle.segment_report.specs.Picture.{HasScale, bytes_in_row, called, head_text, label_text, object_in, object_label}
+use Rattle.segment_manager.proofs.Laws.{AllByRecursion-append, live-size, tile-here}
+use Rattle.segment_report.specs.Picture.{HasOwner, HasScale, bytes_in_row, called, head_text, label_text, object_in, object_label}
 use Rattle.segment_report.specs.Picture.{shape_text, sort_of, span_text}
 use Rattle.segment_report.proofs.Replies.{free_is, size_is}
 
@@ -91,9 +92,19 @@ label-said s per from len h said says d k =
     let o = says.says d k in
     (λ i. label_text per from len (called (o.2.class i) (o.2.name i) (o.2.at i)) (o.2.kind i)) ∙ ap (object_label per from len) (sym o.1)
 
-pub label-none : (s : State) (per from len h : ℕ) (why : Refusal) → IsMissing s (ByHandle h) why → (d : Directory) → StandsFor s.cut.bytes d
-    → [] ≡ object_label per from len (object_at d (ByHandle h))
-label-none s per from len h why missing d k = ap (object_label per from len) (sym (missing.missing d k))
+-- an object's block has an object
+owner-of : (s : State) (i offset len : ℕ) (u : Option Role) → ((d : Directory) → StandsFor s.cut.bytes d
+    → Some (record { offset = offset; len = len; use_of = u }) ≡ slice_get (spans (live d)) i) → HasOwner s u offset
+owner-of s i offset len (Some ObjectRole) next =
+    tile-here i (record { offset = offset; len = len; use_of = Some ObjectRole }) next refl
+owner-of s i offset len (Some Index) next = tt
+owner-of s i offset len (Some Storage) next = tt
+owner-of s i offset len (Some Node) next = tt
+owner-of s i offset len None next = tt
+
+pub has-owner : (s : State) (i : ℕ) (x : Span) → ((d : Directory) → StandsFor s.cut.bytes d
+    → Some x ≡ slice_get (spans (live d)) i) → HasOwner s x.use_of x.offset
+has-owner s i x next = owner-of s i x.offset x.len x.use_of next
 
 pub end-same : (s : State) (per size : ℕ) → HasScale s per → IsReply s Size (Number size) → (d : Directory) → StandsFor s.cut.bytes d
     → shape_text per (size - 16) 16 (codes "end") ≡ shape_text (bytes_in_row d.size) (d.size - 16) 16 (codes "end")

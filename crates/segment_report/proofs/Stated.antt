@@ -14,7 +14,7 @@ use Rattle.segment_manager.specs.State.{Answers, IsReply, IsSegment, State, Stan
 use Rattle.segment_manager.proofs.Laws.{live-size}
 use Rattle.segment_report.specs.declared.objects.ObjectTally.{ObjectTally}
 use Rattle.segment_report.specs.declared.tallies.Tally.{Tally}
-use Rattle.segment_report.specs.Objects.{count_of_kind, kind_place, object_tally_of, objects_in}
+use Rattle.segment_report.specs.Objects.{count_of_kind, kind_place, object_tally_of}
 use Rattle.segment_report.specs.Stat.{counted_line, figures_text, kind_line, kinds_text}
 use Rattle.segment_report.specs.Usages.{tally_of}
 use Rattle.segment_report.proofs.CountedObjects.{kind-there}
@@ -36,10 +36,10 @@ kinds-same f g [] h = refl
 kinds-same f g (k ∷ ks) h = λ i. kind_line k (h k i) ++ kinds-same f g ks h i
 
 pub kinds-are : (s : State) (t : ObjectTally) → Answers s object_tally_of t → (d : Directory) → StandsFor s.cut.bytes d
-    → flat_map (counted_line t.kinds) kinds ≡ kinds_text (count_of_kind (objects_in d))
+    → flat_map (counted_line t.kinds) kinds ≡ kinds_text (count_of_kind d.objects)
 kinds-are s t h d k =
-    kinds-same (λ l. slice_index t.kinds (kind_place l)) (count_of_kind (objects_in d)) kinds
-    (λ l. ap (λ (u : ObjectTally). slice_index u.kinds (kind_place l)) (h.answers d k) ∙ kind-there (count_of_kind (objects_in d)) l)
+    kinds-same (λ l. slice_index t.kinds (kind_place l)) (count_of_kind d.objects) kinds
+    (λ l. ap (λ (u : ObjectTally). slice_index u.kinds (kind_place l)) (h.answers d k) ∙ kind-there (count_of_kind d.objects) l)
 
 pub figures-are : (s : State) (size : ℕ) (t : Tally) (o : ObjectTally) (named unique : ℕ) → IsReply s Size (Number size) → Answers s tally_of t → Answers s object_tally_of o
     → Answers s (λ d. d.named.capacity) named → Answers s (λ d. d.unique.capacity) unique → (d : Directory) → StandsFor s.cut.bytes d

@@ -1,6 +1,5 @@
 -- The objects of a segment, counted by class and by kind.
-use Rattle.std.specs.Prelude.{◌≤◌, ℕ, ◌+◌, ◌*◌, Bool, Option, Some, None, List, count_by, filter_map, map, slice_index, slice_set}
-use Rattle.best_fit.specs.Extents.{Span, spans}
+use Rattle.std.specs.Prelude.{◌≤◌, ℕ, ◌+◌, ◌*◌, Bool, List, count_by, map, slice_index, slice_set}
 use Rattle.seg_types.specs.declared.kinds.ScalarKind.{ScalarKind}
 use Rattle.seg_types.specs.declared.kinds.ScalarKind.TheVariants.{Bool as BoolKind, U8, I32, I64, U64}
 use Rattle.seg_types.specs.declared.kinds.Kind.{Kind}
@@ -8,16 +7,8 @@ use Rattle.seg_types.specs.declared.kinds.Kind.TheVariants.{Scalar, String, Vect
 use Rattle.seg_types.specs.declared.kinds.Class.{Class}
 use Rattle.seg_types.specs.declared.kinds.Class.TheVariants.{Anonymous, Named, Unique}
 use Rattle.seg_types.specs.Kinds.{kinds, same_kind}
-use Rattle.segment_manager.specs.Directory.{Directory, Object, is_class, kind_of, live}
+use Rattle.segment_manager.specs.Directory.{Directory, Object, is_class, kind_of}
 use Rattle.segment_report.specs.declared.objects.ObjectTally.{ObjectTally}
-use Rattle.segment_report.specs.Picture.{object_in}
-
--- the objects that stand in the blocks, by offset
-abbrev pub object_of : Directory → Span → Option Object
-object_of d s = object_in d s.use_of s.offset
-
-abbrev pub objects_in : Directory → List Object
-objects_in d = filter_map (object_of d) (spans (live d))
 
 abbrev pub is_of_kind : Kind → Object → Bool
 is_of_kind k o = same_kind k (kind_of o.value)
@@ -36,9 +27,9 @@ objects_tally os = record {
 }
 
 abbrev pub object_tally_of : Directory → ObjectTally
-object_tally_of d = objects_tally (objects_in d)
+object_tally_of d = objects_tally d.objects
 
--- ---- as a walk meets them
+-- ---- one after another
 
 -- the place of a kind among all
 abbrev pub scalar_place : ScalarKind → ℕ
@@ -63,11 +54,6 @@ abbrev pub object_counted : ObjectTally → Class → Kind → ObjectTally
 object_counted t Named k = record t { named = t.named + 1; kinds = one_more_at t.kinds (kind_place k) }
 object_counted t Unique k = record t { unique = t.unique + 1; kinds = one_more_at t.kinds (kind_place k) }
 object_counted t Anonymous k = record t { anonymous = t.anonymous + 1; kinds = one_more_at t.kinds (kind_place k) }
-
--- the object of a block, where there is one
-abbrev pub counted_if : ObjectTally → Option Object → ObjectTally
-counted_if t None = t
-counted_if t (Some o) = object_counted t o.class (kind_of o.value)
 
 -- there is room to count one more
 pub record HasRoomFor (t : ObjectTally) (i : ℕ) : Type 0 where

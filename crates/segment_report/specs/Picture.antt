@@ -1,7 +1,7 @@
 -- The picture of a segment, a text of SVG. Its bytes go through 16 rows from left to right, to scale: each block, each
 -- gap, the header and the end tag is a shape of its own, over several rows where it is longer than one. An object has
 -- its name and kind in it.
-use Rattle.std.specs.Prelude.{◌≡◌, ℕ, ◌+◌, ◌-◌, ◌*◌, ◌/◌, ◌%◌, max, Option, Some, None, List, [], ◌++◌, codes, decimal, flat_map, ◌==◌, if◌then◌else◌}
+use Rattle.std.specs.Prelude.{◌≡◌, ℕ, ◌+◌, ◌-◌, ◌*◌, ◌/◌, ◌%◌, max, true, Option, Some, None, List, [], ◌++◌, codes, decimal, flat_map, ◌==◌, if◌then◌else◌}
 use Rattle.block_tags.specs.declared.tile.Role.{Role}
 use Rattle.block_tags.specs.declared.tile.Role.TheVariants.{Object as ObjectRole, Index, Storage, Node}
 use Rattle.best_fit.specs.Extents.{Span, free_bytes, handle, spans}
@@ -11,7 +11,8 @@ use Rattle.seg_types.specs.declared.kinds.Kind.{Kind}
 use Rattle.seg_types.specs.Names.{ByHandle}
 use Rattle.seg_types.specs.Texts.{kind_text}
 use Rattle.segment_manager.specs.Directory.{Directory, Object, kind_of, live, object_at}
-use Rattle.segment_manager.specs.State.{State, StandsFor}
+use Rattle.segment_manager.specs.objects.Found.{is_object_at}
+use Rattle.segment_manager.specs.State.{Answers, State, StandsFor}
 use Rattle.segment_report.specs.Parts.{xml_text}
 
 -- ---- where a byte stands, in pixels
@@ -144,3 +145,11 @@ picture_of d = front_text d ++ (spans_text d ++ end_text d)
 -- the scale of a segment's picture
 pub record HasScale (s : State) (per : ℕ) : Type 0 where
   pub scale : (d : Directory) → StandsFor s.cut.bytes d → per ≡ bytes_in_row d.size
+
+-- an object has the handle of an object's block
+abbrev pub HasOwner : State → Option Role → ℕ → Type 0
+HasOwner s (Some ObjectRole) from = Answers s (λ d. is_object_at d (from + 16)) true
+HasOwner s (Some Index) from = Unit {0}
+HasOwner s (Some Storage) from = Unit {0}
+HasOwner s (Some Node) from = Unit {0}
+HasOwner s None from = Unit {0}

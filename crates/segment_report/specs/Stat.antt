@@ -7,7 +7,7 @@ use Rattle.segment_manager.specs.Directory.{Directory}
 use Rattle.segment_report.specs.declared.objects.ObjectTally.{ObjectTally}
 use Rattle.segment_report.specs.declared.tallies.Tally.{Tally}
 use Rattle.segment_report.specs.Entries.{entry_line}
-use Rattle.segment_report.specs.Objects.{count_of_kind, kind_place, object_tally_of, objects_in}
+use Rattle.segment_report.specs.Objects.{count_of_kind, kind_place, object_tally_of}
 use Rattle.segment_report.specs.Usages.{tally_of}
 
 -- what is counted once: the size, the bytes of all gaps, how many gaps there are and the longest of them; of each role
@@ -38,4 +38,4 @@ kinds_text count = flat_map (λ k. kind_line k (count k)) kinds
 
 abbrev pub stat_text : Directory → List ℕ
 stat_text d =
-    figures_text d.size (tally_of d) (object_tally_of d) d.named.capacity d.unique.capacity ++ kinds_text (count_of_kind (objects_in d))
+    figures_text d.size (tally_of d) (object_tally_of d) d.named.capacity d.unique.capacity ++ kinds_text (count_of_kind d.objects)

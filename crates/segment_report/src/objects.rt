@@ -1,16 +1,10 @@
-//! The objects of a segment, counted by class and by kind in one walk over its blocks.
-ghost use Rattle.std.specs.Prelude.{◌≡◌, ◌+◌, ◌^◌, ◌<◌, slice_index, [], ℕ};
-ghost use Rattle.seg_types.specs.Names.{ByHandle};
-ghost use Rattle.segment_manager.specs.Directory.{Directory, object_at};
-ghost use Rattle.segment_manager.specs.State.{Answers, StandsFor};
-ghost use Rattle.segment_report.specs.Objects.{HasRoomFor, counted_if, kind_place, object_counted, object_tally_of, objects_tally, scalar_place};
-ghost use Rattle.segment_report.specs.Picture.{object_in};
+//! The objects of a segment, counted by class and by kind in one walk over them.
+ghost use Rattle.std.specs.Prelude.{◌≡◌, ◌^◌, ◌<◌, slice_index, [], ℕ};
+ghost use Rattle.segment_manager.specs.State.{Answers};
+ghost use Rattle.segment_report.specs.Objects.{HasRoomFor, kind_place, object_counted, object_tally_of, objects_tally, scalar_place};
 
-use crate::sizes::size_of;
-use block_tags::{Role, Tile};
-use seg_types::{Class, Key, Kind, ScalarKind};
+use seg_types::{Class, Kind, ScalarKind};
 use segment_manager::Segment;
-use segment_manager::conditioned::next_tile;
 
 /// How many kinds there are.
 const KIND_COUNT: usize = 37;
@@ -90,42 +84,15 @@ impl ObjectTally {
     }
 }
 
-/// Counts the object in a block, where one stands there.
-fn count_tile(segment: &Segment, tile: Tile, tally: &mut ObjectTally)
-    requires room { (i : ℕ) × HasRoomFor tally.old i × (i < 2 ^ 63) }
-    requires inside { tile.offset < 2 ^ 63 }
-    ensures { (d : Directory) → StandsFor segment.now.cut.bytes d → tally.new ≡ counted_if tally.old (object_in d tile.use_of tile.offset) }
-{
-    match tile.use_of {
-        Some(Role::Object) => count_object(segment, tile.offset, tally),
-        Some(Role::Index | Role::Storage | Role::Node) | None => {}
-    }
-}
-
-/// Counts the object in an object's block.
-fn count_object(segment: &Segment, offset: u64, tally: &mut ObjectTally)
-    requires room { (i : ℕ) × HasRoomFor tally.old i × (i < 2 ^ 63) }
-    requires inside { offset < 2 ^ 63 }
-    ensures { (d : Directory) → StandsFor segment.now.cut.bytes d → tally.new ≡ counted_if tally.old (object_at d (ByHandle (offset + 16))) }
-{
-    if let Ok(said) = segment.instance(&Key::Handle(offset + 16)) {
-        tally.add(said.class, said.kind);
-    }
-}
-
 /// How many objects a segment has, by class and by kind.
 pub fn tally_objects(segment: &Segment) -> ObjectTally
     ensures { Answers segment.now object_tally_of result }
 {
     let mut tally = ObjectTally::new();
-    let mut ahead = segment.first_tile();
-    // a segment has fewer blocks and gaps than bytes
-    'tiles: for _ in 0..size_of(segment) {
-        let Some(tile) = ahead else {
-            break;
-        };
-        count_tile(segment, tile, &mut tally);
-        ahead = next_tile(segment, tile);
+    // 64 bits count the objects of a segment, which its bytes say.
+    let _ = segment.as_bytes();
+    'objects: for said in segment.objects() {
+        tally.add(said.class, said.kind);
     }
     tally
 }

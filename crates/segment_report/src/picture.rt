@@ -1,26 +1,20 @@
 //! The picture of a segment.
 ghost use Rattle.std.specs.Prelude.{◌≡◌, ◌+◌, ◌-◌, ◌^◌, ◌<◌, ◌≤◌, ◌++◌};
 ghost use Rattle.raw_region.specs.Device.{Writes};
-ghost use Rattle.seg_types.specs.Names.{ByHandle};
-ghost use Rattle.segment_manager.specs.Directory.{object_at};
-ghost use Rattle.segment_report.specs.Picture.{HasScale, end_text, front_text, head_text, object_in, object_label, picture_of, shape_text, sort_of, spans_text};
+ghost use Rattle.segment_report.specs.Picture.{HasOwner, HasScale, end_text, front_text, head_text, object_in, object_label, picture_of, shape_text, sort_of, spans_text};
 ghost use Rattle.segment_report.specs.Telling.{Tells};
 
 use crate::parts::{Part, put_parts};
 use crate::scale::Scale;
 use crate::shapes::{put_label, put_shape};
 use crate::sizes::size_of;
-use block_tags::{Role, Tile};
+use block_tags::{Role, TAG, Tile};
 use raw_region::{DeviceFault, Sink};
-use seg_types::Key;
 use segment_manager::Segment;
-use segment_manager::conditioned::next_tile;
+use segment_manager::conditioned::{instance_here, next_tile};
 
 /// The bytes of a segment's header.
 const HEADER: u64 = 128;
-
-/// The bytes of its end tag.
-const END_TAG: u64 = 16;
 
 /// Writes a picture of a segment as a text of SVG, and answers `DeviceFault` where the writer failed: what went out is
 /// then shorter than the text, and the text begins with it.
@@ -57,7 +51,7 @@ fn put_end<W: Sink>(segment: &Segment, scale: Scale, out: &mut W) -> Result<(), 
     requires scale { HasScale segment.now scale.row }
     ensures { Tells segment.now (W.history out.old) (W.history out.new) result end_text }
 {
-    put_shape(out, scale, size_of(segment) - END_TAG, END_TAG, b"end")?;
+    put_shape(out, scale, size_of(segment) - TAG, TAG, b"end")?;
     put_parts(out, &[Part::Bytes(b"</svg>\n")])
 }
 
@@ -132,6 +126,7 @@ fn put_tile<W: Sink>(
     requires writer { (W.history out.old).failures < 2 ^ 64 - 1 }
     requires some { 0 < tile.len }
     requires inside { tile.offset + tile.len ≤ 2 ^ 30 }
+    requires object { HasOwner segment.now tile.use_of tile.offset }
     ensures { Tells segment.now (W.history out.old) (W.history out.new) result (λ d. shape_text scale.row tile.offset tile.len (sort_of tile.use_of) ++ object_label scale.row tile.offset tile.len (object_in d tile.use_of tile.offset)) }
 {
     put_shape(out, scale, tile.offset, tile.len, sort_of(tile.use_of))?;
@@ -148,30 +143,15 @@ fn put_inside<W: Sink>(
     requires writer { (W.history out.old).failures < 2 ^ 64 - 1 }
     requires some { 0 < tile.len }
     requires inside { tile.offset + tile.len ≤ 2 ^ 30 }
+    requires object { HasOwner segment.now tile.use_of tile.offset }
     ensures { Tells segment.now (W.history out.old) (W.history out.new) result (λ d. object_label scale.row tile.offset tile.len (object_in d tile.use_of tile.offset)) }
 {
     match tile.use_of {
-        Some(Role::Object) => put_object(segment, scale, tile.offset, tile.len, out),
+        Some(Role::Object) => {
+            let said = instance_here(segment, tile.offset + TAG);
+            put_label(out, scale, tile.offset, tile.len, said)
+        }
         Some(Role::Index | Role::Storage | Role::Node) | None => Ok(()),
-    }
-}
-
-/// Writes what the object in a block is called, where one stands there.
-fn put_object<W: Sink>(
-    segment: &Segment,
-    scale: Scale,
-    from: u64,
-    len: u64,
-    out: &mut W,
-) -> Result<(), DeviceFault>
-    requires writer { (W.history out.old).failures < 2 ^ 64 - 1 }
-    requires some { 0 < len }
-    requires inside { from + len ≤ 2 ^ 30 }
-    ensures { Tells segment.now (W.history out.old) (W.history out.new) result (λ d. object_label scale.row from len (object_at d (ByHandle (from + 16)))) }
-{
-    match segment.instance(&Key::Handle(from + 16)) {
-        Ok(said) => put_label(out, scale, from, len, said),
-        Err(_) => Ok(()),
     }
 }
 

@@ -166,6 +166,20 @@ owner-in [] at {span} e = absurd (none-some span e)
 owner-in (o ∷ os) zero {span} e = (o, refl, ap (λ (s : LiveSpan). s.offset) (sym (same_Some (as_used o.extent) span e)))
 owner-in (o ∷ os) (suc at) e = owner-in os at e
 
+-- an object's block that stands at a place among the blocks and gaps is that of the object of its handle
+pub tile-here : {s : State} (i : ℕ) (span : LiveSpan) → ((d : Directory) → StandsFor s.cut.bytes d
+    → Some span ≡ slice_get (spans (live d)) i) → is_own_span span ≡ true
+    → Answers s (λ d. is_object_at d (span.offset + 16)) true
+tile-here {s} i span next own = record {
+  answers = λ d k.
+      let at = own_before d i in
+      let there = passes-there is_own_span (spans (live d)) i (sym (next d k)) own in
+      let o = owner-in d.objects at (ap (λ ss. slice_get ss at) (sym (all-own_spans k.denotes.directory)) ∙ there) in
+      sym (ap is_some (ap (λ n. object_at d (ByHandle (n + 16))) o.2
+      ∙ all-at (λ (p : Object). object_at d (ByHandle (handle p.extent)) ≡ Some p) d.objects at
+      (each-by_handle 0 d.objects k.denotes.directory.by_offset) o.1));
+}
+
 -- ---- how large the numbers are
 
 all-within : (from : ℕ) (xs : List Extent) (to : ℕ) → IsTrue (proper_from from xs to)

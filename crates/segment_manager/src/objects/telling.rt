@@ -51,14 +51,6 @@ impl Segment {
         }
     }
 
-    /// What the object of a handle says of itself, where one has it. Nothing is looked up.
-    pub(crate) fn instance_here(&self, handle: Handle) -> Instance<'_>
-        requires { Answers self.now (λ d. is_object_at d handle) true }
-        ensures { SaysOf self.now (ByHandle handle) result }
-    {
-        read_instance(&self.heap, handle)
-    }
-
     /// The same of an index.
     pub(crate) fn entered(&self, index: Index, i: u64) -> Instance<'_>
         requires { IsBelow self.now (λ d. length (objects_of index d)) i }
@@ -175,6 +167,20 @@ fn read_instance(heap: &Heap, handle: Handle) -> Instance<'_>
         count: head.count,
         handle,
     }
+}
+
+/// What the object of a handle says of itself. Nothing is looked up.
+///
+/// Example: `let said = instance_here(&segment, handle)`.
+///
+/// # Conditions
+///
+/// An object of the segment has the handle. `instance` looks for it, and has no condition.
+pub fn instance_here(segment: &Segment, handle: Handle) -> Instance<'_>
+    requires { Answers segment.now (λ d. is_object_at d handle) true }
+    ensures { SaysOf segment.now (ByHandle handle) result }
+{
+    read_instance(&segment.heap, handle)
 }
 
 /// What the object says of itself whose name has `i` others before it, in the order of their bytes. There are more than

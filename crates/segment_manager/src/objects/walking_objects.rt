@@ -4,7 +4,7 @@ ghost use Rattle.segment_manager.specs.indexes.Iterating.{GoesOnObjects, GoesOnO
 
 use crate::blocks::tiles::Span;
 use crate::blocks::walking_tiles::Tiles;
-use crate::objects::telling::Instance;
+use crate::objects::telling::{Instance, instance_here};
 use crate::segment::Segment;
 use block_tags::TAG;
 use std::marker::Model;
@@ -43,7 +43,7 @@ impl<'a> Iterator for Objects<'a> {
         // A block lies within the segment, and 64 bits count its objects, which its bytes say.
         let _ = segment.as_bytes();
         self.at += 1;
-        Some(segment.instance_here(block.offset + TAG))
+        Some(instance_here(segment, block.offset + TAG))
     }
 }
 

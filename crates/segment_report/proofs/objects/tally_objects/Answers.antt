@@ -1,42 +1,56 @@
-use Rattle.std.proofs.Common.{sym, ◌∙◌, arith}
-use Rattle.best_fit.specs.FreeTree.{span}
-use Rattle.segment_report.proofs.CountedObjects.{objects-all, objects-more, objects-room}
-use Rattle.segment_report.proofs.Counts.{end_is, ends_by_size, next_is, tile_stands}
-use Rattle.segment_report.proofs.Drawn.{lies-in}
+use Rattle.std.proofs.Common.{◌≡◌, ◌≤◌, length, sym, ap, subst, ◌∙◌, rules}
+use Rattle.segment_manager.specs.Directory.{Directory}
+use Rattle.segment_manager.specs.objects.Instances.{SaysAt}
+use Rattle.segment_manager.specs.State.{IsSegment, State, StandsFor}
+use Rattle.segment_report.proofs.CountedObjects.{AreCounted, no_objects, objects-all, objects-more, objects-room}
 use Rattle.segment_report.proofs.objects.tally_objects.Goals as goal
 
-pub next_tile-ahead-requires : goal.next_tile-ahead-requires
-next_tile-ahead-requires c = tile_stands c.args.segment.now c.tiles.counter c.in-Some.tile c.tiles.ahead c.tiles.invariant.next c.in-Some.is
-
-pub count_tile-requires : goal.count_tile-requires
-count_tile-requires c =
+pub objects-init : goal.objects-init
+objects-init c =
     let s = c.args.segment.now in
-    let was = c.tiles.invariant in
-    let next = next_is s c.tiles.counter c.in-Some.tile c.tiles.ahead was.next c.in-Some.is in
-    let lies = lies-in s.cut.bytes c.tiles.counter (span c.in-Some.tile) c.size_of-end.ensures.denotes next in
+    let same : c.into_iter-said-iterator.result ≡ record { segment = s; at = 0 } = search rules in
     record {
-      room = objects-room s.cut.bytes c.tiles.tally c.tiles.counter was.counted (span c.in-Some.tile) next c.size_of-end.ensures.denotes;
-      inside = omega (arith, lies.inside);
+      can = tt;
+      finite = tt;
+      segment = ap (λ w. w.segment) same;
+      counted =
+          subst (λ n. AreCounted s.cut.bytes c.new-tally.result n) (sym (ap (λ w. w.at) same))
+          (subst (λ t. AreCounted s.cut.bytes t 0) (sym c.new-tally.ensures) (no_objects s.cut.bytes));
     }
 
-pub tiles-preserved : goal.tiles-preserved
-tiles-preserved c =
+pub add-requires : goal.add-requires
+add-requires c =
     let s = c.args.segment.now in
-    let was = c.tiles.invariant in
+    let walk = c.objects.said-iterator in
+    let at : SaysAt s (λ (d : Directory). d.objects) walk.at c.in-Some.said =
+    subst (λ (t : State). SaysAt t (λ (d : Directory). d.objects) walk.at c.in-Some.said) c.objects.invariant.segment
+    c.in-Some.ensures.steps.says in
+    objects-room s c.objects.tally walk.at c.objects.invariant.counted c.in-Some.said at
+    (subst IsSegment c.as_bytes.ensures.bytes c.as_bytes.ensures.denotes)
+
+pub objects-preserved : goal.objects-preserved
+objects-preserved c =
+    let s = c.args.segment.now in
+    let walk = c.objects.said-iterator in
+    let steps = c.in-Some.ensures.steps in
+    let at : SaysAt s (λ (d : Directory). d.objects) walk.at c.in-Some.said =
+    subst (λ (t : State). SaysAt t (λ (d : Directory). d.objects) walk.at c.in-Some.said) c.objects.invariant.segment
+    steps.says in
     record {
-      next = c.next_tile-ahead.ensures c.tiles.counter (sym was.next.tile ∙ c.in-Some.is);
-      counted = objects-more s.cut.bytes c.tiles.tally c.tiles.counter was.counted (span c.in-Some.tile) (next_is s c.tiles.counter c.in-Some.tile c.tiles.ahead was.next c.in-Some.is) c.count_tile.new.tally c.count_tile.ensures;
+      can = tt;
+      finite = tt;
+      segment = steps.segment ∙ c.objects.invariant.segment;
+      counted =
+          subst (λ n. AreCounted s.cut.bytes c.add.new.self n) (sym steps.place)
+          (objects-more s c.objects.tally walk.at c.objects.invariant.counted c.in-Some.said at c.add.new.self
+          c.add.ensures);
     }
 
-pub returns-after-tiles : goal.returns-after-tiles
-returns-after-tiles c =
+pub returns : goal.returns
+returns c =
     let s = c.args.segment.now in
-    record {
-      answers = objects-all s.cut.bytes c.tiles.tally c.tiles.counter c.tiles.invariant.counted
-          (ends_by_size s.cut.bytes s.mode c.size_of-end.result c.tiles.counter c.size_of-end.ensures.size.answers c.tiles-test.false);
-    }
-
-pub returns-in_default : goal.returns-in_default
-returns-in_default c =
-    let s = c.args.segment.now in
-    record { answers = objects-all s.cut.bytes c.tiles.tally c.tiles.counter c.tiles.invariant.counted (end_is s c.tiles.counter c.tiles.ahead c.tiles.invariant.next c.in_default.is) }
+    let walk = c.objects.said-iterator in
+    let none : (d : Directory) → StandsFor s.cut.bytes d → length d.objects ≤ walk.at =
+    subst (λ (t : State). (d : Directory) → StandsFor t.cut.bytes d → length d.objects ≤ walk.at)
+    c.objects.invariant.segment c.in-None.ensures.steps.says in
+    record { answers = objects-all s.cut.bytes c.objects.tally walk.at c.objects.invariant.counted none }

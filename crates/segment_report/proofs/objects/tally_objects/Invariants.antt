@@ -1,9 +1,12 @@
-use Rattle.segment_manager.specs.Calls.{IsTileOfIndex}
+-- What was counted is the objects that came.
+use Rattle.std.proofs.Common.{◌≡◌}
 use Rattle.segment_report.proofs.CountedObjects.{AreCounted}
 use Rattle.segment_report.proofs.objects.tally_objects.Given as goal
 
-abbrev pub invariant-tiles : goal.invariant-tiles
-invariant-tiles l = record {
-  next : IsTileOfIndex l.segment l.counter l.ahead;
-  counted : AreCounted l.segment.cut.bytes l.tally l.counter;
+abbrev pub invariant-objects : goal.invariant-objects
+invariant-objects l = record {
+  can : (goal.iterator-objects).can_next l.said-iterator;
+  finite : (goal.iterator-objects).is_finite l.said-iterator;
+  segment : l.said-iterator.segment ≡ l.segment;
+  counted : AreCounted l.segment.cut.bytes l.tally l.said-iterator.at;
 }

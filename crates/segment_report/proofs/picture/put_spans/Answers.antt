@@ -4,7 +4,7 @@ use Rattle.best_fit.specs.FreeTree.{span}
 use Rattle.segment_manager.specs.Directory.{Directory, live}
 use Rattle.segment_report.specs.Picture.{object_in, object_label, shape_text, sort_of, span_text}
 use Rattle.segment_report.proofs.Counts.{end_is, ends_by_size, next_is, tile_stands}
-use Rattle.segment_report.proofs.Drawn.{lies-in, next-text}
+use Rattle.segment_report.proofs.Drawn.{has-owner, lies-in, next-text}
 use Rattle.segment_report.proofs.Telling.{told-all, told-cut, told-more}
 use Rattle.segment_report.proofs.picture.put_spans.Goals as goal
 
@@ -19,6 +19,12 @@ put_tile-requires-clause-inside g c =
     let s = c.args.segment.now in
     let was = c.tiles.invariant in
     (lies-in s.cut.bytes c.tiles.counter (span c.in-Some.tile) c.size_of-end.ensures.denotes (next_is s c.tiles.counter c.in-Some.tile c.tiles.ahead was.next c.in-Some.is)).inside
+
+pub put_tile-requires-clause-object : goal.put_tile-requires-clause-object
+put_tile-requires-clause-object g c =
+    let s = c.args.segment.now in
+    has-owner s c.tiles.counter (span c.in-Some.tile)
+    (next_is s c.tiles.counter c.in-Some.tile c.tiles.ahead c.tiles.invariant.next c.in-Some.is)
 
 pub next_tile-ahead-requires : goal.next_tile-ahead-requires
 next_tile-ahead-requires g c = tile_stands c.args.segment.now c.tiles.counter c.in-Some.tile c.tiles.ahead c.tiles.invariant.next c.in-Some.is

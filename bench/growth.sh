@@ -100,7 +100,8 @@ objects() {
   awk -v kind="$1" -v n="$2" 'BEGIN { print "segment dump 1"; print "size", 64 * n + 512
     small = kind == "behind" ? int(n / 2) : n
     print "indexes", (kind == "names" ? n : 0), 0
-    for (i = 0; i < small; i++) printf kind == "names" ? "named n%07d i64 1\n  %d\n" : "anonymous i64 1\n  %2$d\n", i, i
+    for (i = 0; i < small; i++)
+      if (kind == "names") printf "named n%07d i64 1\n  %d\n", i, i; else printf "anonymous i64 1\n  %d\n", i
     if (kind == "behind") { print "anonymous vec<i64>", n - small; for (i = small; i < n; i++) print "  " i }
     print "end" }'
 }

@@ -14,24 +14,24 @@ use Rattle.segment_dump.specs.Builders.{IsHere}
 abbrev some_object : ℕ → Located
 some_object h = record { handle = h; kind = String; count = 1 }
 
-module _ {old new : State} {h : ℕ} {c : Command} {answer : Answer} (i : IsHere old h) where
+module _ {old new : State} {h : ℕ} (i : IsHere old h) (c : Command) (answer : Answer) where
   pub still-here : IsStep old new c answer → is_elementwise c ≡ true → IsHere new h
   still-here m e = record {
     segment = ((step old.mode i.segment.0 c).1, m.denotes i.segment.0 i.segment.1);
     object = objects_stay.any old new c answer i.segment e m (some_object h) i.object;
   }
 
-  pub still_of_kind-here : {key : Key} {kind : Kind} → IsStepOfKind old new key kind c answer → is_elementwise c ≡ true
+  pub still_of_kind-here : (key : Key) (kind : Kind) → IsStepOfKind old new key kind c answer → is_elementwise c ≡ true
       → IsHere new h
-  still_of_kind-here {key} {kind} m e = record {
+  still_of_kind-here key kind m e = record {
     segment = ((step_of_kind old.mode i.segment.0 key kind c).1, m.denotes i.segment.0 i.segment.1);
     object = objects_stay.of_kind old new key kind c answer i.segment e m (some_object h) i.object;
   }
 
-pub begun_here : {old new : State} {key : Key} {c : Content} (called : Result ℕ Refusal) → IsSegment old.cut.bytes
+pub begun_here : {old new : State} (key : Key) (c : Content) (called : Result ℕ Refusal) → IsSegment old.cut.bytes
     → IsStep old new (Construct key c) (handle_answer called) → IfOk called (IsHere new)
-begun_here {old} {new} {key} {c} (Ok h) g m = record {
+begun_here {old} key c (Ok h) g m = record {
   segment = ((step old.mode g.0 (Construct key c)).1, m.denotes g.0 g.1);
-  object = made-here {key = key} {c = c} {h = h} g m;
+  object = made-here key c h g m;
 }
-begun_here (Err why) g m = tt
+begun_here key c (Err why) g m = tt

@@ -1,6 +1,10 @@
 //! The picture of a segment.
-ghost use Rattle.std.specs.Prelude.{◌≡◌, ◌+◌, ◌-◌, ◌^◌, ◌<◌, ◌≤◌, ◌++◌};
+ghost use Rattle.std.specs.Prelude.{◌≡◌, ◌+◌, ◌-◌, ◌^◌, ◌<◌, ◌≤◌, ◌++◌, true};
 ghost use Rattle.raw_region.specs.Device.{Writes};
+ghost use Rattle.seg_types.specs.Names.{ByHandle};
+ghost use Rattle.segment_manager.specs.Directory.{object_at};
+ghost use Rattle.segment_manager.specs.objects.Found.{is_object_at};
+ghost use Rattle.segment_manager.specs.State.{Answers};
 ghost use Rattle.segment_report.specs.Picture.{HasOwner, HasScale, end_text, front_text, head_text, object_in, object_label, picture_of, shape_text, sort_of, spans_text};
 ghost use Rattle.segment_report.specs.Telling.{Tells};
 
@@ -147,12 +151,26 @@ fn put_inside<W: Sink>(
     ensures { Tells segment.now (W.history out.old) (W.history out.new) result (λ d. object_label scale.row tile.offset tile.len (object_in d tile.use_of tile.offset)) }
 {
     match tile.use_of {
-        Some(Role::Object) => {
-            let said = instance_here(segment, tile.offset + TAG);
-            put_label(out, scale, tile.offset, tile.len, said)
-        }
+        Some(Role::Object) => put_object(segment, scale, tile.offset, tile.len, out),
         Some(Role::Index | Role::Storage | Role::Node) | None => Ok(()),
     }
+}
+
+/// Writes what the object in a block is called.
+fn put_object<W: Sink>(
+    segment: &Segment,
+    scale: Scale,
+    from: u64,
+    len: u64,
+    out: &mut W,
+) -> Result<(), DeviceFault>
+    requires writer { (W.history out.old).failures < 2 ^ 64 - 1 }
+    requires some { 0 < len }
+    requires inside { from + len ≤ 2 ^ 30 }
+    requires object { Answers segment.now (λ d. is_object_at d (from + 16)) true }
+    ensures { Tells segment.now (W.history out.old) (W.history out.new) result (λ d. object_label scale.row from len (object_at d (ByHandle (from + 16)))) }
+{
+    put_label(out, scale, from, len, instance_here(segment, from + TAG))
 }
 
 /// The word for what bytes are used for.

@@ -76,17 +76,17 @@ value-here v next here = here _
 
 -- ---- the object
 
-found-behind : (b : Bool) (p : Object) {rest : Option Object} → is_some rest ≡ true
+found-behind : (b : Bool) (p : Object) (rest : Option Object) → is_some rest ≡ true
     → is_some (cond b (Some p) rest) ≡ true
-found-behind true p k = refl
-found-behind false p k = k
+found-behind true p rest k = refl
+found-behind false p rest k = k
 
 found-if : (h : ℕ) (b : Bool) (o p : Object) (ps qs : List Object) → h ≡ handle o.extent
     → is_some (find (has_key (ByHandle h)) qs) ≡ true
     → is_some (find (has_key (ByHandle h)) (if b then o ∷ p ∷ ps else p ∷ qs)) ≡ true
 found-if h true o p ps qs e k =
     ap (λ b. is_some (cond b (Some o) (find (has_key (ByHandle h)) (p ∷ ps)))) (eq-eqb h (handle o.extent) e)
-found-if h false o p ps qs e k = found-behind (h == handle p.extent) p k
+found-if h false o p ps qs e k = found-behind (h == handle p.extent) p (find (has_key (ByHandle h)) qs) k
 
 found-put : (h : ℕ) (o : Object) (ps : List Object) → h ≡ handle o.extent
     → is_some (find (has_key (ByHandle h)) (put_object o ps)) ≡ true
@@ -115,9 +115,9 @@ step-here mode d key c = perform-here d (live d) (plan mode d (asked.Construct k
     (if-here (is_read_only mode && true) _ _ by_refusal (effect-here d key c (object_at d key)))
 
 -- an object that was made is there
-pub made-here : {old new : State} {key : Key} {c : Content} {h : ℕ} → IsSegment old.cut.bytes
+pub made-here : {old new : State} (key : Key) (c : Content) (h : ℕ) → IsSegment old.cut.bytes
     → IsStep old new (asked.Construct key c) (Made h) → Answers new (λ d. is_object_at d h) true
-made-here {old} {new} {key} {c} {h} g m = record {
+made-here {old} key c h g m = record {
   answers = λ e k. sym (object-passes h k.denotes ∙ sym (object-passes h (m.denotes g.0 g.1).denotes)
       ∙ step-here old.mode g.0 key c h (sym (m.answers g.0 g.1)));
 }

@@ -17,4 +17,4 @@ pub reserve-requires : goal.reserve-requires
 reserve-requires c = c.requires.object
 
 pub fill_elements-requires : goal.fill_elements-requires
-fill_elements-requires c = still-here c.requires c.reserve.ensures.step refl
+fill_elements-requires c = still-here c.requires _ _ c.reserve.ensures.step refl

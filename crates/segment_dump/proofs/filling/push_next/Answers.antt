@@ -13,4 +13,4 @@ pub push_value-requires : goal.push_value-requires
 push_value-requires c = c.requires.object
 
 pub returns-clause-here : goal.returns-clause-here
-returns-clause-here c = still_of_kind-here c.requires c.push_value.ensures refl
+returns-clause-here c = still_of_kind-here c.requires _ _ _ _ c.push_value.ensures refl

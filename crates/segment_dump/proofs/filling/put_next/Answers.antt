@@ -17,7 +17,7 @@ pub map_put_any-requires : goal.map_put_any-requires
 map_put_any-requires c = c.requires.object
 
 pub returns-in-Ok-clause-here : goal.returns-in-Ok-clause-here
-returns-in-Ok-clause-here c = still_of_kind-here c.requires c.map_put_any.ensures.step refl
+returns-in-Ok-clause-here c = still_of_kind-here c.requires _ _ _ _ c.map_put_any.ensures.step refl
 
 pub returns-in-Err-clause-here : goal.returns-in-Err-clause-here
-returns-in-Err-clause-here c = still_of_kind-here c.requires c.map_put_any.ensures.step refl
+returns-in-Err-clause-here c = still_of_kind-here c.requires _ _ _ _ c.map_put_any.ensures.step refl

@@ -13,4 +13,4 @@ pub set_value-requires : goal.set_value-requires
 set_value-requires c = c.requires.object
 
 pub returns-clause-here : goal.returns-clause-here
-returns-clause-here c = still_of_kind-here c.requires c.set_value.ensures refl
+returns-clause-here c = still_of_kind-here c.requires _ _ _ _ c.set_value.ensures refl

@@ -13,4 +13,4 @@ pub string_append-requires : goal.string_append-requires
 string_append-requires c = c.requires.object
 
 pub returns-clause-here : goal.returns-clause-here
-returns-clause-here c = still_of_kind-here c.requires c.string_append.ensures.step refl
+returns-clause-here c = still_of_kind-here c.requires _ _ _ _ c.string_append.ensures.step refl

@@ -32,7 +32,7 @@ pub reserve-requires : goal.reserve-requires
 reserve-requires c = c.requires.object
 
 pub append_piece-requires : goal.append_piece-requires
-append_piece-requires c = still-here c.requires c.reserve.ensures.step refl
+append_piece-requires c = still-here c.requires _ _ c.reserve.ensures.step refl
 
 pub append_piece-in-pieces-requires : goal.append_piece-in-pieces-requires
 append_piece-in-pieces-requires c = c.pieces.invariant.1

@@ -13,4 +13,4 @@ pub texts_push-requires : goal.texts_push-requires
 texts_push-requires c = c.requires.object
 
 pub returns-clause-here : goal.returns-clause-here
-returns-clause-here c = still_of_kind-here c.requires c.texts_push.ensures.step refl
+returns-clause-here c = still_of_kind-here c.requires _ _ _ _ c.texts_push.ensures.step refl

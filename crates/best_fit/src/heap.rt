@@ -147,7 +147,7 @@ impl Heap {
     {
         block_tags::tile_at(&self.gaps.window, handle - TAG)
             .use_of
-            .unwrap_or(Role::Object)
+            .unwrap()
     }
 
     /// The number of bytes that the block of a handle has room for.

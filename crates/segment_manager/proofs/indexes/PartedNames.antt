@@ -4,7 +4,7 @@ use common.{◌≡◌, sym, ap, subst, ◌∙◌, ℕ, ◌<◌, ◌≤◌, ◌�
 use common.{slice_get, slice_get_within, List, slice_cmp, nat_cmp, is_lt, Equal, same_Some, Cut, bytes_of, Entry}
 use common.{Name, Found, Absent, IsPlace, handle, Object, Directory, by_name, named_objects, Denotes, IsEntry, Named}
 use common.{entries_of, current, State}
-use Rattle.segment_manager.proofs.indexes.HeldIndexes.{entries-in, denotes-rises, objects-ascend}
+use Rattle.segment_manager.proofs.indexes.HeldIndexes.{entries-in, objects-ascend}
 use Rattle.segment_manager.proofs.indexes.EntryPlaces.{all-at, ascends-at, at-handle, stands-at}
 use Rattle.segment_manager.proofs.indexes.Indexes.{by_name-strict}
 use Rattle.segment_manager.proofs.Denoted.{handles-length}
@@ -36,7 +36,7 @@ module _ (c : Cut) (d : Directory) (k : Denotes current c.bytes d) (s : Bor (Lis
   pub parts-absent : (at : ℕ) → IsPlace (bytes_of c.bytes) (Name s) (entries_of Named d) (Absent at)
       → PartsNames s.now (named_objects d) at
   parts-absent at p =
-      let each = p.1 (denotes-rises Named c (Name s) k tt) in
+      let each = p.1 in
       record {
         within = omega (arith, p.0, handles-length (named_objects d));
         ahead = λ j o f l. ap is_lt (compared j f ∙ (each j (handle o.extent) (at-handle (named_objects d) j f)).0 l);

@@ -1,12 +1,12 @@
 -- The place that the look-up ends at.
-use Rattle.segment_manager.proofs.Common.{subst, Named}
-use Rattle.segment_manager.proofs.indexes.HeldIndexes.{denotes-keys}
+use Rattle.segment_manager.proofs.Common.{refl, subst, Named}
+use Rattle.segment_manager.proofs.indexes.HeldIndexes.{denotes-sorted_index}
 use Rattle.segment_manager.proofs.indexes.PartedNames.{first-absent, first-found}
 use Rattle.segment_manager.specs.indexes.NamesFrom.{IsFirstFrom}
 use Rattle.segment_manager.proofs.segment.Segment.named_place.Goals as goal
 
 pub lookup-requires : goal.lookup-requires
-lookup-requires c = record { keys = denotes-keys Named c.self.invariant.1.denotes }
+lookup-requires c = record { index = denotes-sorted_index Named c.self.invariant.1.denotes; sort = refl }
 
 pub returns-in-Found : goal.returns-in-Found
 returns-in-Found c = subst (λ t. IsFirstFrom t c.args.text.now c.in-Found.place) c.self.view_is

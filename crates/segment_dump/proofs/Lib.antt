@@ -53,5 +53,3 @@ mod NoteLines
 mod PlaceNotes
 mod NoteLaws
 mod SaidSizes
-mod HereObjects
-mod FrontPlaces

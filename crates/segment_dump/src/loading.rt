@@ -68,8 +68,10 @@ fn load_lines(
 {
     let counted = count_dump(text);
     if let Some(cause) = refusal_of(counted, &region, base, size, room.len()) {
-        let region = Some(region);
-        return Err(LoadRefused { region, cause });
+        return Err(LoadRefused {
+            region: Some(region),
+            cause,
+        });
     }
     make(text, counted, room, region, base, size)
 }

@@ -8,7 +8,6 @@ use crate::locks::lock;
 use crate::outlet::Outlet;
 use crate::presence::{InUse, Making, Presence, Trouble};
 use crate::sparse::SparseFile;
-use crate::troubles::{making_trouble, trouble_of};
 use raw_region::stream::Reading;
 use raw_region::{DeviceFault, fill};
 use std::fs::{self, File, OpenFile};
@@ -48,6 +47,16 @@ impl<'a, R: Files> HostDisk<'a, R> {
     /// written.
     pub fn trouble(&self) -> Option<Trouble> {
         self.trouble
+    }
+}
+
+/// What an error of the system says of a file.
+fn trouble_of(error: &io::Error) -> Option<Trouble> {
+    match error.kind() {
+        ErrorKind::NotFound => Some(Trouble::Missing),
+        ErrorKind::IsADirectory => Some(Trouble::Folder),
+        ErrorKind::PermissionDenied => Some(Trouble::Denied),
+        _ => None,
     }
 }
 
@@ -133,7 +142,7 @@ impl<'a, R: Files<File = File> + AllocGlobal> Disk for HostDisk<'a, R> {
                 Ok(Opened { reader, len, front })
             }
             Err(error) => {
-                self.trouble = trouble_of(error.kind());
+                self.trouble = trouble_of(&error);
                 Err(DeviceFault)
             }
         }
@@ -148,7 +157,10 @@ impl<'a, R: Files<File = File> + AllocGlobal> Disk for HostDisk<'a, R> {
                 Ok(Outlet::new(SparseFile::new(file)))
             }
             Err(error) => {
-                self.trouble = making_trouble(error.kind(), path, how);
+                self.trouble = match trouble_of(&error) {
+                    Some(Trouble::Missing) => Some(Trouble::Homeless),
+                    trouble => trouble,
+                };
                 Err(DeviceFault)
             }
         }

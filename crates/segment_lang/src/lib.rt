@@ -36,7 +36,7 @@ pub use commands::{Command, Content, Lead, Reading};
 pub use errors::{put_line_error, put_refusal};
 pub use forms::{CommandForm, read_command};
 pub use kinds::kind_of_word;
-pub use line::{LONGEST_LINE, lead_of, parse_line};
+pub use line::{LONGEST_LINE, lead_of, parse_line, without_return};
 pub use lists::{Literals, Texts};
 pub use literals::{Literal, literal_of, scalar_of, value_of};
 pub use numbers::{WholeNumber, number_of, whole_of};

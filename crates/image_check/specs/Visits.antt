@@ -1,5 +1,8 @@
 -- How often an image is looked at while it is checked: so often for each 16 bytes of a tile, by what the tile is for.
-use Rattle.std.specs.Prelude.{ℕ, ◌≤◌, ◌+◌, ◌*◌, ◌/◌, Option, Some, None, List, [], ◌∷◌}
+use Rattle.std.specs.Prelude.{ℕ, ◌≤◌, ◌+◌, ◌*◌, ◌/◌, ◌&&◌, ◌==◌, not, nat_le, if◌then◌else◌, is_some, Option, Some, None, List, [], ◌∷◌}
+use Rattle.raw_region.specs.Memory.{Memory, word_at}
+use Rattle.offset_link.specs.Link.{link_at}
+use Rattle.image_check.specs.ObjectTests.{index_capacity}
 use Rattle.block_tags.specs.declared.tile.Role.{Role}
 use Rattle.block_tags.specs.declared.tile.Role.TheVariants.{Object, Index, Storage, Node}
 use Rattle.block_tags.specs.declared.tile.Tile.{Tile}
@@ -7,6 +10,11 @@ use Rattle.block_tags.specs.declared.tile.Tile.{Tile}
 -- so many visits more at most
 abbrev pub Adds : ℕ → ℕ → ℕ → Type 0
 Adds n old new = (old ≤ new) × (new ≤ old + n)
+
+-- the look-up of the block of an index, where it has places and no more entries
+abbrev pub places_visits : Memory → ℕ → ℕ
+places_visits m at =
+    if nat_le (word_at m (at + 8)) (index_capacity m at) && (not (index_capacity m at == 0) && is_some (link_at m at)) then 1 else 0
 
 -- so often for each 16 bytes of a gap, and of a block in use by its role
 pub record Rates : Type 0 where
@@ -78,3 +86,7 @@ block_rates = both index_rates (both object_rates (both sharing_rates (both cont
 
 abbrev pub all_rates : Rates
 all_rates = both frame_rates (both gathering_rates block_rates)
+
+-- and the noting of the blocks of which a segment is made
+abbrev pub note_rates : Rates
+note_rates = record { free = 0; object = 1; index = 1; storage = 1; node = 1 }

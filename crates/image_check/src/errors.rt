@@ -19,7 +19,7 @@ pub enum OpenError {
     RegionTooSmall,
     /// Memory for the check of the image was refused.
     #[error("out of memory")]
-    OutOfMemory,
+    OutOfMemory(NoMemory),
     /// The reader failed before the bytes that it gave decided a class.
     #[error("read fault")]
     ReadFault,
@@ -84,7 +84,7 @@ impl CheckError {
     {
         match self {
             CheckError::Class(class) => OpenError::Image(class),
-            CheckError::NoMemory(_) => OpenError::OutOfMemory,
+            CheckError::NoMemory(refusal) => OpenError::OutOfMemory(refusal),
         }
     }
 }

@@ -8,7 +8,7 @@ ghost use Rattle.image_check.specs.declared.classes.ImageClass.TheVariants.{BadI
 ghost use Rattle.image_check.specs.ObjectTests.{has_indexes, index_capacity, is_table_link, targets};
 ghost use Rattle.image_check.specs.Owners.{AreBlocks, IsIndexPlace, IsMarking, IsUnmarked, entries_of};
 ghost use Rattle.image_check.specs.Passes.{HasTiles, Finds, Spends, tiles_in};
-ghost use Rattle.image_check.specs.Visits.{Adds, index_rates, weigh};
+ghost use Rattle.image_check.specs.Visits.{Adds, index_rates, places_visits, weigh};
 ghost use Rattle.image_check.specs.Entered.{AreAdded, AreEntered, are_enterable, is_enterable, links_in};
 
 use crate::checking::Visits;
@@ -81,16 +81,17 @@ fn enter_index(window: &ImageWindow, owners: &mut Owners, visits: &mut Visits, a
     }
 }
 
-/// Whether the index has no more entries than places, and a block with room for its places where it has any.
+/// Whether the index has no more entries than places, and a block with room for its places where it has any. One visit
+/// where a block is looked for.
 fn has_places(window: &ImageWindow, blocks: &Blocks, visits: &mut Visits, at: u64) -> bool
     requires tiles { HasTiles window.now.bytes }
     requires place { IsIndexPlace at }
     requires blocks { AreBlocks (tiles_in window.now.bytes) blocks.now.entries }
     ensures is { result ≡ (nat_le (word_at (bytes_of window.now.bytes) (at + 8)) (index_capacity (bytes_of window.now.bytes) at)
         && is_table_link (tiles_in window.now.bytes) Index (link_at (bytes_of window.now.bytes) at) 8 (index_capacity (bytes_of window.now.bytes) at)) }
-    ensures spends { Adds 2 visits.old visits.new }
+    ensures spends { Adds 1 visits.old visits.new }
+    ensures counted { visits.new ≡ visits.old + places_visits (bytes_of window.now.bytes) at }
 {
-    visits.visit();
     let capacity = window.header_word(at + 16);
     if window.header_word(at + 8) > capacity {
         return false;

@@ -5,14 +5,12 @@ ghost use Rattle.image_check.specs.Opening.{AsksToTheEnd, IsRaisedFor, cause_of,
 ghost use Rattle.image_check.specs.OpeningAny.{OpensAny};
 ghost use Rattle.image_check.specs.Passes.{CountsTiles};
 
-use crate::checking::check;
+use crate::checking::check_noting;
 use crate::errors::OpenRefused;
 use crate::header::FRONT;
 use crate::reading::read_image;
-use crate::renewing::renew;
 use crate::versions::{Versions, version_in};
 use raw_region::{RawRegion, Source, Steps};
-use segment_manager::conditioned::adopt;
 use segment_manager::{Mode, Segment};
 use std::alloc::Global;
 
@@ -47,8 +45,8 @@ pub fn open_any<S: Source>(
 {
     let window = read_image(Versions::All, reader, region, base)?;
     let format = version_in(window.header(0, FRONT as u64));
-    match check(format, alloc, &window, steps) {
-        Ok(()) => Ok(adopt(renew(format, window.into_window()), mode)),
+    match check_noting(format, alloc, &window, steps) {
+        Ok(points) => Ok(window.into_segment(format, points, mode)),
         Err(why) => Err(OpenRefused {
             region: window.into_region(),
             cause: why.into_cause(),

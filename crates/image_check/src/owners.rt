@@ -1,6 +1,6 @@
 //! The owners of the blocks in use: by the payload of each its role, its length, and the link that was met to lead to
 //! it.
-ghost use Rattle.std.specs.Prelude.{◌≡◌, ◌+◌, ◌≤◌, List, Some, option_map};
+ghost use Rattle.std.specs.Prelude.{◌≡◌, ◌+◌, ◌≤◌, List, Some, if◌then◌else◌, is_some, option_map};
 ghost use Rattle.block_tags.specs.declared.tile.Tile.{Tile};
 ghost use Rattle.best_fit.specs.Table.{same_role};
 ghost use Rattle.block_tags.specs.declared.tile.Role.TheVariants.{Object};
@@ -79,7 +79,7 @@ pub(crate) fn tile_of(payload: u32, block: Block) -> Tile
     }
 }
 
-/// How long the tile is that the link is good for, with its tag. At most one visit.
+/// How long the tile is that the link is good for, with its tag. One visit where the link leads anywhere.
 pub(crate) fn good_len(
     blocks: &Blocks,
     role: Role,
@@ -88,6 +88,7 @@ pub(crate) fn good_len(
 ) -> Option<u64>
     ensures value { (ts : List Tile) → AreBlocks ts blocks.now.entries → result ≡ option_map (λ (t : Tile). t.len) (good_for ts role link) }
     ensures visits { Adds 1 visits.old visits.new }
+    ensures counted { visits.new ≡ visits.old + (if is_some link then 1 else 0) }
 {
     let target = link?;
     match blocks.block_of(target, visits) {

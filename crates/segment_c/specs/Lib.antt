@@ -6,8 +6,11 @@ pub mod Growing
 pub mod Held
 pub mod Images
 pub mod Lists
+pub mod Lending
+pub mod Marked
 pub mod Opening
 pub mod Passed
 pub mod Reads
 pub mod Resizing
+pub mod Views
 pub mod Words

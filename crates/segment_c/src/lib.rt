@@ -10,6 +10,7 @@ mod elements;
 mod handle;
 mod images;
 mod keys;
+mod lending;
 mod lists;
 mod maps;
 mod objects;
@@ -21,6 +22,7 @@ mod storage;
 mod strings;
 mod values;
 mod vectors;
+mod views;
 mod words;
 
 pub use handle::Handle;

@@ -5,4 +5,5 @@ mod RangeLists
 mod RangeObjects
 mod RangeReads
 mod RangeRows
+mod RangeRuns
 mod RangeWrites

@@ -10,11 +10,13 @@ use Rattle.seg_types.specs.Kinds.{same_kind}
 use Rattle.seg_types.specs.Names.{Key, ByHandle}
 use Rattle.segment_manager.specs.declared.modes.Mode.{Mode}
 use Rattle.segment_manager.specs.declared.objects.targets.Object.{Object as Located}
+use Rattle.segment_manager.specs.declared.containers.element_runs.ElementRun.{ElementRun}
 use Rattle.segment_manager.specs.Answers.{Answer, Done, Refused}
+use Rattle.segment_manager.specs.containers.ElementRuns.{IsRunOf, run_at}
 use Rattle.segment_manager.specs.Directory.{Directory, Value, kind_of, object_at}
 use Rattle.segment_manager.specs.objects.ElementLists.{list_at, numbers_in}
 use Rattle.segment_manager.specs.objects.Located.{IsObject}
-use Rattle.segment_manager.specs.State.{Moves, State, StandsFor, Stays}
+use Rattle.segment_manager.specs.State.{Answers, Moves, State, StandsFor, Stays}
 use Rattle.segment_manager.specs.Step.{changed, is_read_only, with_items}
 
 -- ---- reading
@@ -35,6 +37,11 @@ row_of o d = list_at numbers_in d (ByHandle o.handle) o.kind
 abbrev pub element_of : {A : Type 0} → (A → ℤ) → Result A Refusal → Option ℤ
 element_of whole (Ok a) = Some (whole a)
 element_of whole (Err why) = None
+
+-- a run is where the elements of an object that was located stand in the image
+pub record HasRun (s : State) (o : Located) (run : ElementRun) : Type 0 where
+  pub place : Answers s (λ d. run_at d (ByHandle o.handle)) (Ok run)
+  pub bytes : IsRunOf s (ByHandle o.handle) run
 
 -- so many of a list, from a place on, where it has so many there
 abbrev pub range_of : List ℤ → ℕ → ℕ → Result (List ℤ) Refusal

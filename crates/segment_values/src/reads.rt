@@ -7,10 +7,11 @@ ghost use Rattle.segment_manager.specs.Directory.{Directory};
 ghost use Rattle.segment_manager.specs.objects.ElementLists.{number_or_none as number_of};
 ghost use Rattle.segment_manager.specs.objects.Located.{IsLocated, IsObject};
 ghost use Rattle.segment_manager.specs.State.{Answers, StandsFor};
-ghost use Rattle.segment_values.specs.Ranges.{element_of, is_row, range_at, read_into, row_of};
+ghost use Rattle.segment_values.specs.Ranges.{HasRun, is_row, range_at, read_into, row_of};
 
+use seg_types::theorems::scalar_is_number;
 use seg_types::{Key, Kind, Refusal, Scalar};
-use segment_manager::{Object, Segment, locate};
+use segment_manager::{ElementRun, Object, Segment, locate};
 
 /// Copies elements of the object of a key into a row: as many as the row has, from `first` on. The object is an array
 /// of scalars of the type, or a vector of them.
@@ -46,10 +47,14 @@ fn read_object<T: Scalar>(
     if !is_row::<T>(object.kind) {
         return Err(Refusal::WrongKind);
     }
-    if !has_range(len_of::<T>(segment, object), first, row.len() as u64) {
+    let Ok(run) = segment.element_run(object) else {
+        // it is none of these
+        return Err(Refusal::WrongKind);
+    };
+    if !has_range(run.count, first, row.len() as u64) {
         return Err(Refusal::OutOfRange);
     }
-    copy_row(segment, object, first, row);
+    copy_row(segment, object, &run, first, row);
     Ok(())
 }
 
@@ -72,43 +77,49 @@ pub(crate) fn len_of<T: Scalar>(segment: &Segment, object: &Object) -> u64
     }
 }
 
-/// Copies elements of an object that has so many.
-fn copy_row<T: Scalar>(segment: &Segment, object: &Object, first: u64, row: &mut [T])
-    requires object { IsObject object.now segment.now }
+/// Copies elements of an object that has so many, from where they stand in the image.
+fn copy_row<T: Scalar>(
+    segment: &Segment,
+    object: &Object,
+    run: &ElementRun,
+    first: u64,
+    row: &mut [T],
+)
+    requires object { IsLocated segment.now (ByHandle object.now.handle) object.now }
     requires kind { is_row T.kind object.now.kind ≡ true }
-    requires fits { first + length row.old < 2 ^ 64 }
-    requires there { (d : Directory) → StandsFor segment.now.cut.bytes d
-        → first + length row.old ≤ length (row_of object.now d) }
+    requires run { HasRun segment.now object.now run.now }
+    requires there { first + length row.old ≤ run.now.count }
     ensures { (d : Directory) → StandsFor segment.now.cut.bytes d
         → map T.whole row.new ≡ take (length row.old) (drop first (row_of object.now d)) }
 {
+    let image = segment.as_bytes();
     'elements: for i in 0..row.len() {
-        row[i] = element_or(segment, object, first + i as u64, row[i]);
+        row[i] = element_or(segment, object, image, run, first + i as u64, row[i]);
     }
 }
 
-/// The element at `index` of such an object; or another value, where it has none.
-fn element_or<T: Scalar>(segment: &Segment, object: &Object, index: u64, other: T) -> T
-    requires object { IsObject object.now segment.now }
+/// The element at `index` of such an object, from the image; or another value, where its bytes say none.
+fn element_or<T: Scalar>(
+    segment: &Segment,
+    object: &Object,
+    image: &[u8],
+    run: &ElementRun,
+    index: u64,
+    other: T,
+) -> T
+    requires object { IsLocated segment.now (ByHandle object.now.handle) object.now }
     requires kind { is_row T.kind object.now.kind ≡ true }
+    requires image { image.now ≡ segment.now.cut.bytes }
+    requires run { HasRun segment.now object.now run.now }
+    requires same { run.now.kind ≡ T.kind }
+    requires there { index < run.now.count }
     ensures { (d : Directory) → StandsFor segment.now.cut.bytes d → index < length (row_of object.now d)
         → slice_get (row_of object.now d) index ≡ Some (T.whole result) }
 {
-    match element(segment, object, index) {
-        Ok(value) => value,
-        Err(_) => other,
-    }
-}
-
-/// The element at `index` of such an object.
-fn element<T: Scalar>(segment: &Segment, object: &Object, index: u64) -> Result<T, Refusal>
-    requires object { IsObject object.now segment.now }
-    requires kind { is_row T.kind object.now.kind ≡ true }
-    ensures { Answers segment.now (λ d. slice_get (row_of object.now d) index) (element_of T.whole result) }
-{
-    match object.kind {
-        Kind::Vector(_) => segment.vec_get::<T, Object>(object, index),
-        _ => segment.get::<T, Object>(object, index),
+    let at = (run.offset + T::SIZE * index) as usize;
+    match scalar_is_number::<T>(&image[at..at + T::SIZE as usize]) {
+        Some(value) => value,
+        None => other,
     }
 }
 

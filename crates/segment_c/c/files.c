@@ -422,32 +422,43 @@ static zx_code map(zx_file *file, struct zx_held_file *held, uint32_t how) {
     return ZX_DONE;
 }
 
-/* Ends the mapping; what the segment has given up at its end, the file gives up too. */
-static void unmap(zx_file *file, struct zx_held_file *held) {
-    uint64_t size;
-    bool is_shorter = !held->is_read && zx_size(&file->segment, &size) == ZX_DONE && size < held->len;
-    zx_close(&file->segment);
-    if (held->owner == getpid()) munmap(held->at, held->len);
-    if (is_shorter && ftruncate(held->file, (off_t)size) != 0) return;
+/* Makes the file just as long as its image. */
+static bool cut(int file, uint64_t size) {
+    struct stat found;
+    return fstat(file, &found) == 0 && ((uint64_t)found.st_size == size || ftruncate(file, (off_t)size) == 0);
 }
 
-/* Makes file and mapping as long as is wanted, around an image that fits into both. It stays open, unless memory ends. */
+/* Ends the mapping. A file that could not be cut before is tried once more. */
+static void unmap(zx_file *file, struct zx_held_file *held) {
+    uint64_t size;
+    bool is_written = !held->is_read && zx_size(&file->segment, &size) == ZX_DONE;
+    zx_close(&file->segment);
+    if (held->owner != getpid()) return;
+    munmap(held->at, held->len);
+    if (is_written && !cut(held->file, size)) cut(held->file, size);
+}
+
+/* Makes the mapping as long as is wanted, around an image that fits into it, and the file too. The segment stays
+   open, unless memory ends. */
 static zx_code remap(zx_file *file, struct zx_held_file *held, uint64_t size, uint64_t wanted) {
     zx_memory memory;
-    int error = 0;
-    if (wanted > held->len && !allot(held->file, wanted)) return fault(file);
+    if (wanted > held->len && !allot(held->file, wanted)) {
+        zx_code code = fault(file);
+        cut(held->file, size);
+        return code;
+    }
     zx_detach(&file->segment, &memory);
     void *at = mremap(held->at, held->len, wanted, MREMAP_MAYMOVE);
-    if (at == MAP_FAILED) {
-        error = errno;
-        wanted = held->len;
-    } else {
+    bool is_done = at != MAP_FAILED;
+    int error = errno;
+    if (is_done) {
         held->at = at;
         held->len = wanted;
     }
-    if (ftruncate(held->file, (off_t)wanted) != 0 && error == 0) error = errno;
     zx_code code = attach(file, held, size, ZX_WRITE);
-    return code == ZX_DONE && error != 0 ? faulty(file, ZX_FILE_FAULT, error) : code;
+    if (code == ZX_DONE && !is_done) code = faulty(file, ZX_FILE_FAULT, error);
+    if ((code != ZX_DONE || wanted == size) && !cut(held->file, size) && code == ZX_DONE) code = fault(file);
+    return code;
 }
 
 zx_code zx_file_grow(zx_file *file, uint64_t extra) {
@@ -458,6 +469,7 @@ zx_code zx_file_grow(zx_file *file, uint64_t extra) {
     if (code != ZX_SHORT_REGION || !held || !held->mapped) return code;
     if (held->is_read) return ZX_SHORT_REGION;
     code = zx_size(&file->segment, &size);
+    if (code == ZX_DONE && extra > LARGEST - size) return ZX_TOO_LARGE;
     if (code == ZX_DONE) code = remap(file, held, size, size + extra);
     return code == ZX_DONE ? zx_grow(&file->segment, extra) : code;
 }

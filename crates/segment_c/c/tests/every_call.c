@@ -805,6 +805,13 @@ static void files(void) {
     DONE(zx_get(&file.segment, &a, 0, &got));
     IS(got.number, 5);
     zx_file_discard(&file);
+    DONE(zx_file_open(&file, other, ZX_OPEN_ONLY | ZX_MAPPED, 0));
+    DONE(zx_file_grow(&file, 1024));
+    DONE(zx_get(&file.segment, &a, 0, &got));
+    IS(got.number, 5);
+    DONE(zx_file_shrink(&file));
+    DONE(zx_file_flush(&file));
+    DONE(zx_file_close(&file));
     IS(zx_file_open(&file, folder, ZX_OPEN_ONLY, 0), ZX_FILE_FOLDER);
     zx_file_words(ZX_FILE_FOLDER, &text);
     TEXT(text.at, text.len, "is a folder");

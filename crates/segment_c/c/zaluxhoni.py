@@ -807,9 +807,12 @@ class Segment(collections.abc.MutableMapping):
         file = getattr(self, "_file", None)
         if file is None or not (self.is_open or file.held):
             return
-        if file.held and not self._is_mapped and self._process == os.getpid():
-            warnings.warn(f"a segment of {self._path!r} was not closed, and is not saved", ResourceWarning, source=self)
-        _zx.zx_file_discard(file)
+        try:
+            if file.held and not self._is_mapped and self._process == os.getpid():
+                said = f"a segment of {self._path!r} was not closed, and is not saved"
+                warnings.warn(said, ResourceWarning, source=self)
+        finally:
+            _zx.zx_file_discard(file)
 
     def __reduce_ex__(self, _):
         raise WrongKind("a segment is not copied: load(segment.image()) makes another one")

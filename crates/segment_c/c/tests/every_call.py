@@ -718,7 +718,14 @@ def a_process_that_forks():
     same(forked(lambda: (s.discard(), os.path.exists(path))[1]), "True")
     same(forked(lambda: name_of_error(lambda: zaluxhoni.open(path, "w"))), "FileInUse")
     s.close()
-    same(forked(lambda: zaluxhoni.open(path, "w")["a"]), "5")
+
+    def add():
+        with zaluxhoni.open(path, "w") as own:
+            own["a"] += 1
+            return own["a"]
+
+    same(forked(add), "6")
+    same(add(), 7)
 
 
 def a_relative_path():

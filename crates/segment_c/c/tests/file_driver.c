@@ -7,7 +7,7 @@
    `fork` runs commands in a child, on the files that are open, and prints what they answer in one line; `sleeper`
    forks a child that sleeps; `nobody` gives up the rights of root. With a second word, `loop` or `loop-one`, the
    program adds 1 to the number of the file, by a zx_file for each time or by one, until it is killed, and prints each
-   number that is saved. */
+   number that is saved; with `make` it creates files. */
 #define _GNU_SOURCE
 #include "zaluxhoni_files.h"
 
@@ -168,11 +168,29 @@ static void loop(bool by_one_file) {
     }
 }
 
+/* Creates files for ever, FILE with a number behind; each has that number, which is printed when it is closed. */
+static void make(void) {
+    char each[600];
+    zx_file *file = &files[0];
+    for (int64_t i = 1;; i++) {
+        snprintf(each, sizeof each, "%s%" PRId64, path, i);
+        zx_code code = zx_file_open(file, each, ZX_CREATE_ONLY, 65536);
+        if (code == ZX_DONE) code = set(file, i);
+        if (code == ZX_DONE) code = zx_file_close(file);
+        if (code == ZX_DONE)
+            printf("%" PRId64 "\n", i);
+        else
+            printf("WRONG %s\n", word(code, file->error));
+        fflush(stdout);
+    }
+}
+
 int main(int count, char **words) {
     char line[4096], said[4096];
     prctl(PR_SET_PDEATHSIG, SIGKILL);
     signal(SIGXFSZ, SIG_IGN);
     path = words[1];
+    if (count > 2 && strcmp(words[2], "make") == 0) make();
     if (count > 2) loop(strcmp(words[2], "loop-one") == 0);
     while (fgets(line, sizeof line, stdin)) {
         line[strcspn(line, "\n")] = 0;

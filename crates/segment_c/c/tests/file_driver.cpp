@@ -199,10 +199,28 @@ static void loop(bool by_one_file) {
     }
 }
 
+/// Creates files for ever, FILE with a number behind; each has that number, which is printed when it is closed.
+static void make() {
+    for (std::int64_t i = 1;; i++) {
+        const std::string said = word_of([&] {
+            segment file = opened(path + std::to_string(i), "create_only", 65536);
+            set(file, i);
+#ifdef ZALUXHONI_FILES_H
+            file.close_file();
+#else
+            file.save_file(path + std::to_string(i));
+#endif
+            return std::to_string(i);
+        });
+        std::cout << (said == std::to_string(i) ? said : "WRONG " + said) << std::endl;
+    }
+}
+
 int main(int count, char **words) {
     prctl(PR_SET_PDEATHSIG, SIGKILL);
     std::signal(SIGXFSZ, SIG_IGN);
     path = words[1];
+    if (count > 2 && std::strcmp(words[2], "make") == 0) make();
     if (count > 2) loop(std::strcmp(words[2], "loop-one") == 0);
     std::string line;
     while (std::getline(std::cin, line)) std::cout << answer(line) << std::endl;

@@ -112,6 +112,19 @@ def loop(path, by_one_file, said):
         os.write(said, b"%d\n" % number)
 
 
+def make(path, said):
+    """Creates files for ever, FILE with a number behind; each has that number, which is written when it is closed."""
+    number = 0
+    while True:
+        number += 1
+        try:
+            with zaluxhoni.open(f"{path}{number}", "x", size=65536) as segment:
+                segment["n"] = number
+        except (zaluxhoni.Error, OSError) as error:
+            os.write(said, f"WRONG {word_of(error)}\n".encode())
+        os.write(said, b"%d\n" % number)
+
+
 def main():
     warnings.simplefilter("ignore", ResourceWarning)
     signal.signal(signal.SIGXFSZ, signal.SIG_IGN)

@@ -4,6 +4,7 @@ It kills COUNT of them, and stops earlier after so many seconds, if they are not
 names, add 1 to the number of one file, for ever; it kills one of them, or both, and starts others in their place. A
 name is that of a language, with its file_driver, or `program`. It checks that
 - after each kill the file is a segment;
+- each file that is created is whole, and nothing is beside it;
 - no two saves say the same number, and the file never has a smaller number than was said;
 - whoever is not killed goes on;
 - nothing else is in the folder after the file was opened for writing once more."""
@@ -25,15 +26,16 @@ WAIT = 20
 class Saver:
     """A process that adds 1 to the number of a file, again and again, and says each number that it saved."""
 
-    def __init__(self, name, command, path, by_one_file):
+    def __init__(self, name, command, path, word):
         self.name, ends = name, os.pipe()
-        self.said, self.rest, self.last = ends[0], b"", 0
-        if name == "python":
-            self.pid = self.forked(lambda: file_driver.loop(path, by_one_file, ends[1]))
+        self.said, self.rest = ends[0], b""
+        if name == "python" and word == "make":
+            self.pid = self.forked(lambda: file_driver.make(path, ends[1]))
+        elif name == "python":
+            self.pid = self.forked(lambda: file_driver.loop(path, word == "loop-one", ends[1]))
         elif name == "program":
             self.pid = self.forked(lambda: run_program(command, path, ends[1]))
         else:
-            word = "loop-one" if by_one_file else "loop"
             self.pid = os.posix_spawn(shlex.split(command)[0], [*shlex.split(command), path, word], os.environ,
                                       file_actions=[(os.POSIX_SPAWN_DUP2, ends[1], 1)], setpgroup=0)
         os.close(ends[1])
@@ -69,8 +71,10 @@ class Saver:
         return lines
 
     def kill(self):
-        os.killpg(self.pid, signal.SIGKILL)
-        os.waitpid(self.pid, 0)
+        if self.pid is not None:
+            os.killpg(self.pid, signal.SIGKILL)
+            os.waitpid(self.pid, 0)
+            self.pid = None
 
     def end(self):
         os.close(self.said)
@@ -109,10 +113,11 @@ class Round:
         self.most, self.seen, self.savers, self.kills = 0, set(), [], 0
         with zaluxhoni.open(self.path, "x", size=262144) as made:
             made["n"] = 0
-            made["filling"] = "".join(random.choice("abcdefgh") for _ in range(100000))
+            made["filling"] = os.urandom(50000).hex()
 
     def start(self, name):
-        self.savers.append(Saver(name, self.commands[name], self.path, random.random() < 0.3))
+        word = "loop-one" if random.random() < 0.3 else "loop"
+        self.savers.append(Saver(name, self.commands[name], self.path, word))
 
     def hear(self, saver):
         for line in saver.numbers():
@@ -171,6 +176,27 @@ class Round:
             raise Wrong(f"there is {beside} beside the file")
 
 
+def kill_maker(folder, name, command):
+    """Kills one that creates files: each file is whole, and those that it said have their number."""
+    maker = Saver(name, command, os.path.join(folder, "made"), "make")
+    time.sleep(random.random() * 0.03)
+    maker.kill()
+    said = {int(line) for line in maker.numbers()}
+    maker.end()
+    for each in os.listdir(folder):
+        # what was left beside one of them goes when that is opened for writing
+        if each.startswith("made"):
+            zaluxhoni.open(os.path.join(folder, each), "w").close()
+    for each in os.listdir(folder):
+        if not each.startswith("made"):
+            raise Wrong(f"there is {each} beside the files")
+        with zaluxhoni.open(os.path.join(folder, each), "r") as opened:
+            number = file_driver.get(opened)
+        if number != int(each[4:]) and (number != 0 or int(each[4:]) in said):
+            raise Wrong(f"{each} has {number}")
+        os.remove(os.path.join(folder, each))
+
+
 def main():
     folder, count, seconds, *named = sys.argv[1:]
     commands = dict(each.split("=", 1) for each in named)
@@ -195,6 +221,11 @@ def main():
                 for name in names:
                     each.start(name)
             each.end()
+            for name in set(pair) - {"program"}:
+                os.mkdir(os.path.join(place, "made"))
+                kill_maker(os.path.join(place, "made"), name, commands[name])
+                os.rmdir(os.path.join(place, "made"))
+                each.kills += 1
         except (Wrong, zaluxhoni.Error, OSError) as error:
             print(f"WRONG {pair[0]} and {pair[1]}, in {place}: {error}")
             for saver in each.savers:

@@ -355,6 +355,20 @@ A2 get: 6
 A2 discard: ok
 left file
 
+= two of one process that create one file
+A open open_or_create 1024: ok
+A2 open open_or_create 1024: in_use
+A2 open create_only 1024: exists
+A2 open open_read_only 0: ok
+A2 get: 0
+A2 discard: ok
+A set 5: ok
+A close: ok
+A2 open open_or_create 1024: ok
+A2 get: 5
+A2 discard: ok
+left file
+
 = another file is not written over, and this one is saved by a new name
 do seed 5
 do seed 50 other

@@ -4,6 +4,7 @@
 
 #include <errno.h>
 #include <fcntl.h>
+#include <inttypes.h>
 #include <pthread.h>
 #include <stdio.h>
 #include <stdlib.h>
@@ -255,15 +256,24 @@ static int make(int folder, const char *name, const struct image *image, const s
     return closed_with(made, error);
 }
 
-/* The name of the file that will replace a file: only who holds that one uses it. */
-static void spare_name(char name[40], const struct stat *old) {
-    snprintf(name, 40, ".zaluxhoni-%llx", (unsigned long long)old->st_ino);
+/* The name of the file that will replace the one of a name, made of that name (FNV-1a): only who holds the file that
+   the name leads to uses it. */
+static void spare_name(char spare[40], const char *name) {
+    uint64_t hash = 0xcbf29ce484222325;
+    for (; *name; name++) hash = (hash ^ (unsigned char)*name) * 0x100000001b3;
+    snprintf(spare, 40, ".zaluxhoni-%016" PRIx64, hash);
 }
 
 /* ---- what exists at a path */
 
 static bool is_same(const struct stat *one, const struct stat *other) {
     return one->st_dev == other->st_dev && one->st_ino == other->st_ino;
+}
+
+/* Whether a name leads to a file. */
+static bool leads_to(int folder, const char *name, const struct stat *file) {
+    struct stat named;
+    return fstatat(folder, name, &named, AT_SYMLINK_NOFOLLOW) == 0 && is_same(&named, file);
 }
 
 /* Whether it can be a segment's file. */
@@ -314,7 +324,7 @@ static zx_code find(zx_file *file, const char *path, struct zx_held_file **found
 
 /* Opens and locks the file of a name that was found. AGAIN if the name meanwhile leads to another one. */
 static zx_code lock(zx_file *file, struct zx_held_file *held) {
-    struct stat named, opened;
+    struct stat opened;
     int how = held->is_read ? O_RDONLY : O_RDWR;
     held->file = openat(held->folder, held->name, how | O_NOFOLLOW | O_NONBLOCK | O_NOCTTY | O_CLOEXEC);
     if (held->file < 0) return errno == ENOENT || errno == ELOOP ? (zx_code)AGAIN : fault(file);
@@ -324,10 +334,10 @@ static zx_code lock(zx_file *file, struct zx_held_file *held) {
     // a file system without locks refuses nobody
     how = held->is_read ? LOCK_SH : LOCK_EX;
     if (flock(held->file, how | LOCK_NB) != 0 && errno == EWOULDBLOCK) return faulty(file, ZX_FILE_IN_USE, errno);
-    if (fstatat(held->folder, held->name, &named, AT_SYMLINK_NOFOLLOW) != 0 || !is_same(&named, &opened)) return AGAIN;
+    if (!leads_to(held->folder, held->name, &opened)) return AGAIN;
     // what one that was killed left beside it
     char spare[40];
-    spare_name(spare, &opened);
+    spare_name(spare, held->name);
     if (!held->is_read) unlinkat(held->folder, spare, 0);
     return ZX_DONE;
 }
@@ -561,15 +571,17 @@ zx_code zx_file_open(zx_file *file, const char *path, uint32_t mode, uint64_t si
 
 /* Puts a new file with the image in the place of the one that is held. */
 static zx_code replace(zx_file *file, struct zx_held_file *held, const struct image *image) {
-    struct stat old, named;
+    struct stat old;
     char spare[40];
     if (fstat(held->file, &old) != 0) return fault(file);
-    spare_name(spare, &old);
+    // another may hold what stands there now, and the spare name with it
+    if (!leads_to(held->folder, held->name, &old)) return faulty(file, ZX_FILE_REPLACED, ESTALE);
+    spare_name(spare, held->name);
     unlinkat(held->folder, spare, 0);
     int made = make(held->folder, spare, image, &old);
     if (made < 0) return fault(file);
     zx_code code = ZX_DONE;
-    if (fstatat(held->folder, held->name, &named, AT_SYMLINK_NOFOLLOW) != 0 || !is_same(&named, &old))
+    if (!leads_to(held->folder, held->name, &old))
         code = faulty(file, ZX_FILE_REPLACED, ESTALE);
     else if (renameat(held->folder, spare, held->folder, held->name) != 0)
         code = fault(file);
@@ -670,14 +682,14 @@ zx_code zx_file_close(zx_file *file) {
 
 void zx_file_discard(zx_file *file) {
     struct zx_held_file *held = file->held;
-    struct stat named, own;
+    struct stat own;
     file->error = 0;
     file->held = NULL;
     if (held && held->mapped) unmap(file, held);
     zx_close(&file->segment);
     if (!held) return;
     if (held->is_new && held->owner == getpid() && fstat(held->file, &own) == 0 &&
-        fstatat(held->folder, held->name, &named, AT_SYMLINK_NOFOLLOW) == 0 && is_same(&named, &own))
+        leads_to(held->folder, held->name, &own))
         unlinkat(held->folder, held->name, 0);
     release(held);
 }

@@ -45,6 +45,8 @@ static __thread const char *failed;
 static mode_t wanted_rights;
 /* A path under which nothing stands while bytes are written. */
 static __thread const char *absent;
+/* A file, and another whose place it takes when the next one gets its name. */
+static __thread const char *const *swapped;
 /* Whether stat takes a pipe for a file, as where one is put in the place of the other meanwhile. */
 static bool is_blind;
 
@@ -123,6 +125,7 @@ int __wrap_linkat(int from, const char *one, int to, const char *other, int flag
 int __wrap_linkat(int from, const char *one, int to, const char *other, int flags) {
     if (lacks == NO_NAMING || (lacks == NO_PROC && one[0])) return errno = ENOENT, -1;
     if (way == AT_ONCE && fails("linkat", EIO)) return -1;
+    if (swapped) rename(swapped[0], swapped[1]);
     return __real_linkat(from, one, to, other, flags);
 }
 
@@ -506,6 +509,27 @@ static void a_child_by_the_system_call(void) {
     waitpid(child, NULL, 0);
 }
 
+/* A file that is put in the place of the one that is saved, at the last moment, stays. */
+static void a_file_put_there_meanwhile(void) {
+    zx_file file = ZX_CLOSED_FILE;
+    char other[430], mine[430];
+    snprintf(other, sizeof other, "%s.other", the_file());
+    snprintf(mine, sizeof mine, "%s", the_file());
+    const char *const swap[] = { other, mine };
+    seed(50);
+    IS(rename(the_file(), other), 0);
+    seed(5);
+    IS(zx_file_open(&file, the_file(), ZX_OPEN_ONLY, 0), ZX_DONE);
+    IS(set(&file, 6), ZX_DONE);
+    swapped = swap;
+    IS(zx_file_save(&file), ZX_FILE_REPLACED);
+    swapped = NULL;
+    IS(stands(the_file()), 50);
+    IS(zx_file_close(&file), ZX_FILE_REPLACED);
+    zx_file_discard(&file);
+    IS(count_in(room), 1);
+}
+
 /* A file that begins with the image and goes on is another one. */
 static void a_longer_file(void) {
     zx_file file = ZX_CLOSED_FILE;
@@ -627,6 +651,7 @@ int main(int count, char **words) {
     a_pipe_behind_the_look();
     a_child_by_the_system_call();
     a_longer_file();
+    a_file_put_there_meanwhile();
     holes();
     rights();
     threads();

@@ -8,6 +8,7 @@ name is that of a language, with its file_driver, or `program`. It checks that
 - no two saves say the same number, and the file never has a smaller number than was said;
 - whoever is not killed goes on;
 - nothing else is in the folder after the file was opened for writing once more."""
+import ctypes
 import os
 import random
 import select
@@ -45,6 +46,8 @@ class Saver:
         child = os.fork()
         if child == 0:
             os.setpgid(0, 0)
+            # it ends with this script (PR_SET_PDEATHSIG)
+            ctypes.CDLL(None).prctl(1, signal.SIGKILL)
             try:
                 run()
             except BaseException as error:
@@ -169,7 +172,15 @@ class Round:
 
     def end(self):
         self.kill(list(self.savers))
-        zaluxhoni.open(self.path, "w").close()
+        until = time.monotonic() + WAIT
+        while True:
+            try:
+                zaluxhoni.open(self.path, "w").close()
+                break
+            except zaluxhoni.FileInUse:
+                # a run of the program is no child of ours: it may end a moment later
+                if "program" not in self.commands or time.monotonic() > until:
+                    raise
         beside = set(os.listdir(self.folder)) - {"file"}
         # what the program left is the program's
         if beside - ({"file.new"} if "program" in self.commands else set()):

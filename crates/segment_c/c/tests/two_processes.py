@@ -240,8 +240,10 @@ do seed 5
 A open open_only 0: ok
 A set 6: ok
 do remove file
+do stale file
 A close: replaced
-left
+left .zaluxhoni-aad01178f02a6a23
+do remove .zaluxhoni-aad01178f02a6a23
 A saveas create_only other: ok
 A discard: ok
 left other
@@ -533,6 +535,19 @@ do seed 5
 do stale file
 A open open_only 0: ok
 left file
+do stale file
+A set 6: ok
+A save: ok
+left file
+A discard: ok
+
+= a new file that was replaced is left alone
+do seed 50 other
+A open create_only 1024: ok
+do rename other file
+A discard: ok
+A open open_read_only 0: ok
+A get: 50
 A discard: ok
 left file
 """
@@ -755,7 +770,10 @@ class Beside:
                     pass
 
     def do_stale(self, name):
-        with open(self.at(f".zaluxhoni-{os.stat(self.at(name)).st_ino:x}"), "wb") as file:
+        number = 0xcbf29ce484222325
+        for byte in os.fsencode(name):
+            number = (number ^ byte) * 0x100000001b3 % 2**64
+        with open(self.at(f".zaluxhoni-{number:016x}"), "wb") as file:
             file.write(b"left")
 
     def left(self, *names):

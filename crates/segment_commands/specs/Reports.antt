@@ -13,6 +13,7 @@ use Rattle.segment_cli.specs.declared.faults.SessionFault.{SessionFault}
 use Rattle.segment_cli.specs.declared.faults.SessionFault.TheVariants as session
 use Rattle.segment_commands.specs.declared.program_faults.ProgramFault.{ProgramFault}
 use Rattle.segment_commands.specs.declared.program_faults.ProgramFault.TheVariants.{Usage, Exists, InUse, Stopped, Misspelled, Growth, BadDump, NoSpace, Session}
+use Rattle.segment_lang.specs.Texts.{quoted_text}
 use Rattle.segment_disk.specs.declared.presence.Trouble.{Trouble}
 use Rattle.segment_disk.specs.declared.presence.Trouble.TheVariants.{Missing, Homeless, Unnamed, Folder, Denied}
 

@@ -1,2 +1,1 @@
-pub mod LargerRegion
 pub mod Resized

@@ -334,7 +334,16 @@ def _file_error(code, number, path):
 # ---- the library
 
 class _Handle(ctypes.Structure):
-    _fields_ = [("at", ctypes.c_void_p)]
+    _fields_ = [("at", ctypes.c_void_p), ("changes", ctypes.c_uint64), ("lent", ctypes.c_bool), ("shared", ctypes.c_bool)]
+
+
+class _Memory(ctypes.Structure):
+    _fields_ = [("at", ctypes.c_void_p), ("len", ctypes.c_uint64)]
+
+
+class _Elements(ctypes.Structure):
+    _fields_ = [("at", ctypes.c_void_p), ("offset", ctypes.c_uint64), ("count", ctypes.c_uint64),
+                ("changes", ctypes.c_uint64), ("kind", ctypes.c_uint32)]
 
 
 class _RawFile(ctypes.Structure):
@@ -406,7 +415,9 @@ def _declare(library):
         "num_named": [number], "num_unique": [number], "named_at": [u64, info, ctypes.c_void_p, size],
         "unique_at": [u64, info], "tile_at": [u64, pointer(_Tile)], "reserve_named": [u64], "reserve_unique": [u64],
         "shrink_indexes": [], "zero_free": [], "sanity": [truth], "all_deallocated": [truth],
-        "write_elements": [key, u64, values],
+        "write_elements": [key, u64, values], "attach": [pointer(_Memory), u64, u32], "detach": [pointer(_Memory)],
+        "view": [key, pointer(_Elements)], "view_mut": [key, pointer(_Elements)], "named_from": [text, size, number],
+        "begin": [segment], "rollback": [segment],
     }
     calls.update({f"read_{row}": [key, u64, ctypes.c_void_p, size] for row in ("bools", "u8s", "i32s", "i64s", "u64s")})
     for name, arguments in calls.items():

@@ -588,6 +588,33 @@ void modes() {
     IS(s.region_left(), 3072);
 }
 
+/// The calls that C++ has no names of its own for.
+void calls_of_c() {
+    segment made = segment::create(1024);
+    made.construct<i64>("a/1", 5);
+    std::vector<u8> image = made.save();
+    zx_segment s = ZX_CLOSED_HANDLE;
+    zx_memory memory = {image.data(), image.size()};
+    IS(zx_attach(&s, &memory, image.size(), ZX_WRITE), u64{ZX_DONE});
+    const zx_key name = zx_name("a/1");
+    zx_elements there;
+    IS(zx_view(&s, &name, &there), u64{ZX_DONE});
+    IS(*static_cast<const i64 *>(there.at), 5);
+    zx_segment before = ZX_CLOSED_HANDLE;
+    IS(zx_begin(&s, &before), u64{ZX_DONE});
+    IS(zx_view_mut(&s, &name, &there), u64{ZX_DONE});
+    *static_cast<i64 *>(zx_elements_mut(&s, &there)) = 6;
+    IS(zx_rollback(&s, &before), u64{ZX_DONE});
+    IS(zx_is_current(&s, &there), false);
+    IS(zx_view(&s, &name, &there), u64{ZX_DONE});
+    IS(*static_cast<const i64 *>(there.at), 5);
+    u64 index = 7;
+    IS(zx_named_from(&s, reinterpret_cast<const u8 *>("a/"), 2, &index), u64{ZX_DONE});
+    IS(index, 0);
+    IS(zx_detach(&s, &memory), u64{ZX_DONE});
+    IS(memory.at == image.data(), true);
+}
+
 void what_is_refused() {
     segment s = segment::create(1024);
     std::vector<u8> image = s.save();
@@ -678,7 +705,7 @@ int main(int count, char **arguments) {
         an_anonymous_object, names, files, index_and_object_do_not_both_fit, arrays, the_only_object_of_its_kind,
         places_reserved_in_the_indexes, best_fit, storage_is_lengthened_then_replaced, a_string_grows_and_shrinks,
         a_map, refusals_of_a_vector, a_vector_of_strings, objects_found_or_made, many_at_once,
-        another_kind_under_the_name, one_of_each, size_and_region, modes, what_is_refused, segments_move,
+        another_kind_under_the_name, one_of_each, size_and_region, modes, calls_of_c, what_is_refused, segments_move,
         segments_end_before_their_objects, errors_say_what};
     for (void (*each)() : cases) {
         try {

@@ -23,6 +23,13 @@
 extern "C" {
 #endif
 
+/* ---- the version: 10000 for each major one, 100 for each minor one, and 1 for each patch */
+
+#define ZX_VERSION 900
+
+/* The one of the library, where ZX_VERSION is that of this header. */
+uint32_t zx_version(void);
+
 /* ---- codes */
 
 typedef uint32_t zx_code;
@@ -266,8 +273,8 @@ zx_code zx_save(zx_segment *segment, uint8_t *image, size_t room);
 /* Opens the image that stands at the front of the memory and has `len` bytes, where it stands: none is copied, and none
    is written before the first call that changes (with ZX_READ none ever). The memory has a multiple of 16 bytes, as a
    region of zx_open; those behind the image are room to grow into. What the handle had is closed. Until zx_detach gives
-   it back, the memory is the segment's: nobody else writes it, gives it up or makes a file that is mapped there shorter,
-   and only between calls is it read. Then `memory` has nothing; where the call is refused it is as it was.
+   it back, the memory is the segment's: nobody else writes it, gives it up or makes a file that is mapped there
+   shorter, and only between calls is it read. Then `memory` has nothing; where the call is refused it is as it was.
    ZX_NULL_SLICE; ZX_BAD_SIZE (also where `len` is more than the memory has), ZX_BAD_MODE; and as zx_open. */
 zx_code zx_attach(zx_segment *segment, zx_memory *memory, uint64_t len, uint32_t mode);
 
@@ -291,8 +298,8 @@ zx_code zx_relocate(zx_segment *segment, uint64_t capacity);
 void zx_close(zx_segment *segment);
 
 /* Several calls as one. zx_begin copies the segment to a handle of its own, `before`; what that had is closed. Behind
-   the calls zx_commit closes the copy, or zx_rollback makes the segment again what it was, where it lies now, and closes
-   the copy. What lies in `before` may be read like any segment. ZX_CLOSED (zx_rollback: also a closed copy),
+   the calls zx_commit closes the copy, or zx_rollback makes the segment again what it was, where it lies now, and
+   closes the copy. What lies in `before` may be read like any segment. ZX_CLOSED (zx_rollback: also a closed copy),
    ZX_READ_ONLY, ZX_NO_MEMORY (zx_begin alone); ZX_SHORT_REGION (zx_rollback alone) if zx_relocate left too little room,
    and another zx_relocate helps. */
 zx_code zx_begin(zx_segment *segment, zx_segment *before);
@@ -426,8 +433,8 @@ zx_code zx_num_named(zx_segment *segment, uint64_t *count);
 zx_code zx_num_unique(zx_segment *segment, uint64_t *count);
 /* Objects with names, by the bytes of their names; the name as in zx_tell. */
 zx_code zx_named_at(zx_segment *segment, uint64_t index, zx_info *info, uint8_t *name, size_t room);
-/* How many names stand before a text, which may be any bytes: the index for zx_named_at of the first name that does not.
-   ZX_NULL_SLICE. */
+/* How many names stand before a text, which may be any bytes: the index for zx_named_at of the first name that does
+   not. ZX_NULL_SLICE. */
 zx_code zx_named_from(zx_segment *segment, const uint8_t *text, size_t len, uint64_t *index);
 /* Unique objects, by the codes of their kinds. */
 zx_code zx_unique_at(zx_segment *segment, uint64_t index, zx_info *info);

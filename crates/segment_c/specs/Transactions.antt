@@ -1,5 +1,5 @@
 -- Several calls as one: what is copied before them, and what is put back.
-use Rattle.std.specs.Prelude.{◌≡◌, ◌≤◌, ℕ, nat_lt, length, false, true, if◌then◌else◌}
+use Rattle.std.specs.Prelude.{◌≡◌, ◌≤◌, ℕ, nat_le, length, false, true, if◌then◌else◌}
 use Rattle.raw_region.specs.Memory.{SamePlace, cut_at, whole}
 use Rattle.segment_manager.specs.declared.modes.Mode.{Mode}
 use Rattle.segment_manager.specs.State.{State}
@@ -20,8 +20,8 @@ pub record IsBeginCode (mode : Mode) (code : ℕ) : Type 0 where
 abbrev pub rollback_code : State → State → ℕ
 rollback_code s copy =
     if is_read_only s.mode then 4
-    else if nat_lt (room_of s.cut) (length copy.cut.bytes) then 27
-    else 0
+    else if nat_le (length copy.cut.bytes) (room_of s.cut) then 0
+    else 27
 
 -- the bytes are those of the copy, at the front of the segment's region, of which no other byte has changed
 pub record IsPutBack (s copy t : State) : Type 0 where

@@ -1,6 +1,7 @@
 //! Several calls as one: the segment is copied before them, and may be put back as it was.
-ghost use Rattle.std.specs.Prelude.{◌≡◌, ◌≤◌, MatchResult, false, length};
+ghost use Rattle.std.specs.Prelude.{◌≡◌, ◌≤◌, MatchResult, false, length, nat_le};
 ghost use Rattle.std.specs.declared.option.Option.TheVariants.{None as NoSegment, Some as Held};
+ghost use Rattle.grow_shrink.specs.Resized.{room_of};
 ghost use Rattle.raw_region.specs.Memory.{SamePlace, cut_at, whole};
 ghost use Rattle.segment_c.specs.Calls.{IsClosed, Opened};
 ghost use Rattle.segment_c.specs.Marked.{IsMarked, IsPlaced};
@@ -86,21 +87,29 @@ pub extern "C" fn zx_rollback(alloc: Global, h: &mut Handle, before: &mut Handle
 /// The code by which a copy is not put in the place of a segment.
 fn code_to_put_back(segment: &Segment, copy: &Segment) -> u32
     ensures code { result ≡ rollback_code segment.now copy.now }
-    ensures room { result ≡ 0 → length copy.now.cut.bytes ≤ length (whole segment.now.cut) }
+    ensures room { result ≡ 0 → length copy.now.cut.bytes ≤ room_of segment.now.cut }
 {
     if segment.mode() == Mode::ReadOnly {
-        READ_ONLY
-    } else if segment.size() + segment.region_left() < copy.size() {
-        SHORT_REGION
-    } else {
-        DONE
+        return READ_ONLY;
     }
+    if !has_room(segment, copy.size()) {
+        return SHORT_REGION;
+    }
+    DONE
+}
+
+/// Whether a segment's region has room for so many bytes.
+fn has_room(segment: &Segment, len: u64) -> bool
+    ensures { result ≡ nat_le len (room_of segment.now.cut) }
+{
+    let size = segment.size();
+    len <= size || len - size <= segment.region_left()
 }
 
 /// The segment whose image the bytes are, at the front of the region of another, and open as that is.
 fn put_back(segment: Segment, image: &[u8]) -> Segment
     requires denotes { IsSegment image.now }
-    requires room { length image.now ≤ length (whole segment.cut) }
+    requires room { length image.now ≤ room_of segment.cut }
     ensures bytes { result.cut.bytes ≡ image.now }
     ensures place { SamePlace (cut_at (whole segment.cut) 0 (length image.now)) result.cut }
     ensures mode { result.mode ≡ segment.mode }

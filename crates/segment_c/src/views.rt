@@ -1,4 +1,5 @@
 //! Where elements stand, for C that reads and writes them there.
+ghost use denote.RawPtr.{block_ptr};
 ghost use Rattle.std.specs.Prelude.{◌≡◌, ◌≤◌};
 ghost use Rattle.seg_types.specs.Keys.{key_seen};
 ghost use Rattle.segment_c.specs.Calls.{Opened, Reads};
@@ -111,7 +112,7 @@ fn look(segment: &Segment, key: &Key, changes: u64, view: &mut View) -> u32
 
 /// Where the first of the bytes stands.
 fn start_of(bytes: &[u8]) -> *const u8
-    ensures { result ≡ bytes.ref_ptr }
+    ensures { result ≡ block_ptr bytes.entry.ref_ptr.0 bytes.entry.ref_ptr.1 }
 {
     bytes.as_ptr()
 }

@@ -9,7 +9,7 @@ text = ""
 for header in headers:
     with open(header) as file:
         text += re.sub(r"/\*.*?\*/", "", file.read(), flags=re.DOTALL)
-calls = re.findall(r"^(zx_code|void) (zx_\w+)\(([^()]*)\);", text, flags=re.MULTILINE)
+calls = re.findall(r"^(zx_code|void|uint32_t|const char \*) ?(zx_\w+)\(([^()]*)\);", text, flags=re.MULTILINE)
 print("""#define _GNU_SOURCE
 #include "zaluxhoni_files.h"
 #include <dlfcn.h>
@@ -25,7 +25,7 @@ static void *behind(const char *name) {
 }
 """)
 for answer, name, parameters in calls:
-    passed = ", ".join(re.search(r"(\w+)$", each.strip())[1] for each in parameters.split(","))
+    passed = ", ".join(re.search(r"(\w+)$", each.strip())[1] for each in parameters.split(",") if each != "void")
     print(f"""#undef {name}
 static int {name}_called;
 {answer} {name}({parameters}) {{

@@ -1066,6 +1066,15 @@ static void words(void) {
     }
     zx_words(1000, &text);
     IS(text.len, 0);
+    IS(strcmp(zx_message(ZX_NO_SPACE), "no space"), 0);
+    IS(strcmp(zx_message(ZX_FILE_FOLDER), "is a folder"), 0);
+    IS(strcmp(zx_message(1000), ""), 0);
+    for (zx_code code = 0; code <= ZX_ORPHAN_BLOCK; code++) {
+        zx_file_words(code, &text);
+        IS(strlen(zx_message(code)), text.len);
+        IS(memcmp(zx_message(code), text.at, text.len), 0);
+    }
+    IS(zx_version(), ZX_VERSION);
 }
 
 /* The calls for files, which tests/files.c and others try for themselves. */
@@ -1094,6 +1103,19 @@ static void files(void) {
     DONE(zx_get(&file.segment, &a, 0, &got));
     IS(got.number, 5);
     zx_file_discard(&file);
+    DONE(zx_file_open(&file, other, ZX_OPEN_ONLY | ZX_MAPPED, 0));
+    DONE(zx_file_grow(&file, 1024));
+    DONE(zx_get(&file.segment, &a, 0, &got));
+    IS(got.number, 5);
+    DONE(zx_file_shrink(&file));
+    zx_segment before = ZX_CLOSED_HANDLE;
+    DONE(zx_begin(&file.segment, &before));
+    DONE(zx_set(&file.segment, &a, 0, &six));
+    DONE(zx_file_rollback(&file, &before));
+    DONE(zx_get(&file.segment, &a, 0, &got));
+    IS(got.number, 5);
+    DONE(zx_file_flush(&file));
+    DONE(zx_file_close(&file));
     IS(zx_file_open(&file, folder, ZX_OPEN_ONLY, 0), ZX_FILE_FOLDER);
     zx_file_words(ZX_FILE_FOLDER, &text);
     TEXT(text.at, text.len, "is a folder");

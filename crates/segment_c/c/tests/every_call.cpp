@@ -175,6 +175,38 @@ void files() {
     IS(std::filesystem::exists(path), false);
 }
 
+void mapped_files() {
+    const std::string path = path_of("mapped");
+    std::filesystem::remove(path);
+    {
+        segment s = segment::create_mapped_file(path, 1024);
+        s.construct<i64>("a", 5);
+        IS(segment::open_file(path, zaluxhoni::mode::read).get<i64>("a"), 5);
+        fails(__LINE__, [&] { segment::map_file(path); }, ZX_FILE_IN_USE, std::errc::operation_would_block);
+        s.grow(1024);
+        IS(std::filesystem::file_size(path), 2048);
+        zaluxhoni::vector<i64> v = s.vector<i64>("v");
+        for (i64 i = 0; i < 1000; i++) s.growing([&] { v.push_back(i); });
+        IS(std::filesystem::file_size(path), s.size());
+        IS(v.get(999), 999);
+        s.destroy("v");
+        s.shrink();
+        IS(std::filesystem::file_size(path), s.size());
+        s.set<i64>("a", 0, 6);
+        s.flush_file();
+    }
+    segment one = segment::map_file(path, zaluxhoni::mode::read);
+    segment other = segment::map_file(path, zaluxhoni::mode::copy_on_write);
+    other.set<i64>("a", 0, 7);
+    IS(one.get<i64>("a"), 6);
+    fails(__LINE__, [&] { segment::open_file(path); }, ZX_FILE_IN_USE, std::errc::operation_would_block);
+    one.close();
+    other.close();
+    segment last = segment::map_or_create_file(path, 1024);
+    IS(last.get<i64>("a"), 6);
+    last.close_file();
+}
+
 void index_and_object_do_not_both_fit() {
     segment s = segment::create(224);
     THROWS(no_space, s.construct<i64>("a", 5));
@@ -606,6 +638,10 @@ void calls_of_c() {
     *static_cast<i64 *>(zx_elements_mut(&s, &there)) = 6;
     IS(zx_rollback(&s, &before), u64{ZX_DONE});
     IS(zx_is_current(&s, &there), false);
+    zx_file none = ZX_CLOSED_FILE;
+    IS(zx_file_rollback(&none, &before), u64{ZX_CLOSED});
+    IS(zx_version(), u64{ZX_VERSION});
+    IS(std::string(zx_message(ZX_NO_SPACE)) == "no space", true);
     IS(zx_view(&s, &name, &there), u64{ZX_DONE});
     IS(*static_cast<const i64 *>(there.at), 5);
     u64 index = 7;
@@ -702,9 +738,9 @@ int main(int count, char **arguments) {
     if (count != 2) return 2;
     folder = arguments[1];
     void (*const cases[])() = {
-        an_anonymous_object, names, files, index_and_object_do_not_both_fit, arrays, the_only_object_of_its_kind,
-        places_reserved_in_the_indexes, best_fit, storage_is_lengthened_then_replaced, a_string_grows_and_shrinks,
-        a_map, refusals_of_a_vector, a_vector_of_strings, objects_found_or_made, many_at_once,
+        an_anonymous_object, names, files, mapped_files, index_and_object_do_not_both_fit, arrays,
+        the_only_object_of_its_kind, places_reserved_in_the_indexes, best_fit, storage_is_lengthened_then_replaced,
+        a_string_grows_and_shrinks, a_map, refusals_of_a_vector, a_vector_of_strings, objects_found_or_made, many_at_once,
         another_kind_under_the_name, one_of_each, size_and_region, modes, calls_of_c, what_is_refused, segments_move,
         segments_end_before_their_objects, errors_say_what};
     for (void (*each)() : cases) {

@@ -541,12 +541,7 @@ class segment {
 
     /// Opens the segment of a file that exists. Throws `file_error` if the file is refused.
     static segment open_file(const std::string &path, zaluxhoni::mode how = zaluxhoni::mode::write) {
-        switch (how) {
-        case mode::write: return of_file(path, ZX_OPEN_ONLY, 0);
-        case mode::read: return of_file(path, ZX_OPEN_READ_ONLY, 0);
-        case mode::copy_on_write: return of_file(path, ZX_OPEN_COPY_ON_WRITE, 0);
-        }
-        throw bad_mode();
+        return of_file(path, file_mode(how), 0);
     }
     /// Opens it for writing; creates it with an empty segment of `size` bytes if it does not exist.
     static segment open_or_create_file(const std::string &path, std::uint64_t size) {
@@ -555,6 +550,18 @@ class segment {
     /// Creates a file with an empty segment of `size` bytes. Throws `file_exists` if something exists there.
     static segment create_file(const std::string &path, std::uint64_t size) {
         return of_file(path, ZX_CREATE_ONLY, size);
+    }
+
+    /// The same with the file mapped: opening copies nothing, and each change is in the file at once.
+    /// zaluxhoni_files.h says what that costs.
+    static segment map_file(const std::string &path, zaluxhoni::mode how = zaluxhoni::mode::write) {
+        return of_file(path, file_mode(how) | ZX_MAPPED, 0);
+    }
+    static segment map_or_create_file(const std::string &path, std::uint64_t size) {
+        return of_file(path, ZX_OPEN_OR_CREATE | ZX_MAPPED, size);
+    }
+    static segment create_mapped_file(const std::string &path, std::uint64_t size) {
+        return of_file(path, ZX_CREATE_ONLY | ZX_MAPPED, size);
     }
 
     /// Frees the segment and saves nothing; removes a file that it created and never saved. What was asked of it throws
@@ -580,7 +587,9 @@ class segment {
     /// all of it is on the disk. Whatever fails, one of the two stands whole under the name. Throws `file_error` if the
     /// file is refused; after `file_unsynced` alone it is saved.
     void save_file() const { check_file(zx_file_save(&file()), path_); }
-    /// The same, and frees the segment.
+    /// Waits until the changes of a mapped file are on the disk; saves another one.
+    void flush_file() const { check_file(zx_file_flush(&file()), path_); }
+    /// Saves as `save_file` does, and frees the segment. Of a mapped file it waits for nothing.
     void close_file() {
         if (!is_open()) throw closed();
         check_file(zx_file_close(file_.get()), path_);
@@ -591,9 +600,9 @@ class segment {
     }
 
     /// Makes the segment longer by `extra` bytes: a multiple of 16, at least 32.
-    void grow(std::uint64_t extra) { check_code(zx_grow(raw(), extra)); }
+    void grow(std::uint64_t extra) { check_file(zx_file_grow(&file(), extra), path_); }
     /// Makes the segment as short as its last block lets it be.
-    void shrink() { check_code(zx_shrink(raw())); }
+    void shrink() { check_file(zx_file_shrink(&file()), path_); }
     /// Moves the segment into a region of `capacity` bytes.
     void relocate(std::uint64_t capacity) { check_code(zx_relocate(raw(), capacity)); }
 
@@ -801,6 +810,15 @@ class segment {
         segment made;
         made.file_ = std::make_shared<zx_file>();
         return made;
+    }
+
+    static std::uint32_t file_mode(zaluxhoni::mode how) {
+        switch (how) {
+        case mode::write: return ZX_OPEN_ONLY;
+        case mode::read: return ZX_OPEN_READ_ONLY;
+        case mode::copy_on_write: return ZX_OPEN_COPY_ON_WRITE;
+        }
+        throw bad_mode();
     }
 
     static segment of_file(const std::string &path, std::uint32_t how, std::uint64_t size) {

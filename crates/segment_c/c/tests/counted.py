@@ -9,7 +9,7 @@ text = ""
 for header in headers:
     with open(header) as file:
         text += re.sub(r"/\*.*?\*/", "", file.read(), flags=re.DOTALL)
-calls = re.findall(r"^(zx_code|void|u?int64_t) (zx_\w+)\(([^()]*)\);", text, flags=re.MULTILINE)
+calls = re.findall(r"^(zx_code|void|u?int(?:32|64)_t|const char \*) ?(zx_\w+)\(([^()]*)\);", text, flags=re.MULTILINE)
 print("""#define _GNU_SOURCE
 #include "zaluxhoni_files.h"
 #include "zaluxhoni_rows.h"
@@ -26,7 +26,7 @@ static void *behind(const char *name) {
 }
 """)
 for answer, name, parameters in calls:
-    passed = "" if parameters == "void" else ", ".join(re.search(r"(\w+)$", each.strip())[1] for each in parameters.split(","))
+    passed = ", ".join(re.search(r"(\w+)$", each.strip())[1] for each in parameters.split(",") if each != "void")
     print(f"""#undef {name}
 static int {name}_called;
 {answer} {name}({parameters}) {{

@@ -524,6 +524,41 @@ def size_and_region():
     saved(s, "grown")
 
 
+def calls_of_c():
+    """The calls that Python has no names of its own for."""
+    made = zaluxhoni.create(1024)
+    made["a/1"] = 5
+    image = made.image()
+    made.discard()
+    library = zaluxhoni._library
+    room = ctypes.create_string_buffer(image, len(image))
+    zx, handle = library.zx, library.Handle()
+    memory = library.Memory(ctypes.addressof(room), len(image))
+    same(zx.zx_attach(handle, memory, len(image), 0), 0)
+    key, there, index = library.Key(0, 0, 0, b"a/1", 3), library.Elements(), ctypes.c_uint64(7)
+    same(zx.zx_view(handle, key, there), 0)
+    same(ctypes.c_int64.from_buffer(room, there.offset).value, 5)
+    same(there.at, ctypes.addressof(room) + there.offset)
+    before = library.Handle()
+    same(zx.zx_begin(handle, before), 0)
+    same(zx.zx_view_mut(handle, key, there), 0)
+    ctypes.c_int64.from_address(there.at).value = 6
+    same(zx.zx_rollback(handle, before), 0)
+    same(zx.zx_file_rollback(library.File(), before), zaluxhoni.Closed.code)
+    same(zx.zx_version(), 900)
+    same(zx.zx_message(zaluxhoni.NoSpace.code), b"no space")
+    text = library.Text()
+    zx.zx_words(zaluxhoni.NoSpace.code, text)
+    same(ctypes.string_at(text.at, text.len), b"no space")
+    zx.zx_file_words(zaluxhoni.NoSpace.code, text)
+    same(ctypes.string_at(text.at, text.len), b"no space")
+    same(ctypes.c_int64.from_buffer(room, there.offset).value, 5)
+    same(zx.zx_named_from(handle, b"a/", 2, index), 0)
+    same(index.value, 0)
+    same(zx.zx_detach(handle, memory), 0)
+    same(memory.at, ctypes.addressof(room))
+
+
 def what_is_refused():
     s = zaluxhoni.create(1024)
     image = s.image()
@@ -928,6 +963,98 @@ def records():
     raises(zaluxhoni.WrongKind, s.records, "origin2", int)
 
 
+def views():
+    """Elements where they stand."""
+    s = zaluxhoni.create(4096, grow=True)
+    s["v"], s["n"], s["other"] = [1, 2, 3], 5, [7]
+    text, v = s.string("text"), s["v"]
+    text.assign("abc")
+    view = v.view()
+    same((view.tolist(), view.format, view.readonly, view.nbytes), ([1, 2, 3], "q", False, 24))
+    view[1] = 20
+    v[0] = 10
+    v[2:] = [30]
+    s["n"] = 6
+    s["new"] = "text"
+    s["other"].extend(range(20))
+    same((view.tolist(), list(v)), ([10, 20, 30], [10, 20, 30]))
+    # what would move the elements, or their segment, is refused while they are lent
+    for call in (lambda: v.append(1), lambda: v.pop(), lambda: v.clear(), lambda: v.extend([1]), lambda: v.assign([1]), lambda: v.insert(0, 1),
+                 lambda: v.reserve(100), lambda: v.trim(), lambda: v.__delitem__(0), lambda: s.__delitem__("v"), lambda: s.destroy("v"),
+                 lambda: s.pop("v"), lambda: s.clear(), lambda: s.object(handle(v.handle)).append(1), lambda: set_item(s, "v", [1]),
+                 lambda: s.grow(64), lambda: s.shrink(), lambda: s.relocate(2**20), lambda: s["other"].extend(range(2000))):
+        raises(zaluxhoni.Lent, call)
+    same((view.tolist(), "v" in s), ([10, 20, 30], True))
+    del view
+    v.append(40)
+    with v.view() as view:
+        part = view[1:3]
+    raises_bare(ValueError, lambda: view[0])
+    raises(zaluxhoni.Lent, v.append, 1)
+    part.release()
+    v.append(50)
+    same((bytes(text.view()), text.view().format, v.view().tolist()), (b"abc", "B", [10, 20, 30, 40, 50]))
+    for kind, some in (("bool", [True, False]), ("u8", [1, 255]), ("i32", [-1, 2**31 - 1]), ("u64", [1, 2**64 - 1])):
+        for made in (s.construct(f"vec<{kind}>", None, some), s.construct(f"{kind}[2]", None, some)):
+            same(made.view().tolist(), some)
+    same(s.vector("empty", "i64").view().tolist(), [])
+    reader = zaluxhoni.load(s.image(), "r")
+    view = reader["v"].view()
+    same((view.readonly, view.tolist()), (True, [10, 20, 30, 40, 50]))
+    # a segment that is closed, or rolled back, leaves them their memory
+    view = v.view()
+    try:
+        with s.transaction():
+            s["n"] = 8
+            raise KeyError
+    except KeyError:
+        pass
+    same((s["n"], view.tolist()), (6, [10, 20, 30, 40, 50]))
+    view[0] = 11
+    same(v[0], 10)
+    v.append(60)
+    path = new("views")
+    with zaluxhoni.open(path, "x", size=1024) as s:
+        s["v"] = [1, 2]
+        s.save()
+        view = s["v"].view()
+        view[0] = 5
+    view[1] = 6
+    del s, v, reader
+    gc.collect()
+    same(view.tolist(), [5, 6])
+    with zaluxhoni.open(path, "w") as s:
+        same(s["v"].copy(), [5, 2])
+        view = s["v"].view()
+        s.save()
+        view[0] = 7
+        s["n"] = 1
+        s.save()
+        view[1] = 8
+        del view
+    with zaluxhoni.open(path, "r") as s:
+        same(s["v"].copy(), [7, 8])
+        view = s["v"].view()
+    s = zaluxhoni.open(path, "w", mapped=True)
+    view = s["v"].view()
+    view[0] = 9
+    raises(zaluxhoni.Lent, s.close)
+    raises(zaluxhoni.Lent, s.discard)
+    del view
+    s.close()
+    with zaluxhoni.open(path, "r") as s:
+        same(s["v"].copy(), [9, 8])
+
+
+def raises_bare(error, call):
+    try:
+        call()
+    except error:
+        same(True, True)
+    else:
+        fails(f"no {error.__name__}")
+
+
 # ---- files
 
 def files():
@@ -988,6 +1115,34 @@ def files():
         gc.collect()
     same([warning.category for warning in caught], [ResourceWarning])
     zaluxhoni.open(path, "w").close()
+
+
+def files_that_are_mapped():
+    path = new("mapped")
+    s = zaluxhoni.open(path, "x", size=4096, mapped=True)
+    s["a"] = 5
+    with zaluxhoni.open(path, "r") as reader:
+        same(reader["a"], 5)
+    raises(zaluxhoni.FileInUse, zaluxhoni.open, path, "w")
+    raises(zaluxhoni.FileInUse, zaluxhoni.open, path, "r", mapped=True)
+    s.grow(4096)
+    same((s.size, os.path.getsize(path), s["a"]), (8192, 8192, 5))
+    s.flush()
+    s.growing = True
+    s["v"] = list(range(4000))
+    same((s["v"][3999], os.path.getsize(path)), (3999, s.size))
+    del s["v"]
+    s.shrink()
+    same(os.path.getsize(path), s.size)
+    s["a"] = 6
+    s.discard()
+    with zaluxhoni.open(path, "r", mapped=True) as reader, zaluxhoni.open(path, "p", mapped=True) as private:
+        private["a"] = 7
+        same((reader["a"], private["a"]), (6, 7))
+        raises(zaluxhoni.ReadOnly, set_item, reader, "a", 7)
+        raises(zaluxhoni.FileInUse, zaluxhoni.open, path, "w")
+    with zaluxhoni.open(path, "w") as s:
+        same(s["a"], 6)
 
 
 def what_is_refused_by_name():
@@ -1128,7 +1283,8 @@ for case in (an_anonymous_object, names, index_and_object_do_not_both_fit, array
              places_reserved_in_the_indexes, best_fit, storage_is_lengthened_then_replaced, a_string_grows_and_shrinks, a_map,
              refusals_of_a_vector, a_vector_of_strings, objects_found_or_made, every_kind_of_scalar, many_at_once, one_of_each,
              a_segment_as_a_dict, maps_are_made_whole, values_of_one_kind_alone, a_mapping_as_dict_is_one, refusals_have_names,
-             copies, a_list_as_list_is_one, threads_that_follow_each_other, one_segment_of_many_threads, groups, transactions, records, size_and_region, what_is_refused, one_thread, files,
+             copies, a_list_as_list_is_one, threads_that_follow_each_other, one_segment_of_many_threads, groups, transactions,
+             records, views, size_and_region, calls_of_c, what_is_refused, one_thread, files, files_that_are_mapped,
              what_is_refused_by_name, a_process_that_forks, a_relative_path, files_that_fail, what_is_not_closed):
     try:
         case()

@@ -90,6 +90,47 @@ def elements_as_arrays():
     same(numpy.asarray(s.vector("empty", "i32")).tolist(), [])
 
 
+def arrays_without_a_copy():
+    s = zaluxhoni.create(65536)
+    s["v"], s["other"] = list(range(1000)), [1]
+    v = s["v"]
+    a = numpy.asarray(v)
+    a[::2] *= 2
+    same((v[:4], v[998]), ([0, 1, 4, 3], 1996))
+    v[1] = 100
+    s["other"].append(2)
+    same((int(a[1]), a.flags.writeable, a.flags.owndata), (100, True, False))
+    part = a[10:20].view("u8")
+    del a
+    raises(zaluxhoni.Lent, v.append, 1)
+    part[0] = 7
+    del part
+    v.append(1)
+    same((v[10], len(v)), (7, 1001))
+    copied = numpy.array(v)
+    v.append(2)
+    copied[0] = 9
+    same((v[0], numpy.asarray(v, "f8").dtype == numpy.dtype("f8")), (0, True))
+    v.append(3)
+    reader = zaluxhoni.load(s.image(), "r")
+    same(numpy.asarray(reader["v"]).flags.writeable, False)
+    # a copy on write is changed by views too, and its file is not
+    points = s.records("points", numpy.dtype([("x", "f8"), ("y", "f8")]))
+    points.extend([(1, 2), (3, 4)])
+    a = numpy.asarray(points)
+    a["x"] += 0.5
+    same([tuple(map(float, point)) for point in points], [(1.5, 2.0), (3.5, 4.0)])
+    raises(zaluxhoni.Lent, points.append, (5, 6))
+    del a
+    points.append((5, 6))
+    raises(zaluxhoni.WrongKind, numpy.asarray, s.records("points", "<hhi"))
+    # the whole of a segment that is closed stays for its arrays
+    a = numpy.asarray(v)
+    s.close()
+    del s, v, points
+    same(int(a[10]), 7)
+
+
 def records():
     s = zaluxhoni.create(65536)
     form = numpy.dtype([("x", "<f8"), ("n", "<i2")])
@@ -109,7 +150,7 @@ def records():
     raises(zaluxhoni.WrongKind, points.append, "x")
 
 
-for case in (arrays_as_elements, elements_as_arrays, records):
+for case in (arrays_as_elements, elements_as_arrays, arrays_without_a_copy, records):
     try:
         case()
     except Exception as error:

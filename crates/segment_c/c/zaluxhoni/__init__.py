@@ -45,6 +45,9 @@ __all__ = [
 ]
 
 
+_MAPPED = 256
+
+
 def _image_bytes(image: Any) -> bytes:
     try:
         return bytes(memoryview(image))
@@ -81,7 +84,7 @@ def load(image: Any, mode: str = "w", *, capacity: Optional[int] = None, grow: b
 
 
 def open(path: Any, mode: str = "c", *, size: int = 65536, grow: bool = False, encoding: Optional[str] = "utf-8",
-         check_same_thread: bool = True) -> Segment:
+         check_same_thread: bool = True, mapped: bool = False) -> Segment:
     """The segment of a file. `mode` is one of
 
         "r"  the file is there, and is read alone             (open_read_only)
@@ -93,12 +96,15 @@ def open(path: Any, mode: str = "c", *, size: int = 65536, grow: bool = False, e
     A new segment has `size` bytes, and its file stands under the name at once, with an empty segment. With `grow` a
     segment becomes longer where there is no space. In the modes that save, the file belongs to this segment until it is
     closed: FileInUse. With check_same_thread=False each thread may use it: each of its calls is then alone on it.
-    FileError, if the file is refused; BadImage, BadMode, BadSize."""
+    With `mapped` the segment lies in the file: opening copies nothing, each change is in the file at once, and
+    `discard` takes none back; docs/C.md says what that costs. FileError, if the file is refused; BadImage, BadMode,
+    BadSize."""
     if not isinstance(mode, str) or mode not in FILE_MODES:
         raise BadMode(f"no mode is {mode!r}")
     opened = new_segment(grow, encoding, check_same_thread)
-    opened._file_call(zx.zx_file_open, path, path_bytes(path), FILE_MODES[mode], natural(size))
-    opened._path = path
+    how = FILE_MODES[mode] + (_MAPPED if mapped else 0)
+    opened._file_call(zx.zx_file_open, path, path_bytes(path), how, natural(size))
+    opened._path, opened._is_mapped = path, mapped
     return opened
 
 

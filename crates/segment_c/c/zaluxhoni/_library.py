@@ -9,7 +9,16 @@ BOOL, U8, I32, I64, U64, STRING, VECTOR, MAP, STRINGS = 1, 2, 3, 4, 5, 65536, 13
 
 
 class Handle(ctypes.Structure):
-    _fields_ = [("at", ctypes.c_void_p)]
+    _fields_ = [("at", ctypes.c_void_p), ("changes", ctypes.c_uint64), ("lent", ctypes.c_bool), ("shared", ctypes.c_bool)]
+
+
+class Memory(ctypes.Structure):
+    _fields_ = [("at", ctypes.c_void_p), ("len", ctypes.c_uint64)]
+
+
+class Elements(ctypes.Structure):
+    _fields_ = [("at", ctypes.c_void_p), ("offset", ctypes.c_uint64), ("count", ctypes.c_uint64),
+                ("changes", ctypes.c_uint64), ("kind", ctypes.c_uint32)]
 
 
 class File(ctypes.Structure):
@@ -92,7 +101,9 @@ def _calls() -> Dict[str, List[Any]]:
         "num_named": [number], "num_unique": [number], "named_at": [u64, info, memory, size],
         "unique_at": [u64, info], "tile_at": [u64, pointer(Tile)], "reserve_named": [u64], "reserve_unique": [u64],
         "shrink_indexes": [], "zero_free": [], "sanity": [truth], "all_deallocated": [truth],
-        "write_elements": [key, u64, values],
+        "write_elements": [key, u64, values], "attach": [pointer(Memory), u64, u32], "detach": [pointer(Memory)],
+        "view": [key, pointer(Elements)], "view_mut": [key, pointer(Elements)], "named_from": [text, size, number],
+        "begin": [pointer(Handle)], "rollback": [pointer(Handle)],
         "push_row": [key, u64, values], "read_pairs": [key, value, memory, memory, size, count],
         "put_pairs": [key, u32, u32, memory, memory, size], "clear_map": [key],
         "read_texts": [key, u64, memory, size, memory, size, count], "push_texts": [key, u64, texts, size],
@@ -115,8 +126,11 @@ def _load() -> Any:
     for name in ("zx_words", "zx_file_words"):
         call = getattr(library, name)
         call.argtypes, call.restype = [u32, ctypes.POINTER(Text)], None
+    library.zx_message.argtypes, library.zx_message.restype = [u32], ctypes.c_char_p
+    library.zx_version.argtypes, library.zx_version.restype = [], u32
     files: Dict[str, List[Any]] = {"open": [ctypes.c_char_p, u32, u64], "save": [], "save_as": [ctypes.c_char_p, u32],
-                                   "close": [], "discard": []}
+                                   "close": [], "discard": [], "grow": [u64], "shrink": [], "flush": [],
+                                   "rollback": [ctypes.POINTER(Handle)]}
     for name, arguments in files.items():
         call = getattr(library, "zx_file_" + name)
         call.argtypes, call.restype = [ctypes.POINTER(File), *arguments], u32
@@ -138,15 +152,14 @@ def _load_quick() -> Any:
 
 
 zx = _load()
+free = ctypes.PyDLL(None).free
+free.argtypes, free.restype = [ctypes.c_void_p], None
 quick = _load_quick()
 NO_NUMBER = -0x5A415855584F4E49
 """What a call for one number answers where it has none."""
 NO_SPACE = 9
-FIRST_OF_FILES, LAST_OF_FILES = 40, 53
 
 
 def words(code: int) -> str:
     """The library's words for a code."""
-    said = Text()
-    (zx.zx_file_words if FIRST_OF_FILES <= code <= LAST_OF_FILES else zx.zx_words)(code, ctypes.byref(said))
-    return ctypes.string_at(said.at, said.len).decode() if said.len else f"code {code}"
+    return zx.zx_message(code).decode() or f"code {code}"

@@ -3,6 +3,7 @@ from __future__ import annotations
 
 import collections.abc
 import ctypes
+import importlib
 import operator
 from typing import (TYPE_CHECKING, Any, Dict, Iterable, Iterator, List, MutableMapping, MutableSequence, Optional,
                     Sequence, Tuple, Union)
@@ -21,6 +22,44 @@ _element_at, _map_at, _put_at, _push_number, _set_at = (
 _reads = {BOOL: zx.zx_read_bools, U8: zx.zx_read_u8s, I32: zx.zx_read_i32s, I64: zx.zx_read_i64s, U64: zx.zx_read_u64s}
 _QUICK = (U8, I32, I64)
 _AHEAD = 4096
+
+
+class Lease:
+    """The elements of an object where they stand, which are lent as long as this is there."""
+
+    def __init__(self, owner: Any, code: int) -> None:
+        segment = self._segment = owner._segment
+        self._scalar, there = SCALARS[code], _library.Elements()
+        self._readonly = bool(segment.mode == "read")
+        owner._call(zx.zx_view if self._readonly else zx.zx_view_mut, there)
+        self._at, self._count = there.at, there.count
+        if self._count:
+            segment._lend(self, owner.handle)
+        form = f"{'|' if self._scalar.size == 1 else '<'}{_FORMS[self._scalar.letter]}{self._scalar.size}"
+        self.__array_interface__ = {"version": 3, "data": (self._at, self._readonly), "shape": (self._count,), "typestr": form}
+
+    def __del__(self) -> None:
+        self._segment._give_back(self)
+
+    def view(self) -> memoryview:
+        """A view that has the lease."""
+        if not self._count:
+            return memoryview(bytearray(self._scalar.size)).cast(self._scalar.letter)[:0]
+        memory = (ctypes.c_uint8 * (self._count * self._scalar.size)).from_address(self._at)
+        memory.lease = self
+        view = memoryview(memory).cast("B").cast(self._scalar.letter)
+        return view.toreadonly() if self._readonly else view
+
+    def array(self, dtype: Any, copy: Any) -> Any:
+        """An array of numpy that has the lease, or a copy."""
+        numpy: Any = importlib.import_module("numpy")
+        elements = numpy.asarray(self) if self._count else numpy.empty(0, self.__array_interface__["typestr"])
+        if dtype is not None and elements.dtype != dtype:
+            return elements.astype(dtype)
+        return elements.copy() if copy else elements
+
+
+_FORMS = {"?": "b", "B": "u", "i": "i", "q": "i", "Q": "u"}
 
 
 def places_of(index: slice, length: int) -> range:
@@ -293,11 +332,13 @@ class _Scalars(_Elements):
     def _read(self, first: int, count: int) -> List[Any]:
         return unpacked(self._scalar_code, self._memory(first, count), count)
 
+    def view(self) -> memoryview:
+        """The elements where they stand, without a copy: what is written there is written, and what would move them is
+        refused, by Lent, as long as the view is there. It may be read only. NotFound."""
+        return Lease(self, self._scalar_code).view()
+
     def __array__(self, dtype: Any = None, copy: Any = None) -> Any:
-        import numpy
-        count, own = len(self), SCALARS[self._scalar_code]
-        elements = numpy.frombuffer(self._memory(0, count), own.letter, count)
-        return elements if dtype is None else elements.astype(dtype)
+        return Lease(self, self._scalar_code).array(dtype, copy)
 
     def _set(self, place: int, value: Any) -> None:
         passed = self._number(value)
@@ -573,6 +614,10 @@ def _cut(memory: Any, ends: List[int], encoding: Optional[str]) -> List[Any]:
 
 class String(_Places):
     """A string: bytes, used as a bytearray; str(s) decodes them."""
+
+    def view(self) -> memoryview:
+        """The bytes where they stand, as Vector.view gives elements."""
+        return Lease(self, U8).view()
 
     def _text(self) -> bytes:
         length, room = ctypes.c_uint64(), 256

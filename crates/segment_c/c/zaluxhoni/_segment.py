@@ -11,7 +11,7 @@ import warnings
 from typing import Any, Callable, Dict, Iterator, List, MutableMapping, NamedTuple, Optional, Tuple
 
 from . import _library
-from ._errors import (BadCount, BadKey, BadName, BadValue, Error, Lent, NotFound, WrongKind,
+from ._errors import (BadCount, BadKey, BadName, BadValue, Error, FileUnsynced, Lent, NotFound, WrongKind,
                       WrongThread, error_of, file_error_of)
 from ._library import MAP, NO_SPACE, STRING, STRINGS, U8, VECTOR, quick, zx
 from ._objects import Array, Map, Object, Pairs, String, Strings, Vector, object_of
@@ -378,6 +378,16 @@ def _scalar_for(values: Any, key: Any) -> str:
         raise WrongKind(f"{key!r}: {error}") from None
 
 
+class _Left:
+    """Memory that views have when their segment is closed."""
+
+    def __init__(self, at: int) -> None:
+        self._at = at
+
+    def __del__(self) -> None:
+        _library.free(self._at)
+
+
 class Segment(_Named):
     """A segment, as a mapping from names to objects in the order of their bytes. `open`, `create` and `load` make
     one."""
@@ -392,7 +402,9 @@ class Segment(_Named):
         self._changes = 0
         self._lent: Dict[int, int] = {}
         self._any_name = ctypes.create_string_buffer(_LONGEST_NAME)
+        self._was_lent, self._left = False, []  # type: Tuple[bool, List[_Left]]
         self._path: Any = None
+        self._is_mapped = False
         self._classes: Dict[Any, Any] = _plain if check_same_thread else _locked_classes()
         self.growing = grow
         """Whether a call that finds no space makes the segment longer by half and goes on."""
@@ -545,13 +557,13 @@ class Segment(_Named):
         ReadOnly, Lent."""
         self._refuse_any_lent()
         self._changes += 1
-        self._call(zx.zx_grow, natural(extra))
+        self._file_call(zx.zx_file_grow, self._path, natural(extra))
 
     def shrink(self) -> None:
         """Makes the segment as short as its last block lets it be. ReadOnly, Lent."""
         self._refuse_any_lent()
         self._changes += 1
-        self._call(zx.zx_shrink)
+        self._file_call(zx.zx_file_shrink, self._path)
 
     def relocate(self, capacity: int) -> None:
         """Moves the segment into a region of so many bytes. BadSize, ShortRegion, NoMemory, Lent."""
@@ -564,13 +576,32 @@ class Segment(_Named):
         block the segment is as it was at its begin. It takes a copy of the segment. NoMemory, Closed."""
         return Transaction(self)
 
+    def _roll_back(self, before: _library.Handle) -> None:
+        """Makes the segment what its copy is. Views keep what they show, in memory of their own."""
+        self._changes += 1
+        if not self._lent:
+            return self._file_call(zx.zx_file_rollback, self._path, before)
+        self._refuse_lent_file()
+        length = ctypes.c_uint64()
+        zx.zx_size(before, length)
+        image, mode, capacity = ctypes.create_string_buffer(length.value), MODES_OF[self.mode], self.size + self.region_left
+        zx.zx_save(before, image, len(image))
+        self._leave_memory()
+        self._call(zx.zx_open, image.raw, len(image), max(capacity, len(image)), mode)
+
     # -- its file
 
     def save(self) -> None:
         """Saves the file that the segment was opened from, unless it has just these bytes: a new file takes its place
         when all of it is on the disk, so that one of the two stands whole under the name whatever fails. ReadOnly,
         NoFile, FileError; after FileUnsynced alone it is saved."""
+        self._note_views()
         self._file_call(zx.zx_file_save, self._path)
+
+    def flush(self) -> None:
+        """Waits until the changes of a mapped file are on the disk; saves another one. As save."""
+        self._note_views()
+        self._file_call(zx.zx_file_flush, self._path)
 
     def save_as(self, path: Any) -> None:
         """Saves the image in a new file. FileExists, FileError."""
@@ -578,18 +609,56 @@ class Segment(_Named):
 
     def close(self) -> None:
         """Saves the file, if there is one that is open for writing, and closes the segment. After an error it is still
-        open, but for FileUnsynced."""
-        self._refuse_any_lent()
+        open, but for FileUnsynced. A view keeps the memory that it shows, but of a mapped file: Lent."""
+        if self._lent:
+            self._refuse_lent_file()
+            try:
+                if self._file.held:
+                    self.save()
+            except FileUnsynced:
+                self.discard()
+                raise
+            return self.discard()
         self._changes += 1
+        self._note_views()
         self._file_call(zx.zx_file_close, self._path)
 
     def discard(self) -> None:
-        """Closes the segment and saves nothing. Removes a file that it created and never saved. Lent."""
+        """Closes the segment and saves nothing. Removes a file that it created and never saved. A mapped file stays, with
+        all changes. Lent as close."""
         if self._thread_number and _here.number != self._thread_number:
             raise WrongThread()
-        self._refuse_any_lent()
+        if self._lent:
+            self._refuse_lent_file()
+            self._leave_memory()
         self._changes += 1
         zx.zx_file_discard(self._file)
+
+    # -- views
+
+    def _lend(self, lease: Any, number: int) -> None:
+        """Notes that the elements of an object are lent."""
+        self._lent[id(lease)] = number
+        self._was_lent = True
+
+    def _give_back(self, lease: Any) -> None:
+        self._lent.pop(id(lease), None)
+
+    def _note_views(self) -> None:
+        """Has a save look whether views changed bytes."""
+        if self._was_lent:
+            self._handle.shared = True
+
+    def _refuse_lent_file(self) -> None:
+        if self._is_mapped:
+            self._refuse_any_lent()
+
+    def _leave_memory(self) -> None:
+        """Closes the segment, and leaves its memory to the views that are there."""
+        memory = _library.Memory()
+        self._call(zx.zx_detach, memory)
+        self._left.append(_Left(memory.at))
+        self._lent.clear()
 
     @property
     def is_open(self) -> bool:
@@ -611,7 +680,7 @@ class Segment(_Named):
         if file is None or not (self._handle.at or file.held):
             return
         try:
-            if file.held and self._process == os.getpid():
+            if file.held and not self._is_mapped and self._process == os.getpid():
                 said = f"a segment of {self._path!r} was not closed, and is not saved"
                 warnings.warn(said, ResourceWarning, source=self)
         finally:
@@ -673,16 +742,9 @@ class Segment(_Named):
 
     def _first_from(self, text: bytes) -> int:
         """How many names stand before a text."""
-        told, name = _library.Info(), ctypes.create_string_buffer(_LONGEST_NAME)
-        first, last = 0, len(self) if text else 0
-        while first < last:
-            middle = (first + last) // 2
-            self._call(zx.zx_named_at, middle, told, name, _LONGEST_NAME)
-            if name.raw[:told.name_len] < text:
-                first = middle + 1
-            else:
-                last = middle
-        return first
+        index = ctypes.c_uint64()
+        self._call(zx.zx_named_from, text, len(text), index)
+        return index.value
 
     # -- the two indexes, and all of the segment
 
@@ -756,26 +818,27 @@ class Transaction:
 
     def __init__(self, segment: Segment) -> None:
         self._segment = segment
-        self._images: List[Tuple[bytes, int, int]] = []
+        self._copies: List[_library.Handle] = []
 
     def __enter__(self) -> Segment:
-        segment = self._segment
+        segment, before = self._segment, _library.Handle()
         segment._lock.acquire()
         try:
-            self._images.append((segment.image(), segment.size + segment.region_left, MODES_OF[segment.mode]))
+            if segment.mode != "read":
+                segment._call(zx.zx_begin, before)
         except BaseException:
             segment._lock.release()
             raise
+        self._copies.append(before)
         return segment
 
     def __exit__(self, kind: Any, *_: Any) -> None:
-        segment, (image, capacity, mode) = self._segment, self._images.pop()
+        segment, before = self._segment, self._copies.pop()
         try:
-            if kind is not None and segment.is_open and segment.image() != image:
-                segment._refuse_any_lent()
-                segment._changes += 1
-                segment._call(zx.zx_open, image, len(image), capacity, mode)
+            if kind is not None and before.at and segment.is_open:
+                segment._roll_back(before)
         finally:
+            zx.zx_close(before)
             segment._lock.release()
 
 

@@ -981,7 +981,7 @@ def views():
     # what would move the elements, or their segment, is refused while they are lent
     for call in (lambda: v.append(1), lambda: v.pop(), lambda: v.clear(), lambda: v.extend([1]), lambda: v.assign([1]), lambda: v.insert(0, 1),
                  lambda: v.reserve(100), lambda: v.trim(), lambda: v.__delitem__(0), lambda: s.__delitem__("v"), lambda: s.destroy("v"),
-                 lambda: s.pop("v"), lambda: s.clear(), lambda: s.object(handle(v.handle)).append(1), lambda: set_item(s, "v", [1]),
+                 lambda: s.pop("v"), lambda: s.object(handle(v.handle)).append(1), lambda: set_item(s, "v", [1]),
                  lambda: s.grow(64), lambda: s.shrink(), lambda: s.relocate(2**20), lambda: s["other"].extend(range(2000))):
         raises(zaluxhoni.Lent, call)
     same((view.tolist(), "v" in s), ([10, 20, 30], True))

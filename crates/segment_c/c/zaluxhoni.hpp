@@ -629,7 +629,10 @@ class snapshot {
     explicit snapshot(state &of) : of_(of) { check_code(zx_begin(of_.raw(), &before_)); }
     snapshot(const snapshot &) = delete;
     ~snapshot() {
-        if (before_.at != nullptr && zx_file_rollback(&of_.file, &before_) != ZX_DONE) zx_commit(&before_);
+        if (before_.at == nullptr || zx_file_rollback(&of_.file, &before_) == ZX_DONE) return;
+        // a segment that cannot be put back is closed, so that nobody takes it for what it was
+        zx_commit(&before_);
+        zx_file_discard(&of_.file);
     }
     void commit() noexcept { zx_commit(&before_); }
 
@@ -1154,7 +1157,8 @@ class segment {
     }
 
     /// Calls `call`, as one step: where it throws, the segment is again what it was before, and the error goes on. Steps
-    /// may lie in one another. It copies the segment. Of a file it saves nothing.
+    /// may lie in one another. It copies the segment. Of a file it saves nothing. Where there is no memory, or no room in
+    /// a mapped file, to make it what it was, it is closed.
     template <class Call> auto transaction(Call call) -> decltype(call()) {
         detail::snapshot before(state());
         if constexpr (std::is_void_v<decltype(call())>) {
@@ -2117,6 +2121,7 @@ struct std::formatter<zaluxhoni::detail::element<Access>, char> : std::formatter
 
 #if __cplusplus >= 202002L
 // iterators lead to the segment, and outlive what gave them
+template <class T> inline constexpr bool std::ranges::enable_borrowed_range<zaluxhoni::view<T>> = true;
 template <class T> inline constexpr bool std::ranges::enable_borrowed_range<zaluxhoni::const_array<T>> = true;
 template <class T> inline constexpr bool std::ranges::enable_borrowed_range<zaluxhoni::array<T>> = true;
 template <class T> inline constexpr bool std::ranges::enable_borrowed_range<zaluxhoni::const_vector<T>> = true;

@@ -501,6 +501,9 @@ void views_without_a_copy() {
     static_assert(std::ranges::contiguous_range<zaluxhoni::view<i64>> && std::ranges::sized_range<zaluxhoni::view<i64>>);
     const std::span<const i64> span = kept.vector<i64>("v").view();
     IS(span.back() == 4);
+    const std::span<i64> changed = v.view();
+    changed[0] = 9;
+    IS(v[0] == 9);
 #endif
 }
 

@@ -3,6 +3,7 @@ from __future__ import annotations
 
 import collections.abc
 import ctypes
+import importlib
 import operator
 from typing import (TYPE_CHECKING, Any, Dict, Iterable, Iterator, List, MutableMapping, MutableSequence, Optional,
                     Sequence, Tuple, Union)
@@ -294,7 +295,7 @@ class _Scalars(_Elements):
         return unpacked(self._scalar_code, self._memory(first, count), count)
 
     def __array__(self, dtype: Any = None, copy: Any = None) -> Any:
-        import numpy
+        numpy: Any = importlib.import_module("numpy")
         count, own = len(self), SCALARS[self._scalar_code]
         elements = numpy.frombuffer(self._memory(0, count), own.letter, count)
         return elements if dtype is None else elements.astype(dtype)

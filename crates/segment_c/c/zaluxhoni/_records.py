@@ -2,6 +2,7 @@
 from __future__ import annotations
 
 import ctypes
+import importlib
 import struct
 from typing import TYPE_CHECKING, Any, Callable, Iterable, Iterator, List, MutableSequence
 
@@ -34,7 +35,7 @@ def _form_of_ctypes(form: Any) -> _Form:
 
 
 def _form_of_dtype(form: Any) -> _Form:
-    import numpy
+    numpy: Any = importlib.import_module("numpy")
 
     def to_bytes(value: Any) -> bytes:
         return bytes(numpy.array(value, form).tobytes())
@@ -200,7 +201,7 @@ class Records(MutableSequence[Any]):
     __hash__ = None  # type: ignore[assignment]
 
     def __array__(self, dtype: Any = None, copy: Any = None) -> Any:
-        import numpy
+        numpy: Any = importlib.import_module("numpy")
         form = numpy.dtype(self._given)
         return numpy.array(numpy.asarray(self._elements).view(form), dtype or form, copy=bool(copy))
 

@@ -69,13 +69,16 @@ def extends(of, values):
 
 copy_of_numbers, ours, theirs = array.array("q", numbers), shop.vector("new", "i64"), []
 cases = [
-    ("m[k]", LOOKS, lambda: looks(pairs), "sqlite3", sql_looks), ("m[k]", LOOKS, lambda: looks(pairs), "dict", lambda: looks(plain)),
+    ("m[k]", LOOKS, lambda: looks(pairs), "sqlite3", sql_looks), ("m[k]", LOOKS, lambda: looks(pairs), "dict",
+                                                                  lambda: looks(plain)),
     ("m[k] = v", LOOKS, lambda: puts(pairs), "sqlite3", sql_puts),
     ("items()", MANY, lambda: each(pairs.items()), "sqlite3", lambda: each(db.execute("select key, value from pairs"))),
-    ("items() of names", NAMES, lambda: each(named.items()), "sqlite3", lambda: each(db.execute("select name, value from names order by name"))),
+    ("items() of names", NAMES, lambda: each(named.items()), "sqlite3",
+     lambda: each(db.execute("select name, value from names order by name"))),
     ("extend by a range", MANY, lambda: extends(ours, range(MANY)), "list", lambda: extends(theirs, range(MANY))),
     ("extend by a list", MANY, lambda: extends(ours, numbers), "list", lambda: extends(theirs, numbers)),
-    ("extend by an array", MANY, lambda: extends(ours, copy_of_numbers), "list", lambda: extends(theirs, copy_of_numbers)),
+    ("extend by an array", MANY, lambda: extends(ours, copy_of_numbers), "list",
+     lambda: extends(theirs, copy_of_numbers)),
     ("append", LOOKS, lambda: appends(ours), "list", lambda: appends(theirs)),
     ("v[i]", LOOKS, lambda: looks(vector), "list", lambda: looks(numbers)),
     ("list(v)", MANY, lambda: list(vector), "list of an array", lambda: list(copy_of_numbers)),

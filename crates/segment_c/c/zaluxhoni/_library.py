@@ -132,7 +132,8 @@ def _load_quick() -> Any:
                                    "push_number": [i64], "set_at": [ctypes.c_uint64, i64]}
     for name, arguments in calls.items():
         call = getattr(library, "zx_" + name)
-        call.argtypes, call.restype = [place, *arguments], i64 if name.endswith("_at") and name[0] in "me" else ctypes.c_uint32
+        call.argtypes, call.restype = [place,
+                                       *arguments], i64 if name.endswith("_at") and name[0] in "me" else ctypes.c_uint32
     library.zx_thread.argtypes, library.zx_thread.restype = [], ctypes.c_uint64
     return library
 

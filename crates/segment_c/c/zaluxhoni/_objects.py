@@ -22,6 +22,12 @@ _element_at, _map_at, _put_at, _push_number, _set_at = (
 _reads = {BOOL: zx.zx_read_bools, U8: zx.zx_read_u8s, I32: zx.zx_read_i32s, I64: zx.zx_read_i64s, U64: zx.zx_read_u64s}
 _QUICK = (U8, I32, I64)
 _AHEAD = 4096
+_FEW = 64
+
+
+def _quick_range(code: int, is_quick: bool) -> Tuple[int, int]:
+    """The numbers that a call for one number takes: none where the object is of another kind."""
+    return (SCALARS[code].least, SCALARS[code].most) if is_quick else (1, 0)
 
 
 def places_of(index: slice, length: int) -> range:
@@ -260,14 +266,15 @@ class _Scalars(_Elements):
     def __init__(self, segment: Segment, key: Key, code: int) -> None:
         super().__init__(segment, key, code)
         self._scalar_code = code if is_scalar(code) else code - VECTOR
-        self._is_quick = self._scalar_code in _QUICK
-        self._least, self._most = SCALARS[self._scalar_code].least, SCALARS[self._scalar_code].most
+        is_quick = self._scalar_code in _QUICK
+        self._least, self._most = _quick_range(self._scalar_code, is_quick)
+        self._places = MOST if is_quick else 0
 
     def _get(self, place: int) -> int:
         return self._scalar(place)
 
     def __getitem__(self, index: Any) -> Any:
-        if type(index) is int and self._is_quick and 0 <= index < MOST:
+        if type(index) is int and 0 <= index < self._places:
             value = _element_at(self._at, index)
             if value != NO_NUMBER:
                 return value
@@ -326,7 +333,7 @@ class _Scalars(_Elements):
     def __setitem__(self, index: Any, value: Any) -> None:
         if isinstance(index, slice):
             return self._set_slice(index, value)
-        if type(index) is int and type(value) is int and self._is_quick and 0 <= index < MOST \
+        if type(index) is int and type(value) is int and 0 <= index < self._places \
                 and self._least <= value <= self._most:
             self._segment._changes += 1
             if not _set_at(self._at, index, value):
@@ -455,7 +462,7 @@ class Vector(_Scalars, _List, MutableSequence[int]):
     def append(self, value: int) -> None:
         """Puts a value behind the last element. NoSpace, OutOfRange, WrongKind."""
         segment = self._segment
-        if type(value) is int and self._is_quick and self._least <= value <= self._most and not segment._lent:
+        if type(value) is int and self._least <= value <= self._most and not segment._lent:
             segment._changes += 1
             if not _push_number(self._at, value):
                 return
@@ -464,7 +471,7 @@ class Vector(_Scalars, _List, MutableSequence[int]):
     def _extend(self, values: Any) -> None:
         passed = self._row(values)
         length, places = self._measure()
-        if passed.count * 8 < length:
+        if passed.count < _FEW or passed.count * 8 < length:
             self._make_room(length + passed.count, places)
             return self._change(zx.zx_push_row, length, passed.passed)
         size = SCALARS[self._scalar_code].size
@@ -736,12 +743,12 @@ class Map(Pairs, Object, MutableMapping[int, int]):
     def __init__(self, segment: Segment, key: Key, code: int) -> None:
         super().__init__(segment, key, code)
         self._key_code, self._value_code = code >> 8 & 255, code & 255
-        self._is_quick = self._key_code in _QUICK and self._value_code in _QUICK
-        self._least, self._most = SCALARS[self._key_code].least, SCALARS[self._key_code].most
-        self._least_value, self._most_value = SCALARS[self._value_code].least, SCALARS[self._value_code].most
+        is_quick = self._key_code in _QUICK and self._value_code in _QUICK
+        self._least, self._most = _quick_range(self._key_code, is_quick)
+        self._least_value, self._most_value = _quick_range(self._value_code, is_quick)
 
     def __getitem__(self, key: int) -> int:
-        if type(key) is int and self._is_quick and self._least <= key <= self._most:
+        if type(key) is int and self._least <= key <= self._most:
             number: int = _map_at(self._at, key)
             if number != NO_NUMBER:
                 return number
@@ -766,7 +773,7 @@ class Map(Pairs, Object, MutableMapping[int, int]):
 
     def get(self, key: Any, default: Any = None) -> Any:
         """The value at a key, or `default`."""
-        if type(key) is int and self._is_quick and self._least <= key <= self._most:
+        if type(key) is int and self._least <= key <= self._most:
             number = _map_at(self._at, key)
             if number != NO_NUMBER:
                 return number
@@ -774,7 +781,7 @@ class Map(Pairs, Object, MutableMapping[int, int]):
         return default if value is None else value
 
     def __setitem__(self, key: int, value: int) -> None:
-        if type(key) is int and type(value) is int and self._is_quick and self._least <= key <= self._most \
+        if type(key) is int and type(value) is int and self._least <= key <= self._most \
                 and self._least_value <= value <= self._most_value:
             self._segment._changes += 1
             if not _put_at(self._at, key, value):
@@ -853,7 +860,7 @@ class Map(Pairs, Object, MutableMapping[int, int]):
         return dict(self._pairs())
 
     def __contains__(self, key: Any) -> bool:
-        return self._get(key) is not None
+        return self.get(key) is not None
 
     def __iter__(self) -> Iterator[int]:
         return (key for key, _ in self._pairs())

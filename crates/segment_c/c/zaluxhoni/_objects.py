@@ -11,7 +11,7 @@ from typing import (TYPE_CHECKING, Any, Dict, Iterable, Iterator, List, MutableM
 from . import _library
 from ._errors import Absent, BadCount, BadValue, Error, NoElement, NoSpace, OutOfRange, WrongKind, error_of
 from ._library import BOOL, I32, I64, NO_NUMBER, STRING, STRINGS, U8, U64, VECTOR, MAP, quick, zx
-from ._values import (KINDS, MOST, SCALARS, Key, Row, Texts, decoded, encoded, from_words, is_scalar, listed,
+from ._values import (KINDS, SCALARS, Key, Row, Texts, decoded, encoded, from_words, is_scalar, listed,
                       natural, number_in, pairs_of, raw_key, row, scalar, unpacked, value_of, whole)
 
 if TYPE_CHECKING:
@@ -23,11 +23,13 @@ _reads = {BOOL: zx.zx_read_bools, U8: zx.zx_read_u8s, I32: zx.zx_read_i32s, I64:
 _QUICK = (U8, I32, I64)
 _AHEAD = 4096
 _FEW = 64
+_SMALL = 2**31
 
 
 def _quick_range(code: int, is_quick: bool) -> Tuple[int, int]:
-    """The numbers that a call for one number takes: none where the object is of another kind."""
-    return (SCALARS[code].least, SCALARS[code].most) if is_quick else (1, 0)
+    """The numbers that a call for one small number takes: none where the object is of another kind."""
+    own = SCALARS[code]
+    return (max(own.least, -_SMALL), min(own.most, _SMALL - 1)) if is_quick else (1, 0)
 
 
 def places_of(index: slice, length: int) -> range:
@@ -268,7 +270,7 @@ class _Scalars(_Elements):
         self._scalar_code = code if is_scalar(code) else code - VECTOR
         is_quick = self._scalar_code in _QUICK
         self._least, self._most = _quick_range(self._scalar_code, is_quick)
-        self._places = MOST if is_quick else 0
+        self._places = _SMALL if is_quick else 0
 
     def _get(self, place: int) -> int:
         return self._scalar(place)
@@ -474,6 +476,8 @@ class Vector(_Scalars, _List, MutableSequence[int]):
         if passed.count < _FEW or passed.count * 8 < length:
             self._make_room(length + passed.count, places)
             return self._change(zx.zx_push_row, length, passed.passed)
+        if not length:
+            return self._change(zx.zx_assign, passed.passed)
         size = SCALARS[self._scalar_code].size
         together = self._memory(0, length, passed.count)
         ctypes.memmove(ctypes.addressof(together) + length * size, passed.memory, passed.count * size)

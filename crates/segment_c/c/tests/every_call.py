@@ -185,7 +185,8 @@ def storage_is_lengthened_then_replaced():
     same(s.free, 688)
     same((len(v), v.capacity), (5, 8))
     same(s.construct("i64", None, 9).handle, 336)
-    v.extend(range(6, 10))
+    for number in range(6, 10):
+        v.append(number)
     same(s.tiles(), [(128, 48, "index"), (176, 64, "object"), (240, 80, "gap"), (320, 48, "object"),
                      (368, 144, "storage"),
                      (512, 496, "gap")])

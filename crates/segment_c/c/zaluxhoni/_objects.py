@@ -706,7 +706,7 @@ class _ValuesView(collections.abc.ValuesView):  # type: ignore[type-arg]
         return f"dict_values({list(self)!r})"
 
 
-class Pairs:
+class _Pairs:
     """What maps and mappings of names have in common with dict, beside the methods of MutableMapping."""
 
     def _pairs(self) -> Iterator[Tuple[Any, Any]]:
@@ -741,7 +741,7 @@ class Pairs:
 _missing = object()
 
 
-class Map(Pairs, Object, MutableMapping[int, int]):
+class Map(_Pairs, Object, MutableMapping[int, int]):
     """A map from scalars to scalars, used as a dict, in the order of its keys."""
 
     def __init__(self, segment: Segment, key: Key, code: int) -> None:

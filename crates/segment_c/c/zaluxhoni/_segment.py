@@ -15,7 +15,7 @@ from . import _library
 from ._errors import (BadCount, BadKey, BadName, BadValue, Error, Lent, NotFound, WrongKind,
                       WrongThread, error_of, file_error_of)
 from ._library import BOOL, I32, I64, MAP, NO_SPACE, STRING, STRINGS, U8, VECTOR, quick, zx
-from ._objects import Array, Map, Object, Pairs, String, Strings, Vector, object_of
+from ._objects import Array, Map, Object, _Pairs, String, Strings, Vector, object_of
 from ._records import Records
 from ._values import (KINDS, MOST, TEXTS, Key, Texts, code_of, counted, encoded, handle, is_scalar,
                       is_truth, listed, natural, number_in, pairs_of, raw_key, row, scalar, value_of, whole)
@@ -66,7 +66,7 @@ class _Here(threading.local):
 _here = _Here()
 
 
-class _Named(Pairs, MutableMapping[str, Any]):
+class _Named(_Pairs, MutableMapping[str, Any]):
     """What segments and groups have in common: a mapping from names to objects, in the order of the names' bytes."""
     _segment: Segment
     _prefix: str

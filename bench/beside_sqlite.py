@@ -1,6 +1,6 @@
-"""The package for Python beside sqlite3, list and dict, in one run: nanoseconds for each element, the least of ROUNDS
-rounds (7), taken in turn. Run it as PYTHONPATH=FOLDER python3 bench/beside_sqlite.py, where FOLDER is what
-crates/segment_c/c/build.sh made; numpy is taken where it is there."""
+"""The package for Python beside sqlite3, list and dict, in one run: nanoseconds of the processor for each element, the
+least of ROUNDS rounds (7), taken in turn. Run it as PYTHONPATH=FOLDER python3 bench/beside_sqlite.py, where FOLDER is
+what crates/segment_c/c/build.sh made."""
 import array
 import os
 import random
@@ -95,8 +95,8 @@ for name, count, mine, beside, other in cases:
     least = [float("inf")] * 2
     for _ in range(rounds):
         for place, call in enumerate((mine, other)):
-            begin = time.perf_counter()
+            begin = time.thread_time()
             call()
-            least[place] = min(least[place], time.perf_counter() - begin)
+            least[place] = min(least[place], time.thread_time() - begin)
     spent = [seconds / count * 1e9 for seconds in least]
     print(f"| {name} | {count} | {spent[0]:.0f} | {beside} | {spent[1]:.0f} | {spent[0] / spent[1]:.2f} |")

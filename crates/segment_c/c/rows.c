@@ -54,8 +54,8 @@ zx_code zx_read_pairs(zx_segment *segment, const zx_key *key, const zx_value *af
     return ZX_DONE;
 }
 
-zx_code zx_put_pairs(zx_segment *segment, const zx_key *key, uint32_t key_kind, uint32_t value_kind, const int64_t *keys,
-                     const int64_t *values, size_t count) {
+zx_code zx_put_pairs(zx_segment *segment, const zx_key *key, uint32_t key_kind, uint32_t value_kind,
+                     const int64_t *keys, const int64_t *values, size_t count) {
     zx_code code = ZX_DONE;
     bool is_new;
     if (!keys || !values) return ZX_NULL_SLICE;
@@ -77,8 +77,8 @@ zx_code zx_clear_map(zx_segment *segment, const zx_key *key) {
     return code == ZX_ABSENT ? (zx_code)ZX_DONE : code;
 }
 
-zx_code zx_read_texts(zx_segment *segment, const zx_key *key, uint64_t first, uint8_t *texts, size_t room, uint64_t *ends,
-                      size_t count, size_t *read) {
+zx_code zx_read_texts(zx_segment *segment, const zx_key *key, uint64_t first, uint8_t *texts, size_t room,
+                      uint64_t *ends, size_t count, size_t *read) {
     uint64_t end = 0, len;
     *read = 0;
     if (!texts || !ends) return ZX_NULL_SLICE;
@@ -99,8 +99,8 @@ zx_code zx_push_texts(zx_segment *segment, const zx_key *key, uint64_t first, co
     return code;
 }
 
-zx_code zx_read_names(zx_segment *segment, uint64_t first, zx_info *infos, zx_value *values, uint8_t *names, size_t room,
-                      size_t count, size_t *read) {
+zx_code zx_read_names(zx_segment *segment, uint64_t first, zx_info *infos, zx_value *values, uint8_t *names,
+                      size_t room, size_t count, size_t *read) {
     size_t end = 0;
     *read = 0;
     if (!infos || !values || !names) return ZX_NULL_SLICE;
@@ -131,32 +131,31 @@ uint64_t zx_thread(void) {
 
 static bool is_here(const zx_place *place) { return !place->thread || place->thread == zx_thread(); }
 
-static zx_value number_for(int64_t number) { return zx_i64(number); }
-
-int64_t zx_map_at(const zx_place *place, int64_t at) {
-    zx_value key = number_for(at), value;
+int64_t zx_map_at(const zx_place *place, int32_t at) {
+    zx_value key = zx_i32(at), value;
     if (!is_here(place) || zx_map_get(place->segment, &place->key, &key, &value)) return ZX_NO_NUMBER;
     return word_in(&value);
 }
 
-int64_t zx_element_at(const zx_place *place, uint64_t index) {
+int64_t zx_element_at(const zx_place *place, int32_t index) {
     zx_value value;
-    if (!is_here(place) || zx_get(place->segment, &place->key, index, &value)) return ZX_NO_NUMBER;
-    return word_in(&value);
+    if (index < 0 || !is_here(place)) return ZX_NO_NUMBER;
+    return zx_get(place->segment, &place->key, (uint64_t)index, &value) ? ZX_NO_NUMBER : word_in(&value);
 }
 
-zx_code zx_put_at(const zx_place *place, int64_t at, int64_t number) {
-    zx_value key = number_for(at), value = number_for(number);
+zx_code zx_put_at(const zx_place *place, int32_t at, int32_t number) {
+    zx_value key = zx_i32(at), value = zx_i32(number);
     bool is_new;
     return is_here(place) ? zx_map_put(place->segment, &place->key, &key, &value, &is_new) : (zx_code)ZX_CLOSED;
 }
 
-zx_code zx_push_number(const zx_place *place, int64_t number) {
-    zx_value value = number_for(number);
+zx_code zx_push_number(const zx_place *place, int32_t number) {
+    zx_value value = zx_i32(number);
     return is_here(place) ? zx_push(place->segment, &place->key, &value) : (zx_code)ZX_CLOSED;
 }
 
-zx_code zx_set_at(const zx_place *place, uint64_t index, int64_t number) {
-    zx_value value = number_for(number);
-    return is_here(place) ? zx_set(place->segment, &place->key, index, &value) : (zx_code)ZX_CLOSED;
+zx_code zx_set_at(const zx_place *place, int32_t index, int32_t number) {
+    zx_value value = zx_i32(number);
+    if (index < 0) return ZX_OUT_OF_RANGE;
+    return is_here(place) ? zx_set(place->segment, &place->key, (uint64_t)index, &value) : (zx_code)ZX_CLOSED;
 }

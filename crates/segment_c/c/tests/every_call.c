@@ -1128,7 +1128,8 @@ static void rows_of_numbers(void) {
     zx_key v = zx_name("v"), m = zx_name("m");
     int32_t few[3] = { 7, -8, 9 }, row[5];
     int64_t keys[4] = { 3, 1, -2, 3 }, numbers[4] = { 30, 10, 20, 31 };
-    zx_values values = zx_i32s(few, 3), wrong_kind = zx_bools((const bool *)few, 1), none = zx_i32s(0, 0);
+    bool truth = true;
+    zx_values values = zx_i32s(few, 3), wrong_kind = zx_bools(&truth, 1), none = zx_i32s(0, 0);
     zx_value after = zx_i64(1);
     uint64_t handle, len, places;
     size_t read;

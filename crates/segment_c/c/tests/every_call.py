@@ -1,5 +1,5 @@
-"""Every call of the package zaluxhoni, and by it each of zaluxhoni.h, on the worked examples of docs/LANGUAGE.md, section 11,
-and on what is raised. The files that it makes are in the folder that is its one argument."""
+"""Every call of the package zaluxhoni, and by it each of zaluxhoni.h, on the worked examples of docs/LANGUAGE.md,
+section 11, and on what is raised. The files that it makes are in the folder that is its one argument."""
 import copy
 import ctypes
 import gc
@@ -185,8 +185,10 @@ def storage_is_lengthened_then_replaced():
     same(s.free, 688)
     same((len(v), v.capacity), (5, 8))
     same(s.construct("i64", None, 9).handle, 336)
-    v.extend(range(6, 10))
-    same(s.tiles(), [(128, 48, "index"), (176, 64, "object"), (240, 80, "gap"), (320, 48, "object"), (368, 144, "storage"),
+    for number in range(6, 10):
+        v.append(number)
+    same(s.tiles(), [(128, 48, "index"), (176, 64, "object"), (240, 80, "gap"), (320, 48, "object"),
+                     (368, 144, "storage"),
                      (512, 496, "gap")])
     s = saved(s, "storage")
     same(list(s["v"]), [1, 2, 3, 4, 5, 6, 7, 8, 9])
@@ -363,7 +365,8 @@ def objects_found_or_made():
 
 def every_kind_of_scalar():
     s = zaluxhoni.create(4096)
-    for kind, least, most in (("u8", 0, 255), ("i32", -2**31, 2**31 - 1), ("i64", -2**63, 2**63 - 1), ("u64", 0, 2**64 - 1)):
+    for kind, least, most in (("u8", 0, 255), ("i32", -2**31, 2**31 - 1), ("i64", -2**63, 2**63 - 1),
+                              ("u64", 0, 2**64 - 1)):
         for number in (least, most):
             s.construct(kind, kind, number)
             same(s[kind], number)
@@ -462,7 +465,8 @@ def a_segment_as_a_dict():
     s["texts"] = ["a", b"b"]
     s["pairs"] = {1: 10}
     same({name: s.info(name).kind for name in s},
-         {"large": "u64", "number": "i64", "numbers": "vec<i64>", "pairs": "map<i64,i64>", "text": "string", "texts": "vec<string>",
+         {"large": "u64", "number": "i64", "numbers": "vec<i64>", "pairs": "map<i64,i64>", "text": "string",
+          "texts": "vec<string>",
           "truth": "bool", "truths": "vec<bool>"})
     same((s["number"], str(s["text"]), "text" in s, "other" in s), (6, "text and more", True, False))
     s["numbers"] = [3]
@@ -583,9 +587,12 @@ def what_is_refused():
     raises(zaluxhoni.BadKind, s.construct, "vec<i64>[3]", "a")
     raises(zaluxhoni.BadKind, s.construct, "f64", "a", 1)
     raises(zaluxhoni.NotFound, s.info, "a")
-    for error, base in ((zaluxhoni.NotFound, KeyError), (zaluxhoni.Absent, KeyError), (zaluxhoni.OutOfRange, IndexError),
-                        (zaluxhoni.OutOfRange, OverflowError), (zaluxhoni.NoSpace, MemoryError), (zaluxhoni.WrongKind, TypeError),
-                        (zaluxhoni.ReadOnly, PermissionError), (zaluxhoni.Exists, ValueError), (zaluxhoni.Truncated, ValueError)):
+    for error, base in ((zaluxhoni.NotFound, KeyError), (zaluxhoni.Absent, KeyError),
+                        (zaluxhoni.OutOfRange, IndexError),
+                        (zaluxhoni.OutOfRange, OverflowError), (zaluxhoni.NoSpace, MemoryError),
+                        (zaluxhoni.WrongKind, TypeError),
+                        (zaluxhoni.ReadOnly, PermissionError), (zaluxhoni.Exists, ValueError),
+                        (zaluxhoni.Truncated, ValueError)):
         same((issubclass(error, base), issubclass(error, zaluxhoni.Error)), (True, True))
     same(str(zaluxhoni.ReadOnly()), "read only")
     same(str(zaluxhoni.NotFound()), "not found")
@@ -618,10 +625,14 @@ def values_of_one_kind_alone():
     s = zaluxhoni.create(4096)
     s["n"], s["v"], s["t"], s["m"], s["text"] = 5, [1, 2], ["a"], {1: 2}, "x"
     s.construct("vec<u8>", "bytes", [1])
-    for name, refused in (("n", b"A"), ("n", "A"), ("n", {5: 6}), ("n", {5}), ("n", 5.0), ("n", None), ("v", {7: 8}), ("v", {1, 2}),
-                          ("v", b"ab"), ("v", "ab"), ("v", 5), ("v", ["a"]), ("t", {"a": 1}), ("t", {"a"}), ("t", "ab"), ("t", 5),
-                          ("t", [1]), ("m", [(1, 2)]), ("m", [1]), ("m", 5), ("m", "ab"), ("text", 5), ("text", ["a"]), ("text", {1: 2}),
-                          ("new", {1, 2}), ("new", iter([1])), ("new", None), ("new", [1.5]), ("new", {"a": 1}), ("bytes", "ab")):
+    for name, refused in (("n", b"A"), ("n", "A"), ("n", {5: 6}), ("n", {5}), ("n", 5.0), ("n", None), ("v", {7: 8}),
+                          ("v", {1, 2}),
+                          ("v", b"ab"), ("v", "ab"), ("v", 5), ("v", ["a"]), ("t", {"a": 1}), ("t", {"a"}),
+                          ("t", "ab"), ("t", 5),
+                          ("t", [1]), ("m", [(1, 2)]), ("m", [1]), ("m", 5), ("m", "ab"), ("text", 5), ("text", ["a"]),
+                          ("text", {1: 2}),
+                          ("new", {1, 2}), ("new", iter([1])), ("new", None), ("new", [1.5]), ("new", {"a": 1}),
+                          ("bytes", "ab")):
         raises(zaluxhoni.WrongKind, set_item, s, name, refused)
     same(all_of(s), {"bytes": [1], "m": {1: 2}, "n": 5, "t": ["a"], "text": "x", "v": [1, 2]})
     s["bytes"] = b"ab"
@@ -642,7 +653,8 @@ def all_of(mapping):
 def a_mapping_as_dict_is_one():
     s = zaluxhoni.create(4096)
     s["v"], s["t"], s["n"], s["text"], s["m"] = [1, 2], ["a"], 5, "x", {1: 2}
-    same((s.pop("v"), s.pop("t"), s.pop("n"), s.pop("text"), s.pop("m"), s.pop("m", 7)), ([1, 2], ["a"], 5, "x", {1: 2}, 7))
+    same((s.pop("v"), s.pop("t"), s.pop("n"), s.pop("text"), s.pop("m"), s.pop("m", 7)),
+         ([1, 2], ["a"], 5, "x", {1: 2}, 7))
     raises(zaluxhoni.NotFound, s.pop, "v")
     s.setdefault("q", []).append(1)
     s.setdefault("q", []).append(2)
@@ -657,7 +669,8 @@ def a_mapping_as_dict_is_one():
     raises(zaluxhoni.WrongKind, s.update, 5)
     m = s.map("m", "i32", "i64")
     m[1] = 10
-    same(("a" in m, m.get("a"), m.get("a", 3), None in m, 1.5 in m, True in m, 2**31 in m), (False, None, 3, False, False, False, False))
+    same(("a" in m, m.get("a"), m.get("a", 3), None in m, 1.5 in m, True in m, 2**31 in m),
+         (False, None, 3, False, False, False, False))
     for key in ("a", None, 2**31, 1.5, True):
         raises(zaluxhoni.Absent, m.__getitem__, key)
         raises(zaluxhoni.Absent, delete_item, m, key)
@@ -678,21 +691,30 @@ def a_mapping_as_dict_is_one():
 def refusals_have_names():
     """Each error derives from Error, and tells which object it is about."""
     s = zaluxhoni.create(1024)
-    v, m, t, n = s.vector("numbers", "i32"), s.map("pairs", "i32", "i64"), s.strings("texts"), s.construct("i64", "one", 5)
+    v, m, t, n = s.vector("numbers", "i32"), s.map("pairs", "i32", "i64"), s.strings("texts"), s.construct("i64",
+                                                                                                           "one", 5)
     text, reader = s.string("text"), zaluxhoni.load(s.image(), "r")
     gone = s.construct("vec<i64>", "gone")
     gone.destroy()
     for name, call in (
-            ("missing", lambda: s["missing"]), ("missing", lambda: s.object("missing")), ("missing", lambda: s.info("missing")),
-            ("missing", lambda: delete_item(s, "missing")), ("missing", lambda: s.pop("missing")), ("gone", lambda: gone[0]),
-            ("gone", lambda: len(gone)), ("gone", lambda: gone.append(1)), ("numbers", lambda: s.find("i64", "numbers")),
-            ("numbers", lambda: s.map("numbers")), ("one", lambda: s.construct("u8", "one", 1)), ("one", lambda: s.string("one")),
-            ("numbers", lambda: v[0]), ("numbers", lambda: v[-1]), ("numbers", lambda: v.pop()), ("numbers", lambda: v.append(2**31)),
-            ("numbers", lambda: v.append("x")), ("numbers", lambda: v.append(True)), ("numbers", lambda: v.extend([1, "x"])),
+            ("missing", lambda: s["missing"]), ("missing", lambda: s.object("missing")), ("missing",
+                                                                                          lambda: s.info("missing")),
+            ("missing", lambda: delete_item(s, "missing")), ("missing", lambda: s.pop("missing")), ("gone",
+                                                                                                    lambda: gone[0]),
+            ("gone", lambda: len(gone)), ("gone", lambda: gone.append(1)),
+            ("numbers", lambda: s.find("i64", "numbers")),
+            ("numbers", lambda: s.map("numbers")), ("one", lambda: s.construct("u8", "one", 1)),
+            ("one", lambda: s.string("one")),
+            ("numbers", lambda: v[0]), ("numbers", lambda: v[-1]), ("numbers", lambda: v.pop()),
+            ("numbers", lambda: v.append(2**31)),
+            ("numbers", lambda: v.append("x")), ("numbers", lambda: v.append(True)),
+            ("numbers", lambda: v.extend([1, "x"])),
             ("numbers", lambda: v.assign(5)), ("numbers", lambda: v.remove(7)), ("numbers", lambda: v.index(7)),
-            ("numbers", lambda: v.reserve(10**6)), ("numbers", lambda: set_item(v, slice(0, 0, 2), [1])), ("pairs", lambda: m[4]),
+            ("numbers", lambda: v.reserve(10**6)), ("numbers", lambda: set_item(v, slice(0, 0, 2), [1])),
+            ("pairs", lambda: m[4]),
             ("pairs", lambda: m.put(4, True)), ("pairs", lambda: m.put("x", 1)), ("pairs", lambda: m.update({1: "x"})),
-            ("pairs", lambda: m.pop(4)), ("pairs", lambda: m.popitem()), ("texts", lambda: t.append(5)), ("texts", lambda: t[3]),
+            ("pairs", lambda: m.pop(4)), ("pairs", lambda: m.popitem()), ("texts", lambda: t.append(5)),
+            ("texts", lambda: t[3]),
             ("texts", lambda: t.assign("x")), ("texts", lambda: t.extend([1])), ("texts", lambda: t.append("x" * 2000)),
             ("text", lambda: text.assign(5)), ("text", lambda: text[3]), ("text", lambda: set_item(text, 0, 1)),
             ("one", lambda: set_item(n, 0, "x")), ("one", lambda: set_item(s, "one", 2**63)), ("one", lambda: n[5]),
@@ -700,7 +722,8 @@ def refusals_have_names():
             ("numbers", lambda: reader["numbers"].append(1)), ("new", lambda: set_item(s, "new", 1.5)),
             ("new", lambda: s.construct("i64", "new", 2**63)), ("new", lambda: s.construct("vec<i64>", "new", 5)),
             ("new", lambda: s.construct("i64[2]", "new", 5.0)), ("new", lambda: s.construct("i64[2000]", "new", 5)),
-            ("new", lambda: s.construct("i64[2]", "new", [1])), ("new", lambda: s.construct("string", "new", "\ud800"))):
+            ("new", lambda: s.construct("i64[2]", "new", [1])), ("new", lambda: s.construct("string", "new",
+                                                                                            "\ud800"))):
         try:
             call()
         except zaluxhoni.Error as error:
@@ -711,13 +734,18 @@ def refusals_have_names():
             fails(f"a bare {type(error).__name__}: {error}")
         else:
             fails(f"no error about {name!r}")
-    for call in (lambda: v["a"], lambda: v[1.5], lambda: v[:"a"], lambda: v[::0], lambda: t["a"], lambda: text[:"a"], lambda: text["a"],
-                 lambda: set_item(v, "a", 1), lambda: delete_item(v, "a"), lambda: v.insert("a", 1), lambda: v.extend(5), lambda: v * "a",
-                 lambda: zaluxhoni.create("a"), lambda: zaluxhoni.create(None), lambda: zaluxhoni.open(5), lambda: zaluxhoni.open("a", 5),
+    for call in (lambda: v["a"], lambda: v[1.5], lambda: v[:"a"], lambda: v[::0], lambda: t["a"], lambda: text[:"a"],
+                 lambda: text["a"],
+                 lambda: set_item(v, "a", 1), lambda: delete_item(v, "a"), lambda: v.insert("a", 1),
+                 lambda: v.extend(5), lambda: v * "a",
+                 lambda: zaluxhoni.create("a"), lambda: zaluxhoni.create(None), lambda: zaluxhoni.open(5),
+                 lambda: zaluxhoni.open("a", 5),
                  lambda: zaluxhoni.open("a", []), lambda: zaluxhoni.load(5), lambda: zaluxhoni.load(b"", None),
                  lambda: zaluxhoni.create(1024, encoding="none such"), lambda: s.grow("a"), lambda: s.construct(5, "a"),
-                 lambda: s.vector("a", 5), lambda: s.group(5), lambda: unique(5), lambda: handle("a"), lambda: s.find(None, "a"),
-                 lambda: s.find("i64", 5), lambda: s.info(5), lambda: s.destroy(5), lambda: m.update({}, {}), lambda: m.next_after("a"),
+                 lambda: s.vector("a", 5), lambda: s.group(5), lambda: unique(5), lambda: handle("a"),
+                 lambda: s.find(None, "a"),
+                 lambda: s.find("i64", 5), lambda: s.info(5), lambda: s.destroy(5), lambda: m.update({}, {}),
+                 lambda: m.next_after("a"),
                  lambda: s.records("numbers", "d"), lambda: s.records("r", "none such"), lambda: s.records("r", int)):
         try:
             call()
@@ -763,7 +791,8 @@ def a_list_as_list_is_one():
     v.sort(reverse=True)
     v += [7]
     v *= 2
-    same((v, v[::-3], v.count(7), [9] + v[:1], v[:1] + [9], v > [4, 3]), ([4, 3, 2, 1, 0, 7] * 2, [7, 2, 7, 2], 2, [9, 4], [4, 9], True))
+    same((v, v[::-3], v.count(7), [9] + v[:1], v[:1] + [9], v > [4, 3]), ([4, 3, 2, 1, 0, 7] * 2, [7, 2, 7, 2], 2,
+                                                                          [9, 4], [4, 9], True))
     raises(zaluxhoni.NoElement, v.remove, 9)
     raises(zaluxhoni.NoElement, v.index, 4, 1, 6)
     same(v.index(4, 1), 6)
@@ -793,7 +822,8 @@ def threads_that_follow_each_other():
 
     on_a_thread(opens)
     s, v, m = opened[0]
-    calls = (lambda: s.size, lambda: v[0], lambda: m[1], lambda: v.append(1), lambda: set_item(m, 1, 3), lambda: set_item(v, 0, 3),
+    calls = (lambda: s.size, lambda: v[0], lambda: m[1], lambda: v.append(1), lambda: set_item(m, 1, 3),
+             lambda: set_item(v, 0, 3),
              lambda: len(v), lambda: list(m), lambda: s.discard(), lambda: s.save())
     for _ in range(100):
         same(on_a_thread(lambda: (idents.append(threading.get_ident()), [name_of_error(call) for call in calls])[1]),
@@ -847,7 +877,8 @@ def groups():
     s["prices"], s["prices0"], s["pric"], s["prices/"], s["q"] = 1, 2, 3, 4, 5
     same(list(prices), ["", "apples", "of/kinds", "old", "pears"])
     same((len(prices), prices["apples"], s["prices/apples"], prices[""]), (5, 250, 250, 4))
-    same([info.name for info in prices.named()], ["prices/", "prices/apples", "prices/of/kinds", "prices/old", "prices/pears"])
+    same([info.name for info in prices.named()], ["prices/", "prices/apples", "prices/of/kinds", "prices/old",
+                                                  "prices/pears"])
     same(all_of(prices), {"": 4, "apples": 250, "of/kinds": ["red"], "old": {7: 8}, "pears": {1: 2}})
     same(prices.group("of/").named()[0].name, "prices/of/kinds")
     same((prices.pop("apples"), prices.popitem(), len(prices)), (250, ("", 4), 3))
@@ -934,7 +965,8 @@ def records():
     doubles.append(3.5)
     doubles.insert(0, 0.25)
     doubles[1] = 1.75
-    same((list(doubles), doubles[-1], doubles[1:3], len(doubles), len(s["doubles"])), ([0.25, 1.75, -2.5, 3.5], 3.5, [1.75, -2.5], 4, 32))
+    same((list(doubles), doubles[-1], doubles[1:3], len(doubles), len(s["doubles"])),
+         ([0.25, 1.75, -2.5, 3.5], 3.5, [1.75, -2.5], 4, 32))
     del doubles[0]
     doubles[1:1] = [9.0, 8.0]
     del doubles[::2]
@@ -979,10 +1011,13 @@ def views():
     s["other"].extend(range(20))
     same((view.tolist(), list(v)), ([10, 20, 30], [10, 20, 30]))
     # what would move the elements, or their segment, is refused while they are lent
-    for call in (lambda: v.append(1), lambda: v.pop(), lambda: v.clear(), lambda: v.extend([1]), lambda: v.assign([1]), lambda: v.insert(0, 1),
-                 lambda: v.reserve(100), lambda: v.trim(), lambda: v.__delitem__(0), lambda: s.__delitem__("v"), lambda: s.destroy("v"),
+    for call in (lambda: v.append(1), lambda: v.pop(), lambda: v.clear(), lambda: v.extend([1]), lambda: v.assign([1]),
+                 lambda: v.insert(0, 1),
+                 lambda: v.reserve(100), lambda: v.trim(), lambda: v.__delitem__(0), lambda: s.__delitem__("v"),
+                 lambda: s.destroy("v"),
                  lambda: s.pop("v"), lambda: s.object(handle(v.handle)).append(1), lambda: set_item(s, "v", [1]),
-                 lambda: s.grow(64), lambda: s.shrink(), lambda: s.relocate(2**20), lambda: s["other"].extend(range(2000))):
+                 lambda: s.grow(64), lambda: s.shrink(), lambda: s.relocate(2**20),
+                 lambda: s["other"].extend(range(2000))):
         raises(zaluxhoni.Lent, call)
     same((view.tolist(), "v" in s), ([10, 20, 30], True))
     del view
@@ -1280,16 +1315,21 @@ def what_is_not_closed():
 
 
 for case in (an_anonymous_object, names, index_and_object_do_not_both_fit, arrays, the_only_object_of_its_kind,
-             places_reserved_in_the_indexes, best_fit, storage_is_lengthened_then_replaced, a_string_grows_and_shrinks, a_map,
-             refusals_of_a_vector, a_vector_of_strings, objects_found_or_made, every_kind_of_scalar, many_at_once, one_of_each,
-             a_segment_as_a_dict, maps_are_made_whole, values_of_one_kind_alone, a_mapping_as_dict_is_one, refusals_have_names,
-             copies, a_list_as_list_is_one, threads_that_follow_each_other, one_segment_of_many_threads, groups, transactions,
+             places_reserved_in_the_indexes, best_fit, storage_is_lengthened_then_replaced, a_string_grows_and_shrinks,
+             a_map,
+             refusals_of_a_vector, a_vector_of_strings, objects_found_or_made, every_kind_of_scalar, many_at_once,
+             one_of_each,
+             a_segment_as_a_dict, maps_are_made_whole, values_of_one_kind_alone, a_mapping_as_dict_is_one,
+             refusals_have_names,
+             copies, a_list_as_list_is_one, threads_that_follow_each_other, one_segment_of_many_threads, groups,
+             transactions,
              records, views, size_and_region, calls_of_c, what_is_refused, one_thread, files, files_that_are_mapped,
              what_is_refused_by_name, a_process_that_forks, a_relative_path, files_that_fail, what_is_not_closed):
     try:
         case()
     except Exception as error:
         wrong += 1
-        print(f"every_call.py: WRONG {case.__name__}: {type(error).__name__}: {error}, line {error.__traceback__.tb_next.tb_lineno}")
+        line = error.__traceback__.tb_next.tb_lineno
+        print(f"every_call.py: WRONG {case.__name__}: {type(error).__name__}: {error}, line {line}")
 print(f"every_call.py: {checks} checks, {wrong} wrong")
 sys.exit(wrong != 0)

@@ -1,6 +1,6 @@
-"""random_calls.py FOLDER [SEED [STEPS]]: the same random calls to objects of a segment and to Python's own list, dict and
-bytearray, STEPS of them for lists, as many for maps, and as many for names in a segment and in a group of it; answers are
-compared, and classes of errors; the segment is saved and opened again on the way."""
+"""random_calls.py FOLDER [SEED [STEPS]]: the same random calls to objects of a segment and to Python's own list, dict
+and bytearray, STEPS of them for lists, as many for maps, and as many for names in a segment and in a group of it;
+answers are compared, and classes of errors; the segment is saved and opened again on the way."""
 import collections.abc
 import os
 import random
@@ -12,7 +12,8 @@ folder, seed = sys.argv[1], int(sys.argv[2]) if len(sys.argv) > 2 else 1
 steps = int(sys.argv[3]) if len(sys.argv) > 3 else 5000
 chance = random.Random(seed)
 path = os.path.join(folder, "python-random.seg")
-ranges = {"bool": (False, True), "u8": (0, 255), "i32": (-2**31, 2**31 - 1), "i64": (-2**63, 2**63 - 1), "u64": (0, 2**64 - 1)}
+ranges = {"bool": (False, True), "u8": (0, 255), "i32": (-2**31, 2**31 - 1), "i64": (-2**63, 2**63 - 1),
+          "u64": (0, 2**64 - 1)}
 wrong = calls = 0
 
 
@@ -111,22 +112,27 @@ def one_of_list(theirs, new):
     known = chance.choice(theirs) if theirs and chance.random() < 0.8 else value
     part, exact = any_slice(theirs), any_slice(theirs)
     fitting = [new() for _ in range(len(theirs[exact]))]
-    changes = [chance.choice((lambda of: of.append(known), lambda of: of.pop() if len(of) else None, lambda of: of.insert(1, known),
+    changes = [chance.choice((lambda of: of.append(known), lambda of: of.pop() if len(of) else None,
+                              lambda of: of.insert(1, known),
                               lambda of: set_item(of, 0, known) if len(of) else None, lambda of: None))
                for _ in range(chance.randint(0, 9))]
     return chance.choice((
-        lambda of: of.append(value), lambda of: of.append(value), lambda of: of.insert(index, value), lambda of: of.pop(),
+        lambda of: of.append(value), lambda of: of.append(value), lambda of: of.insert(index, value),
+        lambda of: of.pop(),
         lambda of: of.pop(index), lambda of: of[index], lambda of: set_item(of, index, value),
         lambda of: delete_item(of, index), lambda of: of[part], lambda of: set_item(of, part, some),
         lambda of: set_item(of, exact, fitting), lambda of: set_item(of, part, iter(some)),
         lambda of: delete_item(of, part), lambda of: of.extend(some), lambda of: of.extend(iter(some)),
         lambda of: of.extend(tuple(some)), lambda of: of.extend(of) if len(of) < 30 else None,
-        lambda of: in_place(of, lambda same: same.__iadd__(some)), lambda of: in_place(of, lambda same: same.__imul__(2)) if len(of) < 20
-        else of.__imul__(0), lambda of: known in of, len, lambda of: of.index(known), lambda of: of.index(known, index),
+        lambda of: in_place(of, lambda same: same.__iadd__(some)),
+        lambda of: in_place(of, lambda same: same.__imul__(2 if len(of) < 20 else 0)),
+         lambda of: known in of, len, lambda of: of.index(known), lambda of: of.index(known, index),
         lambda of: of.index(known, index, other), lambda of: of.count(known), lambda of: of.remove(known),
         lambda of: of.reverse(), lambda of: of.sort(), lambda of: of.sort(reverse=True, key=str), lambda of: of.copy(),
-        lambda of: of == some, lambda of: of == list(of), lambda of: list(of) == of, lambda of: of != some, lambda of: of < some,
-        lambda of: of >= some, lambda of: some < of, lambda of: of + some, lambda of: some + of, lambda of: of * 2, lambda of: 2 * of,
+        lambda of: of == some, lambda of: of == list(of), lambda of: list(of) == of, lambda of: of != some,
+        lambda of: of < some,
+        lambda of: of >= some, lambda of: some < of, lambda of: of + some, lambda of: some + of, lambda of: of * 2,
+        lambda of: 2 * of,
         lambda of: list(of), lambda of: list(reversed(of)), lambda of: walk(of, list(changes)),
         lambda of: walk_back(of, list(changes)), lambda of: of["a"], lambda of: of[1.5], lambda of: of[slice("a")],
         lambda of: of[::0], lambda of: of.pop("a"), lambda of: of.insert("a", value), lambda of: of.extend(5),
@@ -166,21 +172,29 @@ def one_of_map(theirs, kinds):
     strange = chance.choice(("a", None, 2**70, -1.5, (1,), b"x"))
     return chance.choice((
         lambda of: set_item(of, key, value), lambda of: set_item(of, key, value), lambda of: of[key],
-        lambda of: delete_item(of, key), lambda of: of.pop(key), lambda of: of.pop(key, None), lambda of: of.pop(key, "x"),
-        lambda of: key in of, lambda of: of.get(key), lambda of: of.get(key, "x"), len, lambda of: of.setdefault(key, value),
-        lambda of: updated(of, more), lambda of: updated(of, list(more.items())), lambda of: updated(of, iter(more.items())),
+        lambda of: delete_item(of, key), lambda of: of.pop(key), lambda of: of.pop(key, None),
+        lambda of: of.pop(key, "x"),
+        lambda of: key in of, lambda of: of.get(key), lambda of: of.get(key, "x"), len,
+        lambda of: of.setdefault(key, value),
+        lambda of: updated(of, more), lambda of: updated(of, list(more.items())),
+        lambda of: updated(of, iter(more.items())),
         lambda of: updated(of), lambda of: in_place(of, lambda same: same.__ior__(more)), least,
-        lambda of: ordered(of | more), lambda of: ordered(more | of), lambda of: sorted(of), lambda of: list(sorted(of.items())),
-        lambda of: sorted(of.values()), lambda of: sorted(reversed(of)), lambda of: sorted(reversed(of.items())), lambda of: of == more,
-        lambda of: of == dict(of), lambda of: dict(of) == of, lambda of: of != more, lambda of: (key, value) in of.items(),
+        lambda of: ordered(of | more), lambda of: ordered(more | of), lambda of: sorted(of),
+        lambda of: list(sorted(of.items())),
+        lambda of: sorted(of.values()), lambda of: sorted(reversed(of)), lambda of: sorted(reversed(of.items())),
+        lambda of: of == more,
+        lambda of: of == dict(of), lambda of: dict(of) == of, lambda of: of != more,
+        lambda of: (key, value) in of.items(),
         lambda of: key in of.keys(), lambda of: value in of.values(), lambda of: sorted(of.keys() & more.keys()),
         lambda of: sorted(of.keys() | set(more)), lambda of: ordered(of.copy()), lambda of: len(of.items()),
         lambda of: sorted(of.keys() - {key}), lambda of: of.keys().isdisjoint(more), lambda of: bool(of),
         lambda of: strange in of, lambda of: of.get(strange), lambda of: of.get(strange, 7), lambda of: of[strange],
         lambda of: delete_item(of, strange), lambda of: of.pop(strange), lambda of: of.pop(strange, 8),
         lambda of: (strange, 1) in of.items(), lambda of: (key,) in of.items(), lambda of: updated(of, 5),
-        lambda of: updated(of, [1]), lambda of: updated(of, [(1, 2, 3)]), lambda of: of.update({}, {}), lambda of: of == 5,
-        lambda of: [set_item(of, each, value) for each in of], lambda of: of.clear() if chance.random() < 0.2 else None))
+        lambda of: updated(of, [1]), lambda of: updated(of, [(1, 2, 3)]), lambda of: of.update({}, {}),
+        lambda of: of == 5,
+        lambda of: [set_item(of, each, value) for each in of],
+        lambda of: of.clear() if chance.random() < 0.2 else None))
 
 
 def change_map(name, ours, theirs, kinds):
@@ -193,7 +207,8 @@ def change_string(name, ours, theirs):
     """One call of a string."""
     index, other, byte, more = place(theirs), place(theirs), chance.randint(0, 255), text().encode()
     call = chance.choice((
-        lambda of: of[index], lambda of: set_item(of, index, byte), lambda of: bytes(of[index:other]), lambda of: byte in of,
+        lambda of: of[index], lambda of: set_item(of, index, byte), lambda of: bytes(of[index:other]),
+        lambda of: byte in of,
         lambda of: set_item(of, slice(index, other), more), lambda of: more in of, len, list))
     compare(name, call, ours, theirs)
     if chance.random() < 0.5:
@@ -229,24 +244,33 @@ def one_of_names(theirs):
     value = value_like(theirs[name]) if name in theirs else any_value()
     strange = chance.choice((5, None, "", "n" * 256, 1.5, ("a",)))
     return chance.choice((
-        lambda of: set_item(of, name, value), lambda of: set_item(of, name, value), lambda of: of[name], lambda of: delete_item(of, name),
-        lambda of: of.pop(name), lambda of: of.pop(name, "x"), lambda of: name in of, lambda of: of.get(name), lambda of: of.get(name, 7), len,
-        lambda of: of.setdefault(name, value), lambda of: updated(of, {name: value}), lambda of: updated(of, [(name, value)]),
-        lambda of: updated(of, **{}), lambda of: sorted(of), lambda of: sorted(of.keys() | {other}), lambda of: sorted(reversed(of)),
-        lambda of: other in of.keys(), least, lambda of: strange in of, lambda of: of.get(strange), lambda of: of.pop(strange, 6),
+        lambda of: set_item(of, name, value), lambda of: set_item(of, name, value), lambda of: of[name],
+        lambda of: delete_item(of, name),
+        lambda of: of.pop(name), lambda of: of.pop(name, "x"), lambda of: name in of, lambda of: of.get(name),
+        lambda of: of.get(name, 7), len,
+        lambda of: of.setdefault(name, value), lambda of: updated(of, {name: value}),
+        lambda of: updated(of, [(name, value)]),
+        lambda of: updated(of, **{}), lambda of: sorted(of), lambda of: sorted(of.keys() | {other}),
+        lambda of: sorted(reversed(of)),
+        lambda of: other in of.keys(), least, lambda of: strange in of, lambda of: of.get(strange),
+        lambda of: of.pop(strange, 6),
         lambda of: of.pop(strange), lambda of: of[strange], lambda of: delete_item(of, strange), lambda of: bool(of),
-        lambda of: updated(of, 5), lambda of: updated(of, [(1, 2, 3)]), lambda of: of.clear() if chance.random() < 0.05 else None))
+        lambda of: updated(of, 5), lambda of: updated(of, [(1, 2, 3)]),
+        lambda of: of.clear() if chance.random() < 0.05 else None))
 
 
 def all_of(mapping):
     return {name: value.copy() if isinstance(value, zaluxhoni.Object) else value for name, value in mapping.items()}
 
 
+def by_bytes(names):
+    return dict(sorted(names.items(), key=lambda pair: pair[0].encode()))
+
+
 def change_names(name, ours, theirs):
     compare(name, one_of_names(theirs), ours, theirs)
     if chance.random() < 0.05:
-        compare(name, lambda of: all_of(of) if not isinstance(of, dict) else dict(sorted(of.items(), key=lambda pair: pair[0].encode())),
-                ours, theirs)
+        compare(name, lambda of: by_bytes(of) if isinstance(of, dict) else all_of(of), ours, theirs)
 
 
 own = {"string": bytearray, "vec": list, "map": dict}
@@ -255,6 +279,12 @@ map_kinds = ["map<u8,i64>", "map<i32,bool>", "map<bool,u64>", "map<u64,u8>", "ma
 models = {kind: own[kind.split("<")[0]]() for kind in ["string", *list_kinds, *map_kinds]}
 names, group = {}, {}
 passes = 5
+
+
+def contents(of):
+    if isinstance(of, dict):
+        return {name: bytes(model) if name == "string" else model for name, model in of.items()}
+    return {name: bytes(of.object(name)) if name == "string" else of[name].copy() for name in models}
 
 
 def run(segment):
@@ -286,8 +316,7 @@ for _ in range(passes):
         if segment.sanity() is not True:
             wrong += 1
     with zaluxhoni.open(path, "r") as segment:
-        compare("all of it", lambda of: {name: bytes(segment.object(name)) if name == "string" else segment[name].copy() for name in models}
-                if of is segment else {name: bytes(model) if name == "string" else model for name, model in models.items()}, segment, models)
+        compare("all of it", contents, segment, models)
     with zaluxhoni.open(path + ".names", "w", grow=True, check_same_thread=shared) as segment:
         segment.clear()
         names.clear()

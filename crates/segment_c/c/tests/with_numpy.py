@@ -8,7 +8,8 @@ import zaluxhoni
 
 checks = wrong = 0
 DTYPES = {"bool": "?", "u8": "u1", "i32": "i4", "i64": "i8", "u64": "u8"}
-SOME = {"bool": [True, False, True], "u8": [0, 7, 255], "i32": [-2**31, 0, 2**31 - 1], "i64": [-2**63, 5, 2**63 - 1], "u64": [0, 1, 2**64 - 1]}
+SOME = {"bool": [True, False, True], "u8": [0, 7, 255], "i32": [-2**31, 0, 2**31 - 1], "i64": [-2**63, 5, 2**63 - 1],
+        "u64": [0, 1, 2**64 - 1]}
 
 
 def same(got, wanted):
@@ -155,6 +156,7 @@ for case in (arrays_as_elements, elements_as_arrays, arrays_without_a_copy, reco
         case()
     except Exception as error:
         wrong += 1
-        print(f"with_numpy.py: WRONG {case.__name__}: {type(error).__name__}: {error}, line {error.__traceback__.tb_next.tb_lineno}")
+        line = error.__traceback__.tb_next.tb_lineno
+        print(f"with_numpy.py: WRONG {case.__name__}: {type(error).__name__}: {error}, line {line}")
 print(f"with_numpy.py: {checks} checks, {wrong} wrong")
 sys.exit(wrong != 0)

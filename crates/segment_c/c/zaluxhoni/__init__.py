@@ -13,8 +13,8 @@ that is used as a list (Vector, Strings, Array) or as a dict (Map). Each of thei
 good as long as the segment is open. What the library refuses is raised as an Error, of the class that has the refusal's
 name, and then nothing has changed, but for methods that are several calls, as docs/PYTHON.md says.
 
-A segment is used by the thread that opened it alone, unless it is opened with check_same_thread=False. docs/PYTHON.md is
-the guide."""
+A segment is used by the thread that opened it alone, unless it is opened with check_same_thread=False. The guide is
+docs/PYTHON.md."""
 from __future__ import annotations
 
 from typing import Any, Optional
@@ -55,7 +55,8 @@ def _image_bytes(image: Any) -> bytes:
         raise WrongKind(f"{type(image).__name__} is no image") from None
 
 
-def create(size: int, *, grow: bool = False, encoding: Optional[str] = "utf-8", check_same_thread: bool = True) -> Segment:
+def create(size: int, *, grow: bool = False, encoding: Optional[str] = "utf-8",
+           check_same_thread: bool = True) -> Segment:
     """An empty segment of `size` bytes, without a file. With `grow` it becomes longer where there is no space. BadSize,
     NoMemory."""
     made = new_segment(grow, encoding, check_same_thread)

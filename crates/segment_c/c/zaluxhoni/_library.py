@@ -9,7 +9,8 @@ BOOL, U8, I32, I64, U64, STRING, VECTOR, MAP, STRINGS = 1, 2, 3, 4, 5, 65536, 13
 
 
 class Handle(ctypes.Structure):
-    _fields_ = [("at", ctypes.c_void_p), ("changes", ctypes.c_uint64), ("lent", ctypes.c_bool), ("shared", ctypes.c_bool)]
+    _fields_ = [("at", ctypes.c_void_p), ("changes", ctypes.c_uint64), ("lent", ctypes.c_bool),
+                ("shared", ctypes.c_bool)]
 
 
 class Memory(ctypes.Structure):
@@ -139,15 +140,12 @@ def _load() -> Any:
 
 
 def _load_quick() -> Any:
-    """The calls for one number of zaluxhoni_rows.h, which are so short that the interpreter's lock is kept."""
+    """The calls for one small number of zaluxhoni_rows.h. They are so short that the interpreter's lock is kept, and
+    are given the place and numbers of 32 bits as they stand: to declare what they take costs more than the call."""
     library = ctypes.PyDLL(_path())
-    place, i64 = ctypes.c_void_p, ctypes.c_int64
-    calls: Dict[str, List[Any]] = {"map_at": [i64], "element_at": [ctypes.c_uint64], "put_at": [i64, i64],
-                                   "push_number": [i64], "set_at": [ctypes.c_uint64, i64]}
-    for name, arguments in calls.items():
-        call = getattr(library, "zx_" + name)
-        call.argtypes, call.restype = [place, *arguments], i64 if name.endswith("_at") and name[0] in "me" else ctypes.c_uint32
-    library.zx_thread.argtypes, library.zx_thread.restype = [], ctypes.c_uint64
+    for name, answer in (("map_at", ctypes.c_int64), ("element_at", ctypes.c_int64), ("put_at", ctypes.c_uint32),
+                         ("push_number", ctypes.c_uint32), ("set_at", ctypes.c_uint32), ("thread", ctypes.c_uint64)):
+        getattr(library, "zx_" + name).restype = answer
     return library
 
 

@@ -11,7 +11,7 @@ from typing import (TYPE_CHECKING, Any, Dict, Iterable, Iterator, List, MutableM
 from . import _library
 from ._errors import Absent, BadCount, BadValue, Error, NoElement, NoSpace, OutOfRange, WrongKind, error_of
 from ._library import BOOL, I32, I64, NO_NUMBER, STRING, STRINGS, U8, U64, VECTOR, MAP, quick, zx
-from ._values import (KINDS, MOST, SCALARS, Key, Row, Texts, decoded, encoded, from_words, is_scalar, listed,
+from ._values import (KINDS, SCALARS, Key, Row, Texts, decoded, encoded, from_words, is_scalar, listed,
                       natural, number_in, pairs_of, raw_key, row, scalar, unpacked, value_of, whole)
 
 if TYPE_CHECKING:
@@ -22,6 +22,14 @@ _element_at, _map_at, _put_at, _push_number, _set_at = (
 _reads = {BOOL: zx.zx_read_bools, U8: zx.zx_read_u8s, I32: zx.zx_read_i32s, I64: zx.zx_read_i64s, U64: zx.zx_read_u64s}
 _QUICK = (U8, I32, I64)
 _AHEAD = 4096
+_FEW = 64
+_SMALL = 2**31
+
+
+def _quick_range(code: int, is_quick: bool) -> Tuple[int, int]:
+    """The numbers that a call for one small number takes: none where the object is of another kind."""
+    own = SCALARS[code]
+    return (max(own.least, -_SMALL), min(own.most, _SMALL - 1)) if is_quick else (1, 0)
 
 
 class Lease:
@@ -36,7 +44,8 @@ class Lease:
         if self._count:
             segment._lend(self, owner.handle)
         form = f"{'|' if self._scalar.size == 1 else '<'}{_FORMS[self._scalar.letter]}{self._scalar.size}"
-        self.__array_interface__ = {"version": 3, "data": (self._at, self._readonly), "shape": (self._count,), "typestr": form}
+        self.__array_interface__ = {"version": 3, "data": (self._at, self._readonly), "shape": (self._count,),
+                                    "typestr": form}
 
     def __del__(self) -> None:
         self._segment._give_back(self)
@@ -298,14 +307,15 @@ class _Scalars(_Elements):
     def __init__(self, segment: Segment, key: Key, code: int) -> None:
         super().__init__(segment, key, code)
         self._scalar_code = code if is_scalar(code) else code - VECTOR
-        self._is_quick = self._scalar_code in _QUICK
-        self._least, self._most = SCALARS[self._scalar_code].least, SCALARS[self._scalar_code].most
+        is_quick = self._scalar_code in _QUICK
+        self._least, self._most = _quick_range(self._scalar_code, is_quick)
+        self._places = _SMALL if is_quick else 0
 
     def _get(self, place: int) -> int:
         return self._scalar(place)
 
     def __getitem__(self, index: Any) -> Any:
-        if type(index) is int and self._is_quick and 0 <= index < MOST:
+        if type(index) is int and 0 <= index < self._places:
             value = _element_at(self._at, index)
             if value != NO_NUMBER:
                 return value
@@ -366,7 +376,7 @@ class _Scalars(_Elements):
     def __setitem__(self, index: Any, value: Any) -> None:
         if isinstance(index, slice):
             return self._set_slice(index, value)
-        if type(index) is int and type(value) is int and self._is_quick and 0 <= index < MOST \
+        if type(index) is int and type(value) is int and 0 <= index < self._places \
                 and self._least <= value <= self._most:
             self._segment._changes += 1
             if not _set_at(self._at, index, value):
@@ -495,7 +505,7 @@ class Vector(_Scalars, _List, MutableSequence[int]):
     def append(self, value: int) -> None:
         """Puts a value behind the last element. NoSpace, OutOfRange, WrongKind."""
         segment = self._segment
-        if type(value) is int and self._is_quick and self._least <= value <= self._most and not segment._lent:
+        if type(value) is int and self._least <= value <= self._most and not segment._lent:
             segment._changes += 1
             if not _push_number(self._at, value):
                 return
@@ -504,9 +514,11 @@ class Vector(_Scalars, _List, MutableSequence[int]):
     def _extend(self, values: Any) -> None:
         passed = self._row(values)
         length, places = self._measure()
-        if passed.count * 8 < length:
+        if passed.count < _FEW or passed.count * 8 < length:
             self._make_room(length + passed.count, places)
             return self._change(zx.zx_push_row, length, passed.passed)
+        if not length:
+            return self._change(zx.zx_assign, passed.passed)
         size = SCALARS[self._scalar_code].size
         together = self._memory(0, length, passed.count)
         ctypes.memmove(ctypes.addressof(together) + length * size, passed.memory, passed.count * size)
@@ -739,7 +751,7 @@ class _ValuesView(collections.abc.ValuesView):  # type: ignore[type-arg]
         return f"dict_values({list(self)!r})"
 
 
-class Pairs:
+class _Pairs:
     """What maps and mappings of names have in common with dict, beside the methods of MutableMapping."""
 
     def _pairs(self) -> Iterator[Tuple[Any, Any]]:
@@ -774,18 +786,18 @@ class Pairs:
 _missing = object()
 
 
-class Map(Pairs, Object, MutableMapping[int, int]):
+class Map(_Pairs, Object, MutableMapping[int, int]):
     """A map from scalars to scalars, used as a dict, in the order of its keys."""
 
     def __init__(self, segment: Segment, key: Key, code: int) -> None:
         super().__init__(segment, key, code)
         self._key_code, self._value_code = code >> 8 & 255, code & 255
-        self._is_quick = self._key_code in _QUICK and self._value_code in _QUICK
-        self._least, self._most = SCALARS[self._key_code].least, SCALARS[self._key_code].most
-        self._least_value, self._most_value = SCALARS[self._value_code].least, SCALARS[self._value_code].most
+        is_quick = self._key_code in _QUICK and self._value_code in _QUICK
+        self._least, self._most = _quick_range(self._key_code, is_quick)
+        self._least_value, self._most_value = _quick_range(self._value_code, is_quick)
 
     def __getitem__(self, key: int) -> int:
-        if type(key) is int and self._is_quick and self._least <= key <= self._most:
+        if type(key) is int and self._least <= key <= self._most:
             number: int = _map_at(self._at, key)
             if number != NO_NUMBER:
                 return number
@@ -810,7 +822,7 @@ class Map(Pairs, Object, MutableMapping[int, int]):
 
     def get(self, key: Any, default: Any = None) -> Any:
         """The value at a key, or `default`."""
-        if type(key) is int and self._is_quick and self._least <= key <= self._most:
+        if type(key) is int and self._least <= key <= self._most:
             number = _map_at(self._at, key)
             if number != NO_NUMBER:
                 return number
@@ -818,7 +830,7 @@ class Map(Pairs, Object, MutableMapping[int, int]):
         return default if value is None else value
 
     def __setitem__(self, key: int, value: int) -> None:
-        if type(key) is int and type(value) is int and self._is_quick and self._least <= key <= self._most \
+        if type(key) is int and type(value) is int and self._least <= key <= self._most \
                 and self._least_value <= value <= self._most_value:
             self._segment._changes += 1
             if not _put_at(self._at, key, value):
@@ -897,7 +909,7 @@ class Map(Pairs, Object, MutableMapping[int, int]):
         return dict(self._pairs())
 
     def __contains__(self, key: Any) -> bool:
-        return self._get(key) is not None
+        return self.get(key) is not None
 
     def __iter__(self) -> Iterator[int]:
         return (key for key, _ in self._pairs())

@@ -61,9 +61,10 @@ def _form_of(form: Any) -> _Form:
 
 
 class Records(MutableSequence[Any]):
-    """Records of one form, used as a list: those of a vector of u8, or of an array of them, whose length stays. A form is
-    a format of `struct` ("d" for doubles, whose records are numbers; "<ihx" for tuples), a ctypes.Structure, or a dtype of
-    numpy. The bytes are those of the form, as a structure of C and C++ has them. `Segment.records` makes one."""
+    """Records of one form, used as a list: those of a vector of u8, or of an array of them, whose length stays. A form
+    is a format of `struct` ("d" for doubles, whose records are numbers; "<ihx" for tuples), a ctypes.Structure, or a
+    dtype of numpy. The bytes are those of the form, as a structure of C and C++ has them. `Segment.records` makes
+    one."""
 
     def __init__(self, elements: Any, form: Any) -> None:
         self._elements, self._form, self._given, self._lock = elements, _form_of(form), form, elements._lock
@@ -158,7 +159,8 @@ class Records(MutableSequence[Any]):
             self._vector().assign(kept)
 
     def insert(self, index: int, value: Any) -> None:
-        """Puts a record before the one at `index`; as in a list, an index past an end is that end. NoSpace, WrongKind."""
+        """Puts a record before the one at `index`; as in a list, an index past an end is that end. NoSpace,
+        WrongKind."""
         length, place = len(self), whole(index)
         place = min(max(place + length if place < 0 else place, 0), length)
         if place == length:

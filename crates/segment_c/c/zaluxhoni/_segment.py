@@ -6,6 +6,7 @@ import collections.abc
 import ctypes
 import inspect
 import os
+import struct
 import threading
 import warnings
 from typing import Any, Callable, Dict, Iterator, List, MutableMapping, NamedTuple, Optional, Tuple
@@ -13,8 +14,8 @@ from typing import Any, Callable, Dict, Iterator, List, MutableMapping, NamedTup
 from . import _library
 from ._errors import (BadCount, BadKey, BadName, BadValue, Error, FileUnsynced, Lent, NotFound, WrongKind,
                       WrongThread, error_of, file_error_of)
-from ._library import MAP, NO_SPACE, STRING, STRINGS, U8, VECTOR, quick, zx
-from ._objects import Array, Map, Object, Pairs, String, Strings, Vector, object_of
+from ._library import BOOL, I32, I64, MAP, NO_SPACE, STRING, STRINGS, U8, VECTOR, quick, zx
+from ._objects import Array, Map, Object, _Pairs, String, Strings, Vector, object_of
 from ._records import Records
 from ._values import (KINDS, MOST, TEXTS, Key, Texts, code_of, counted, encoded, handle, is_scalar,
                       is_truth, listed, natural, number_in, pairs_of, raw_key, row, scalar, value_of, whole)
@@ -45,6 +46,11 @@ class Tile(NamedTuple):
     use: str
 
 
+_Row = Tuple[str, int, int, int, Optional[int]]
+"""Of an object with a name: the name, its kind, how many scalars it has, its handle, and the value of one scalar."""
+_INFO, _VALUE = struct.Struct("@IIIQQ"), struct.Struct("@IqQ")
+
+
 def _info(told: _library.Info, name: bytes) -> Info:
     own = name[:told.name_len].decode() if told.found_by == 1 else None
     return Info(("anonymous", "named", "unique")[told.found_by], own, KINDS[told.kind], told.count, told.handle)
@@ -60,7 +66,7 @@ class _Here(threading.local):
 _here = _Here()
 
 
-class _Named(Pairs, MutableMapping[str, Any]):
+class _Named(_Pairs, MutableMapping[str, Any]):
     """What segments and groups have in common: a mapping from names to objects, in the order of the names' bytes."""
     _segment: Segment
     _prefix: str
@@ -125,7 +131,8 @@ class _Named(Pairs, MutableMapping[str, Any]):
             made.destroy()
             raise
 
-    def _make_scalars(self, call: str, code: int, count: Optional[int], key: Any, value: Any, told: Tuple[Any, ...]) -> None:
+    def _make_scalars(self, call: str, code: int, count: Optional[int], key: Any, value: Any,
+                      told: Tuple[Any, ...]) -> None:
         many = None if value is None or _is_number(value) else value
         if many is not None and not getattr(many, "ndim", hasattr(many, "__len__")):
             many = listed(many)
@@ -190,12 +197,12 @@ class _Named(Pairs, MutableMapping[str, Any]):
         return self._segment._info(self._full(key))
 
     def records(self, key: Key, form: Any) -> Records:
-        """The records of a name, of a form: those of its vector of u8, or of its array of u8; where there is none, an empty
-        vector is made: records("points", "dd"). WrongKind, NoSpace."""
+        """The records of a name, of a form: those of its vector of u8, or of its array of u8; where there is none, an
+        empty vector is made: records("points", "dd"). WrongKind, NoSpace."""
         told = self._segment._told(self._full(key))
         if told is not None and told.kind == U8:
-            return Records(self.object(key), form)
-        return Records(self.vector(key, "u8"), form)
+            return self._segment._classes[Records](self.object(key), form)  # type: ignore[no-any-return]
+        return self._segment._classes[Records](self.vector(key, "u8"), form)  # type: ignore[no-any-return]
 
     def group(self, prefix: str) -> Group:
         """The names that begin with a text, as a mapping from the rest of each name: group("prices/")."""
@@ -236,7 +243,7 @@ class _Named(Pairs, MutableMapping[str, Any]):
         return self._segment._told(self._full(key)) is not None
 
     def __iter__(self) -> Iterator[str]:
-        return (info.name[len(self._prefix):] for info, _ in self._rows())  # type: ignore[index]
+        return (name[len(self._prefix):] for name, *_ in self._rows())
 
     def __eq__(self, other: Any) -> bool:
         return self is other
@@ -290,35 +297,35 @@ class _Named(Pairs, MutableMapping[str, Any]):
 
     def _pairs(self) -> Iterator[Tuple[str, Any]]:
         segment, begin = self._segment, len(self._prefix)
-        for info, value in self._rows():
+        for name, kind, _, _, value in self._rows():
+            found: Any = value
             if value is None:
-                found = object_of(segment, info.name, code_of(info.kind))  # type: ignore[arg-type]
-                value = found._value() if isinstance(found, String) else found
-            yield info.name[begin:], value  # type: ignore[index]
+                found = object_of(segment, name, kind)
+                found = found._value() if kind == STRING else found
+            yield name[begin:], found
 
     # -- lists
 
     def named(self) -> List[Info]:
         """The objects with these names, by the bytes of the names: a list of Info, with whole names."""
-        return [info for info, _ in self._rows()]
+        return [Info("named", name, KINDS[kind], count, number) for name, kind, count, number, _ in self._rows()]
 
-    def _rows(self) -> Iterator[Tuple[Info, Any]]:
-        """What the objects say of themselves, with the values of those that are one scalar."""
-        segment, prefix = self._segment, self._prefix.encode()
-        index, many = segment._first_from(prefix), 8
+    def _rows(self) -> Iterator[_Row]:
+        """The objects with these names."""
+        segment, prefix = self._segment, self._prefix
+        index, many = segment._first_from(prefix.encode()), 8
         while True:
             rows = segment._names(index, many)
             if not rows:
                 return
             changes, many = segment._changes, min(2 * many, _AHEAD)
-            for info, value in rows:
-                name = info.name or ""
-                if prefix and not name.startswith(self._prefix):
+            for row_of_name in rows:
+                if prefix and not row_of_name[0].startswith(prefix):
                     return
-                yield info, value
+                yield row_of_name
                 index += 1
                 if segment._changes != changes:
-                    index, many = segment._first_from(name.encode() + b"\0"), 8
+                    index, many = segment._first_from(row_of_name[0].encode() + b"\0"), 8
                     break
 
 
@@ -392,7 +399,8 @@ class Segment(_Named):
     """A segment, as a mapping from names to objects in the order of their bytes. `open`, `create` and `load` make
     one."""
 
-    def __init__(self, *, grow: bool = False, encoding: Optional[str] = "utf-8", check_same_thread: bool = True) -> None:
+    def __init__(self, *, grow: bool = False, encoding: Optional[str] = "utf-8",
+                 check_same_thread: bool = True) -> None:
         self._file = _library.File()
         self._handle = self._file.segment
         self._prefix = ""
@@ -572,8 +580,8 @@ class Segment(_Named):
         self._call(zx.zx_relocate, natural(capacity))
 
     def transaction(self) -> Transaction:
-        """Several calls as one: behind `with segment.transaction():` all of them are done; where an exception leaves the
-        block the segment is as it was at its begin. It takes a copy of the segment. NoMemory, Closed."""
+        """Several calls as one: behind `with segment.transaction():` all of them are done; where an exception leaves
+        the block the segment is as it was at its begin. It takes a copy of the segment. NoMemory, Closed."""
         return Transaction(self)
 
     def _roll_back(self, before: _library.Handle) -> None:
@@ -584,7 +592,8 @@ class Segment(_Named):
         self._refuse_lent_file()
         length = ctypes.c_uint64()
         zx.zx_size(before, length)
-        image, mode, capacity = ctypes.create_string_buffer(length.value), MODES_OF[self.mode], self.size + self.region_left
+        image, mode = ctypes.create_string_buffer(length.value), MODES_OF[self.mode]
+        capacity = self.size + self.region_left
         zx.zx_save(before, image, len(image))
         self._leave_memory()
         self._call(zx.zx_open, image.raw, len(image), max(capacity, len(image)), mode)
@@ -624,8 +633,8 @@ class Segment(_Named):
         self._file_call(zx.zx_file_close, self._path)
 
     def discard(self) -> None:
-        """Closes the segment and saves nothing. Removes a file that it created and never saved. A mapped file stays, with
-        all changes. Lent as close."""
+        """Closes the segment and saves nothing. Removes a file that it created and never saved. A mapped file stays,
+        with all changes. Lent as close."""
         if self._thread_number and _here.number != self._thread_number:
             raise WrongThread()
         if self._lent:
@@ -726,18 +735,21 @@ class Segment(_Named):
             yield index
             index += 1
 
-    def _names(self, index: int, many: int) -> List[Tuple[Info, Any]]:
-        """At most so many objects with names, from an index on, and the values of those that are one scalar."""
-        infos, values = (_library.Info * many)(), (_library.Value * many)()
+    def _names(self, index: int, many: int) -> List[_Row]:
+        """At most so many objects with names, from an index on."""
+        infos, values = ctypes.create_string_buffer(many * _INFO.size), ctypes.create_string_buffer(many * _VALUE.size)
         room, read = max(_LONGEST_NAME, 64 * many), ctypes.c_size_t()
         names = ctypes.create_string_buffer(room)
         self._call(zx.zx_read_names, index, infos, values, names, room, many, read)
-        rows: List[Tuple[Info, Any]] = []
-        joined, end = names.raw, 0
-        for told, value in zip(infos[:read.value], values):
-            begin, end = end, end + told.name_len
-            info = Info("named", joined[begin:end].decode(), KINDS[told.kind], told.count, told.handle)
-            rows.append((info, number_in(value) if value.kind else None))
+        rows: List[_Row] = []
+        joined, end, count = names.raw, 0, read.value
+        for (_, kind, scalars, length, number), (scalar_kind, signed, unsigned) in zip(
+                _INFO.iter_unpack(infos.raw[:count * _INFO.size]),
+                _VALUE.iter_unpack(values.raw[:count * _VALUE.size])):
+            begin, end = end, end + length
+            value = None if not scalar_kind else signed if scalar_kind in (I32, I64) else unsigned
+            value = bool(value) if scalar_kind == BOOL else value
+            rows.append((joined[begin:end].decode(), kind, scalars, number, value))
         return rows
 
     def _first_from(self, text: bytes) -> int:
@@ -774,8 +786,8 @@ class Segment(_Named):
 
 
 class Group(_Named):
-    """The names of a segment that begin with a text, as a mapping from the rest of each name to its object, as a segment
-    is one from names. `Segment.group` makes one; it is good as long as the segment is open."""
+    """The names of a segment that begin with a text, as a mapping from the rest of each name to its object, as a
+    segment is one from names. `Segment.group` makes one; it is good as long as the segment is open."""
 
     def __init__(self, segment: Segment, prefix: str) -> None:
         self._segment, self._prefix, self._lock = segment, prefix, segment._lock
@@ -861,7 +873,8 @@ def _locked(kind: Any) -> Any:
     members: Dict[str, Any] = {}
     for base in reversed(kind.__mro__[:-1]):
         for name, member in vars(base).items():
-            if name in ("__init__", "__new__", "__del__", "__exit__", "__init_subclass__", "__class_getitem__", "__subclasshook__"):
+            if name in ("__init__", "__new__", "__del__", "__exit__", "__init_subclass__", "__class_getitem__",
+                        "__subclasshook__"):
                 continue
             if inspect.isfunction(member) and not inspect.isgeneratorfunction(member):
                 members[name] = _locks(member)
@@ -872,7 +885,7 @@ def _locked(kind: Any) -> Any:
     return type(kind.__name__, (kind,), {**members, "__doc__": kind.__doc__, "__module__": kind.__module__})
 
 
-_kinds_of_objects = (Array, Vector, String, Strings, Map, Group)
+_kinds_of_objects = (Array, Vector, String, Strings, Map, Records, Group)
 _plain: Dict[Any, Any] = {kind: kind for kind in (*_kinds_of_objects, Segment)}
 _locked_kinds: Dict[Any, Any] = {}
 

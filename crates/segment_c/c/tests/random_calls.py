@@ -255,6 +255,7 @@ def one_of_names(theirs):
         lambda of: other in of.keys(), least, lambda of: strange in of, lambda of: of.get(strange),
         lambda of: of.pop(strange, 6),
         lambda of: of.pop(strange), lambda of: of[strange], lambda of: delete_item(of, strange), lambda of: bool(of),
+        lambda of: of == {name: value}, lambda of: of == all_of(of), lambda of: all_of(of) == of, lambda of: of == 5,
         lambda of: updated(of, 5), lambda of: updated(of, [(1, 2, 3)]),
         lambda of: of.clear() if chance.random() < 0.05 else None))
 

@@ -245,11 +245,12 @@ class _Named(_Pairs, MutableMapping[str, Any]):
     def __iter__(self) -> Iterator[str]:
         return (name[len(self._prefix):] for name, *_ in self._rows())
 
-    def __eq__(self, other: Any) -> bool:
-        return self is other
+    def __eq__(self, other: Any) -> Any:
+        if not isinstance(other, collections.abc.Mapping):
+            return NotImplemented
+        return self is other or dict(self._pairs()) == dict(other.items())
 
-    def __hash__(self) -> int:
-        return id(self)
+    __hash__ = None  # type: ignore[assignment]
 
     def setdefault(self, key: Any, default: Any = None) -> Any:
         """What the key has, as self[key]; where it has nothing, it is given `default` first."""

@@ -13,9 +13,9 @@ use Rattle.grow_shrink.specs.Resized.{room_of}
 use Rattle.segment_c.proofs.LongerSegments.{stands-size}
 use Rattle.segment_c.proofs.OpenedImages.{legal_most}
 
-region-len : (c : Cut) → length (whole c) ≡ length c.before + (length c.bytes + length c.after)
+region-len : (c : Cut) → length (whole c) ≡ length c.before + length c.bytes + length c.after
 region-len c =
-    length-append c.before (c.bytes ++ c.after) ∙ ap (λ n. length c.before + n) (length-append c.bytes c.after)
+    length-append (c.before ++ c.bytes) c.after ∙ ap (λ n. n + length c.after) (length-append c.before c.bytes)
 
 -- what fits into the segment fits
 pub fits-within : (c : Cut) (len : ℕ) → len ≤ length c.bytes → nat_le len (room_of c) ≡ true

@@ -185,7 +185,7 @@ fn grow_here(segment: &mut Segment, extra: u64) -> u32
 }
 
 /// The number of bytes of a segment, which denote a directory.
-fn size_of(segment: &Segment) -> u64
+pub fn size_of(segment: &Segment) -> u64
     ensures size { result ≡ length segment.now.cut.bytes }
     ensures denotes { IsSegment segment.now.cut.bytes }
 {

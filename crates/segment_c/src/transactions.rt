@@ -7,15 +7,16 @@ ghost use Rattle.segment_c.specs.Calls.{IsClosed, Opened};
 ghost use Rattle.segment_c.specs.Marked.{IsMarked, IsPlaced};
 ghost use Rattle.segment_c.specs.Transactions.{IsBeginCode, IsCopy, IsPutBack, rollback_code};
 ghost use Rattle.segment_manager.specs.State.{IsSegment, State};
+ghost use Rattle.segment_manager.specs.Step.{is_read_only};
 
 use crate::calls::passed;
 use crate::codes::{DONE, NO_MEMORY, READ_ONLY, SHORT_REGION};
 use crate::handle::{Handle, put, put_changed, put_new, take};
 use crate::images::boxed_or_not;
-use crate::resizing::{capacity_for, copied};
+use crate::resizing::{capacity_for, copied, size_of};
 use raw_region::Window;
-use segment_manager::{Mode, Segment};
 use segment_manager::conditioned::adopt;
+use segment_manager::{Mode, Segment};
 use std::alloc::Global;
 
 /// Copies the segment to another handle, from which `zx_rollback` puts it back. What that had is freed. It is as it was
@@ -46,10 +47,10 @@ pub extern "C" fn zx_begin(alloc: Global, h: &mut Handle, before: &mut Handle) -
 fn copy_of(alloc: Global, segment: &Segment) -> Result<Box<Segment>, u32>
     ensures { MatchResult result (λ copy. IsCopy segment.now copy.value × IsBeginCode segment.now.mode 0) (λ code. (1 ≤ code) × IsBeginCode segment.now.mode code) }
 {
-    if segment.mode() == Mode::ReadOnly {
+    if is_read_only(segment) {
         return Err(READ_ONLY);
     }
-    match copied(alloc, segment, capacity_for(segment.as_bytes().len() as u64)) {
+    match copied(alloc, segment, capacity_for(size_of(segment))) {
         Ok(copy) => boxed_or_not(alloc, copy),
         Err(_) => Err(NO_MEMORY),
     }
@@ -89,20 +90,27 @@ fn code_to_put_back(segment: &Segment, copy: &Segment) -> u32
     ensures code { result ≡ rollback_code segment.now copy.now }
     ensures room { result ≡ 0 → length copy.now.cut.bytes ≤ room_of segment.now.cut }
 {
-    if segment.mode() == Mode::ReadOnly {
+    if is_read_only(segment) {
         return READ_ONLY;
     }
-    if !has_room(segment, copy.size()) {
-        return SHORT_REGION;
+    if has_room(segment, size_of(copy)) {
+        return DONE;
     }
-    DONE
+    SHORT_REGION
+}
+
+/// Whether a segment is open for reading.
+fn is_read_only(segment: &Segment) -> bool
+    ensures { result ≡ is_read_only segment.now.mode }
+{
+    segment.mode() == Mode::ReadOnly
 }
 
 /// Whether a segment's region has room for so many bytes.
 fn has_room(segment: &Segment, len: u64) -> bool
     ensures { result ≡ nat_le len (room_of segment.now.cut) }
 {
-    let size = segment.size();
+    let size = size_of(segment);
     len <= size || len - size <= segment.region_left()
 }
 

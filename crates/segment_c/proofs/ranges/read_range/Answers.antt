@@ -5,13 +5,13 @@ use Rattle.segment_values.specs.Ranges.{range_at}
 use Rattle.segment_c.specs.Reads.{IsCoded}
 use Rattle.segment_c.proofs.ranges.read_range.Goals as goal
 
-pub returns-in-Err : goal.returns-in-Err
-returns-in-Err g c =
+pub returns-in-Err-clause-read : goal.returns-in-Err-clause-read
+returns-in-Err-clause-read g c =
     let it = c.in-Err.ensures.entered in
     record { stopped = it.stopped; closed = it.closed; told = λ s w e d st. absurd (let none = it.none w in cc); same = it.same; results = search rules }
 
-pub returns : goal.returns
-returns g c = record {
+pub returns-clause-read : goal.returns-clause-read
+returns-clause-read g c = record {
   stopped = search rules;
   closed = search rules;
   told = λ s w e d st.

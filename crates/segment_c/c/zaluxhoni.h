@@ -26,6 +26,13 @@
 extern "C" {
 #endif
 
+/* ---- the version: 10000 for each major one, 100 for each minor one, and 1 for each patch */
+
+#define ZX_VERSION 900
+
+/* The one of the library, where ZX_VERSION is that of this header. */
+uint32_t zx_version(void);
+
 /* ---- codes */
 
 typedef uint32_t zx_code;
@@ -77,12 +84,26 @@ enum {
 
 /* ---- what is passed */
 
-/* A segment, or nothing. */
+/* A segment, or nothing, and what is noted of it. */
 typedef struct {
     void *at;
+    uint64_t changes; /* another one behind each call that may have changed the segment */
+    bool lent;        /* whether it lies in memory that was lent by zx_attach */
+    bool shared;      /* whether since the last change zx_view_mut told where elements stand */
 } zx_segment;
 
-#define ZX_CLOSED_HANDLE { 0 }
+/* None; in C a static one is that without an initializer. */
+#ifdef __cplusplus
+#define ZX_CLOSED_HANDLE (zx_segment{})
+#else
+#define ZX_CLOSED_HANDLE ((zx_segment){ 0, 0, false, false })
+#endif
+
+/* Memory that a segment may lie in: `len` bytes from `at` on. */
+typedef struct {
+    uint8_t *at;
+    uint64_t len;
+} zx_memory;
 
 /* How a segment is open. */
 enum { ZX_WRITE = 0, ZX_READ = 1, ZX_COPY_ON_WRITE = 2 };
@@ -134,6 +155,16 @@ typedef struct {
     const uint8_t *at;
     size_t len;
 } zx_text;
+
+/* Elements where they stand, one after another, each the bytes that spell it: the lowest byte of a number first, a
+   truth 0 or 1. */
+typedef struct {
+    const void *at;   /* where the first one stands */
+    uint64_t offset;  /* from the front of the segment on: a multiple of 8 */
+    uint64_t count;
+    uint64_t changes; /* of the handle */
+    uint32_t kind;    /* of a scalar; the elements of a string are ZX_U8 */
+} zx_elements;
 
 /* What an object says of itself. */
 typedef struct {
@@ -257,19 +288,42 @@ static inline zx_code zx_check(const uint8_t *image, size_t len) ZX_NAMED(zx_che
 /* Copies the image to the front of the buffer: as many bytes as zx_size says. ZX_CLOSED, ZX_SHORT_BUFFER. */
 static inline zx_code zx_save(zx_segment *segment, uint8_t *image, size_t room) ZX_NAMED(zx_save_or_null);
 
-/* Makes the segment longer by `extra` bytes, which are free, in a larger region where its own has no room. ZX_CLOSED,
-   ZX_READ_ONLY, ZX_BAD_GROWTH, ZX_TOO_LARGE, ZX_NO_MEMORY. */
+/* Opens the image that stands at the front of the memory and has `len` bytes, where it stands: none is copied, and none
+   is written before the first call that changes (with ZX_READ none ever). The memory has a multiple of 16 bytes, as a
+   region of zx_open; those behind the image are room to grow into. What the handle had is closed. Until zx_detach gives
+   it back, the memory is the segment's: nobody else writes it, gives it up or makes a file that is mapped there
+   shorter, and only between calls is it read. Then `memory` has nothing; where the call is refused it is as it was.
+   ZX_NULL_SLICE; ZX_BAD_SIZE (also where `len` is more than the memory has), ZX_BAD_MODE; and as zx_open. */
+static inline zx_code zx_attach(zx_segment *segment, zx_memory *memory, uint64_t len,
+                                uint32_t mode) ZX_NAMED(zx_attach_or_null);
+
+/* Closes the segment, and gives the memory back that it lies in, with its bytes: what was lent, or what the library
+   took, which is the caller's to free() then. It is refused by ZX_CLOSED alone. (zx_close, or another segment in the
+   handle, frees no lent memory.) */
+zx_code zx_detach(zx_segment *segment, zx_memory *memory);
+
+/* Makes the segment longer by `extra` bytes, which are free, in a larger region where its own has no room; in lent
+   memory there alone, or else ZX_SHORT_REGION. ZX_CLOSED, ZX_READ_ONLY, ZX_BAD_GROWTH, ZX_TOO_LARGE, ZX_NO_MEMORY. */
 zx_code zx_grow(zx_segment *segment, uint64_t extra);
 
 /* Makes the segment as short as its last block lets it be. ZX_CLOSED, ZX_READ_ONLY. */
 zx_code zx_shrink(zx_segment *segment);
 
-/* Moves the segment into a region of `capacity` bytes, as for zx_open. Keys and handles stay good. ZX_BAD_SIZE, ZX_CLOSED,
-   ZX_NO_MEMORY, ZX_SHORT_REGION. */
+/* Moves the segment into a region of `capacity` bytes, as for zx_open. Keys and handles stay good. ZX_BAD_SIZE,
+   ZX_CLOSED, ZX_NO_MEMORY; ZX_SHORT_REGION, also where it lies in lent memory, which it does not leave. */
 zx_code zx_relocate(zx_segment *segment, uint64_t capacity);
 
 /* Frees the segment. A closed handle stays closed. */
 void zx_close(zx_segment *segment);
+
+/* Several calls as one. zx_begin copies the segment to a handle of its own, `before`; what that had is closed. Behind
+   the calls zx_commit closes the copy, or zx_rollback makes the segment again what it was, where it lies now, and
+   closes the copy. What lies in `before` may be read like any segment. ZX_CLOSED (zx_rollback: also a closed copy),
+   ZX_READ_ONLY, ZX_NO_MEMORY (zx_begin alone); ZX_SHORT_REGION (zx_rollback alone) if zx_relocate left too little room,
+   and another zx_relocate helps. */
+zx_code zx_begin(zx_segment *segment, zx_segment *before);
+zx_code zx_rollback(zx_segment *segment, zx_segment *before);
+static inline void zx_commit(zx_segment *before) { zx_close(before); }
 
 /* How it is open; its bytes; those of all gaps; those of its region behind it. ZX_CLOSED. */
 zx_code zx_mode(zx_segment *segment, uint32_t *mode);
@@ -357,6 +411,26 @@ static inline zx_code zx_read_u64s(zx_segment *segment, const zx_key *key, uint6
    ZX_BAD_KIND; ZX_READ_ONLY, ZX_NOT_FOUND, ZX_WRONG_KIND, ZX_OUT_OF_RANGE. */
 zx_code zx_write_elements(zx_segment *segment, const zx_key *key, uint64_t first, const zx_values *values);
 
+/* Where the elements of an object of scalars, a vector of them or a string stand. There they may be read between calls,
+   as long as zx_is_current. ZX_NOT_FOUND, ZX_WRONG_KIND. */
+zx_code zx_view(zx_segment *segment, const zx_key *key, zx_elements *elements);
+/* The same of elements that may be written there too, each as the bytes of a value of their kind: nothing else is
+   written. Other views stay current. ZX_READ_ONLY, ZX_NOT_FOUND, ZX_WRONG_KIND. */
+zx_code zx_view_mut(zx_segment *segment, const zx_key *key, zx_elements *elements);
+/* Whether the elements still stand there: no call has changed the segment since. */
+static inline bool zx_is_current(const zx_segment *segment, const zx_elements *elements) {
+    return segment->at && segment->changes == elements->changes;
+}
+/* The first of elements that zx_view_mut told of; null if they may stand elsewhere now. */
+static inline void *zx_elements_mut(const zx_segment *segment, const zx_elements *elements) {
+    if (!zx_is_current(segment, elements) || !segment->shared) return NULL;
+#ifdef __cplusplus
+    return const_cast<void *>(elements->at);
+#else
+    return (void *)(uintptr_t)elements->at;
+#endif
+}
+
 /* ---- strings
 
    A read copies the bytes to the front of the buffer. With ZX_SHORT_BUFFER `len` says how much room is wanted. */
@@ -402,6 +476,10 @@ zx_code zx_num_unique(zx_segment *segment, uint64_t *count);
 /* Objects with names, by the bytes of their names; the name as in zx_tell. */
 static inline zx_code zx_named_at(zx_segment *segment, uint64_t index, zx_info *info, uint8_t *name,
                                   size_t room) ZX_NAMED(zx_named_at_or_null);
+/* How many names stand before a text, which may be any bytes: the index for zx_named_at of the first name that does
+   not. ZX_NULL_SLICE. */
+static inline zx_code zx_named_from(zx_segment *segment, const uint8_t *text, size_t len,
+                                    uint64_t *index) ZX_NAMED(zx_named_from_or_null);
 /* Unique objects, by the codes of their kinds. */
 zx_code zx_unique_at(zx_segment *segment, uint64_t index, zx_info *info);
 /* Blocks and gaps, by offset. It is looked for from the first one on. */
@@ -445,6 +523,11 @@ zx_code zx_save_proved(zx_segment *segment, uint8_t *image, size_t room) ZX_NAME
 static inline zx_code zx_save(zx_segment *segment, uint8_t *image, size_t room) {
     if (!image) return ZX_NULL_SLICE;
     return zx_save_proved(segment, image, room);
+}
+zx_code zx_attach_proved(zx_segment *segment, zx_memory *memory, uint64_t len, uint32_t mode) ZX_NAMED(zx_attach);
+static inline zx_code zx_attach(zx_segment *segment, zx_memory *memory, uint64_t len, uint32_t mode) {
+    if (!memory->at) return ZX_NULL_SLICE;
+    return zx_attach_proved(segment, memory, len, mode);
 }
 zx_code zx_construct_string_proved(zx_segment *segment, const zx_key *key, const uint8_t *text, size_t len,
                                    uint64_t *handle) ZX_NAMED(zx_construct_string);
@@ -567,6 +650,12 @@ zx_code zx_named_at_proved(zx_segment *segment, uint64_t index, zx_info *info, u
 static inline zx_code zx_named_at(zx_segment *segment, uint64_t index, zx_info *info, uint8_t *name, size_t room) {
     if (!name) return ZX_NULL_SLICE;
     return zx_named_at_proved(segment, index, info, name, room);
+}
+zx_code zx_named_from_proved(zx_segment *segment, const uint8_t *text, size_t len,
+                             uint64_t *index) ZX_NAMED(zx_named_from);
+static inline zx_code zx_named_from(zx_segment *segment, const uint8_t *text, size_t len, uint64_t *index) {
+    if (!text) return ZX_NULL_SLICE;
+    return zx_named_from_proved(segment, text, len, index);
 }
 
 #ifdef __cplusplus

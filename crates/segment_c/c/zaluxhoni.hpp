@@ -585,14 +585,20 @@ namespace detail {
 /// What a segment is, at a place that stays the same.
 struct state {
     zx_file file{};
+    std::string path;
     bool grows = false;
 
     zx_segment *raw() noexcept { return &file.segment; }
+    /// Throws where the code is not ZX_DONE, as `file_error` where it is one of the file's.
+    void check(zx_code code) const {
+        if (code != ZX_DONE) throw_file_code(code, file.error, path);
+    }
 
     /// A call that may need space: where there is none, and the segment grows by itself, it is made longer.
     template <class Call> void change(Call call) {
         const zx_code code = call(raw());
-        check_code(code == ZX_NO_SPACE && grows ? in_more_space(call) : code);
+        if (code == ZX_NO_SPACE && grows) check(in_more_space(call));
+        else check_code(code);
     }
     zx_code grow_by_half() {
         const std::uint64_t largest = std::uint64_t{1} << 30;
@@ -600,7 +606,7 @@ struct state {
         const zx_code code = zx_size(raw(), &size);
         if (code != ZX_DONE) return code;
         const std::uint64_t left = largest - size, wanted = (size / 2 + 4096) / 16 * 16;
-        return zx_grow(raw(), left < wanted && left >= 32 ? left : wanted);
+        return zx_file_grow(&file, left < wanted && left >= 32 ? left : wanted);
     }
 
   private:
@@ -613,10 +619,28 @@ struct state {
             code = grow_by_half();
             if (code == ZX_DONE) code = call(raw());
         } while (code == ZX_NO_SPACE);
-        if (code != ZX_DONE && zx_shrink(raw()) == ZX_DONE && zx_size(raw(), &size) == ZX_DONE && size < before)
-            static_cast<void>(zx_grow(raw(), before - size));
+        if (code != ZX_DONE && zx_file_shrink(&file) == ZX_DONE && zx_size(raw(), &size) == ZX_DONE && size < before)
+            static_cast<void>(zx_file_grow(&file, before - size));
         return code;
     }
+};
+
+/// What a segment was, to which it is put back at the end, unless that is given up.
+class snapshot {
+  public:
+    explicit snapshot(state &of) : of_(of) { check_code(zx_begin(of_.raw(), &before_)); }
+    snapshot(const snapshot &) = delete;
+    ~snapshot() {
+        if (before_.at == nullptr || zx_file_rollback(&of_.file, &before_) == ZX_DONE) return;
+        // a segment that cannot be put back is closed, so that nobody takes it for what it was
+        zx_commit(&before_);
+        zx_file_discard(&of_.file);
+    }
+    void commit() noexcept { zx_commit(&before_); }
+
+  private:
+    state &of_;
+    zx_segment before_{};
 };
 
 /// An object by its handle. It is good for as long as the segment is, or something that was asked of it.
@@ -672,15 +696,9 @@ inline bool named_at(zx_segment *of, std::uint64_t index, info &told) {
 
 /// How many names stand before a text.
 inline std::uint64_t named_from(zx_segment *of, std::string_view text) {
-    std::uint64_t low = 0, high = 0;
-    check_code(zx_num_named(of, &high));
-    info told{};
-    while (low < high) {
-        const std::uint64_t middle = low + (high - low) / 2;
-        if (named_at(of, middle, told) && told.name < text) low = middle + 1;
-        else high = middle;
-    }
-    return low;
+    std::uint64_t index = 0;
+    check_code(zx_named_from(of, bytes_of(text), text.size(), &index));
+    return index;
 }
 
 /// So many values as the elements are, or `wrong_kind`: bytes of another type.
@@ -1030,7 +1048,6 @@ class segment {
         if (this != &other) {
             close();
             state_ = std::move(other.state_);
-            path_ = std::move(other.path_);
         }
         return *this;
     }
@@ -1059,12 +1076,7 @@ class segment {
 
     /// Opens the segment of a file that exists. Throws `file_error` if the file is refused.
     [[nodiscard]] static segment open_file(const std::string &path, zaluxhoni::mode how = zaluxhoni::mode::write) {
-        switch (how) {
-        case mode::write: return of_file(path, ZX_OPEN_ONLY, 0);
-        case mode::read: return of_file(path, ZX_OPEN_READ_ONLY, 0);
-        case mode::copy_on_write: return of_file(path, ZX_OPEN_COPY_ON_WRITE, 0);
-        }
-        throw bad_mode();
+        return of_file(path, file_mode(how), 0);
     }
     /// Opens it for writing; creates it with an empty segment of `size` bytes if it does not exist.
     [[nodiscard]] static segment open_or_create_file(const std::string &path, std::uint64_t size) {
@@ -1073,6 +1085,18 @@ class segment {
     /// Creates a file with an empty segment of `size` bytes. Throws `file_exists` if something exists there.
     [[nodiscard]] static segment create_file(const std::string &path, std::uint64_t size) {
         return of_file(path, ZX_CREATE_ONLY, size);
+    }
+
+    /// The same with the file mapped: opening copies nothing, and each change is in the file at once.
+    /// zaluxhoni_files.h says what that costs.
+    [[nodiscard]] static segment map_file(const std::string &path, zaluxhoni::mode how = zaluxhoni::mode::write) {
+        return of_file(path, file_mode(how) | ZX_MAPPED, 0);
+    }
+    [[nodiscard]] static segment map_or_create_file(const std::string &path, std::uint64_t size) {
+        return of_file(path, ZX_OPEN_OR_CREATE | ZX_MAPPED, size);
+    }
+    [[nodiscard]] static segment create_mapped_file(const std::string &path, std::uint64_t size) {
+        return of_file(path, ZX_CREATE_ONLY | ZX_MAPPED, size);
     }
 
     /// Frees the segment and saves nothing; removes a file that it created and never saved. What was asked of it throws
@@ -1097,21 +1121,24 @@ class segment {
     /// Saves the file that the segment was opened from, unless it has just these bytes: a new file takes its place when
     /// all of it is on the disk. Whatever fails, one of the two stands whole under the name. Throws `file_error` if the
     /// file is refused; after `file_unsynced` alone it is saved.
-    void save_file() const { check_file(zx_file_save(&state().file), path_); }
-    /// The same, and frees the segment.
+    void save_file() const { state().check(zx_file_save(&state().file)); }
+    /// Waits until the changes of a mapped file are on the disk; saves another one.
+    void flush_file() const { state().check(zx_file_flush(&state().file)); }
+    /// Saves as `save_file` does, and frees the segment. Of a mapped file it waits for nothing.
     void close_file() {
         if (!is_open()) throw closed();
-        check_file(zx_file_close(&state_->file), path_);
+        state().check(zx_file_close(&state().file));
     }
     /// Puts the image into the file of a path, which is created if it does not exist; its own file is saved as above.
     void save_file(const std::string &path) const {
-        check_file(zx_file_save_as(&state().file, whole(path).c_str(), ZX_OPEN_OR_CREATE), path);
+        const zx_code code = zx_file_save_as(&state().file, whole(path).c_str(), ZX_OPEN_OR_CREATE);
+        if (code != ZX_DONE) throw_file_code(code, state().file.error, path);
     }
 
     /// Makes the segment longer by `extra` bytes: a multiple of 16, at least 32.
-    void grow(std::uint64_t extra) { check_code(zx_grow(raw(), extra)); }
+    void grow(std::uint64_t extra) { state().check(zx_file_grow(&state().file, extra)); }
     /// Makes the segment as short as its last block lets it be.
-    void shrink() { check_code(zx_shrink(raw())); }
+    void shrink() { state().check(zx_file_shrink(&state().file)); }
     /// Moves the segment into a region of `capacity` bytes.
     void relocate(std::uint64_t capacity) { check_code(zx_relocate(raw(), capacity)); }
 
@@ -1126,8 +1153,23 @@ class segment {
             try {
                 return call();
             } catch (const no_space &) {
-                check_code(state().grow_by_half());
+                state().check(state().grow_by_half());
             }
+        }
+    }
+
+    /// Calls `call`, as one step: where it throws, the segment is again what it was before, and the error goes on. Steps
+    /// may lie in one another. It copies the segment. Of a file it saves nothing. Where there is no memory, or no room in
+    /// a mapped file, to make it what it was, it is closed.
+    template <class Call> auto transaction(Call call) -> decltype(call()) {
+        detail::snapshot before(state());
+        if constexpr (std::is_void_v<decltype(call())>) {
+            call();
+            before.commit();
+        } else {
+            auto result = call();
+            before.commit();
+            return result;
         }
     }
 
@@ -1341,10 +1383,19 @@ class segment {
         return made;
     }
 
+    static std::uint32_t file_mode(zaluxhoni::mode how) {
+        switch (how) {
+        case mode::write: return ZX_OPEN_ONLY;
+        case mode::read: return ZX_OPEN_READ_ONLY;
+        case mode::copy_on_write: return ZX_OPEN_COPY_ON_WRITE;
+        }
+        throw bad_mode();
+    }
+
     static segment of_file(const std::string &path, std::uint32_t how, std::uint64_t size) {
         segment made = allotted();
-        made.check_file(zx_file_open(&made.state_->file, whole(path).c_str(), how, size), path);
-        made.path_ = path;
+        made.state_->path = path;
+        made.state_->check(zx_file_open(&made.state_->file, whole(path).c_str(), how, size));
         return made;
     }
 
@@ -1352,10 +1403,6 @@ class segment {
     static const std::string &whole(const std::string &path) {
         if (path.find('\0') != std::string::npos) throw file_error(ZX_FILE_FAULT, EINVAL, path);
         return path;
-    }
-
-    void check_file(zx_code code, const std::string &path) const {
-        if (code != ZX_DONE) throw_file_code(code, state_->file.error, path);
     }
 
     detail::state &state() const {
@@ -1419,7 +1466,6 @@ class segment {
     // the handle itself stays where it is: it is not copied. What was asked of the segment keeps it, and finds it
     // closed behind the destructor
     std::shared_ptr<detail::state> state_;
-    std::string path_;
 };
 
 /// The objects whose names begin with a text, by the rests of their names.
@@ -1466,6 +1512,7 @@ class object {
     object(const segment &of, const key &at, std::uint32_t kind) : object(of.state_, of.existing(at, kind)) {}
 
     detail::spot spot() const noexcept { return {of_.get(), handle_}; }
+    const std::shared_ptr<detail::state> &state() const noexcept { return of_; }
     measures measured() const {
         measures told{0, 0};
         spot().ask(zx_measure, &told.len, &told.places);
@@ -1475,6 +1522,52 @@ class object {
   private:
     std::shared_ptr<detail::state> of_;
     std::uint64_t handle_;
+};
+
+/// What is thrown where elements are asked for by a `view` that is no longer good.
+class outdated : public std::logic_error {
+  public:
+    outdated() : std::logic_error("the segment has changed since the view was made") {}
+};
+
+/// The values of an array, a vector or a string where they stand, without a copy: as good as a pointer and a count, until
+/// the next call that changes the segment. T is const in those that are only read; others are changed by writing there.
+/// It goes wherever a `std::span` goes.
+template <class T> class view {
+  public:
+    using element_type = T;
+    using value_type = std::remove_const_t<T>;
+    using iterator = T *;
+
+    view(std::shared_ptr<detail::state> of, const zx_elements &there) : of_(std::move(of)), there_(there) {}
+
+    /// Whether the elements still stand there: no call has changed the segment since, and none has saved what was written.
+    [[nodiscard]] bool is_current() const noexcept { return at() != nullptr; }
+    /// The first. With this, `begin`, `end` and [] it throws `outdated` where they may stand elsewhere now; what they gave
+    /// before is a pointer, which nobody looks at.
+    [[nodiscard]] T *data() const {
+        T *const first = at();
+        if (first == nullptr) throw outdated();
+        return first;
+    }
+    [[nodiscard]] std::size_t size() const noexcept { return there_.count; }
+    [[nodiscard]] bool empty() const noexcept { return size() == 0; }
+    [[nodiscard]] T *begin() const { return data(); }
+    [[nodiscard]] T *end() const { return data() + size(); }
+    /// Throws `out_of_range` behind the last one.
+    [[nodiscard]] T &operator[](std::size_t index) const {
+        if (index >= size()) throw out_of_range();
+        return data()[index];
+    }
+
+  private:
+    T *at() const noexcept {
+        if constexpr (!std::is_const_v<T>) return static_cast<T *>(zx_elements_mut(of_->raw(), &there_));
+        else return zx_is_current(of_->raw(), &there_) ? static_cast<T *>(there_.at) : nullptr;
+    }
+
+    std::shared_ptr<detail::state> of_;
+    zx_elements there_;
 };
 
 namespace detail {
@@ -1532,6 +1625,16 @@ template <class T> std::vector<T> row_of(const spot &of, std::uint64_t count) {
         return all;
     }
 }
+/// Where the elements of an object stand: those of no other kind, or `wrong_kind`.
+template <class T> zx_elements elements_by(zx_code (*call)(zx_segment *, const zx_key *, zx_elements *), const spot &of) {
+    static_assert(alignof(T) <= 8, "elements stand at multiples of 8 bytes");
+    zx_elements there{};
+    of.ask(call, &there);
+    if (there.kind != stored<T>::kind) throw wrong_kind();
+    there.count = whole<T>(there.count);
+    return there;
+}
+
 /// The values of an array or a vector, for reading.
 template <class Of, class T> class const_values : public const_row<Of, values<T>> {
   public:
@@ -1545,6 +1648,8 @@ template <class Of, class T> class const_values : public const_row<Of, values<T>
     [[nodiscard]] std::vector<T> to_vector() const {
         return row_of<T>(this->spot(), static_cast<const Of &>(*this).size());
     }
+    /// Its values where they stand.
+    [[nodiscard]] zaluxhoni::view<const T> view() const { return {this->state(), elements_by<T>(zx_view, this->spot())}; }
 };
 
 template <class T> void write_row(const spot &of, std::uint64_t first, const slice<T> &values) {
@@ -1580,6 +1685,10 @@ template <class T> class array : public detail::row<const_array<T>, detail::valu
 
     /// Makes values elements, from `first` on: all of them or none, by one call.
     void write(std::uint64_t first, slice<T> values) const { detail::write_row(this->spot(), first, values); }
+    /// Its values where they stand, which may be changed there. In a segment that is open for reading it throws `read_only`.
+    [[nodiscard]] zaluxhoni::view<T> view() const {
+        return {this->state(), detail::elements_by<T>(zx_view_mut, this->spot())};
+    }
 };
 
 /// A vector, for reading.
@@ -1676,6 +1785,10 @@ template <class T> class vector : public detail::row<const_vector<T>, detail::va
     }
     /// Makes values elements, from `first` on: all of them or none, by one call.
     void write(std::uint64_t first, slice<T> values) const { detail::write_row(this->spot(), first, values); }
+    /// Its values where they stand, which may be changed there. In a segment that is open for reading it throws `read_only`.
+    [[nodiscard]] zaluxhoni::view<T> view() const {
+        return {this->state(), detail::elements_by<T>(zx_view_mut, this->spot())};
+    }
     void reserve(std::uint64_t places) const {
         this->spot().change(zx_reserve, detail::product(places, stored<T>::width));
     }
@@ -1707,6 +1820,11 @@ class const_string : public detail::const_row<const_string, detail::values<std::
         });
     }
     operator std::string() const { return str(); }
+    /// Its bytes where they stand, until the next call that changes the segment.
+    [[nodiscard]] std::string_view view() const {
+        const zx_elements there = detail::elements_by<std::uint8_t>(zx_view, spot());
+        return {static_cast<const char *>(there.at), there.count};
+    }
 };
 
 /// A string.
@@ -2005,6 +2123,7 @@ struct std::formatter<zaluxhoni::detail::element<Access>, char> : std::formatter
 
 #if __cplusplus >= 202002L
 // iterators lead to the segment, and outlive what gave them
+template <class T> inline constexpr bool std::ranges::enable_borrowed_range<zaluxhoni::view<T>> = true;
 template <class T> inline constexpr bool std::ranges::enable_borrowed_range<zaluxhoni::const_array<T>> = true;
 template <class T> inline constexpr bool std::ranges::enable_borrowed_range<zaluxhoni::array<T>> = true;
 template <class T> inline constexpr bool std::ranges::enable_borrowed_range<zaluxhoni::const_vector<T>> = true;

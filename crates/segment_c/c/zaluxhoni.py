@@ -334,7 +334,17 @@ def _file_error(code, number, path):
 # ---- the library
 
 class _Handle(ctypes.Structure):
-    _fields_ = [("at", ctypes.c_void_p)]
+    _fields_ = [("at", ctypes.c_void_p), ("changes", ctypes.c_uint64), ("lent", ctypes.c_bool),
+                ("shared", ctypes.c_bool)]
+
+
+class _Memory(ctypes.Structure):
+    _fields_ = [("at", ctypes.c_void_p), ("len", ctypes.c_uint64)]
+
+
+class _Elements(ctypes.Structure):
+    _fields_ = [("at", ctypes.c_void_p), ("offset", ctypes.c_uint64), ("count", ctypes.c_uint64),
+                ("changes", ctypes.c_uint64), ("kind", ctypes.c_uint32)]
 
 
 class _RawFile(ctypes.Structure):
@@ -406,7 +416,9 @@ def _declare(library):
         "num_named": [number], "num_unique": [number], "named_at": [u64, info, ctypes.c_void_p, size],
         "unique_at": [u64, info], "tile_at": [u64, pointer(_Tile)], "reserve_named": [u64], "reserve_unique": [u64],
         "shrink_indexes": [], "zero_free": [], "sanity": [truth], "all_deallocated": [truth],
-        "write_elements": [key, u64, values],
+        "write_elements": [key, u64, values], "attach": [pointer(_Memory), u64, u32], "detach": [pointer(_Memory)],
+        "view": [key, pointer(_Elements)], "view_mut": [key, pointer(_Elements)], "named_from": [text, size, number],
+        "begin": [segment], "rollback": [segment],
     }
     calls.update({f"read_{row}": [key, u64, ctypes.c_void_p, size] for row in ("bools", "u8s", "i32s", "i64s", "u64s")})
     for name, arguments in calls.items():
@@ -415,7 +427,10 @@ def _declare(library):
     library.zx_close.restype = None
     library.zx_check.argtypes, library.zx_check.restype = [text, size], u32
     library.zx_file_words.argtypes, library.zx_file_words.restype = [u32, texts], None
-    files = {"open": [text, u32, u64], "save": [], "save_as": [text, u32], "close": [], "discard": []}
+    library.zx_message.argtypes, library.zx_message.restype = [u32], ctypes.c_char_p
+    library.zx_version.argtypes, library.zx_version.restype = [], u32
+    files = {"open": [text, u32, u64], "save": [], "save_as": [text, u32], "close": [], "discard": [], "grow": [u64],
+             "shrink": [], "flush": [], "rollback": [segment]}
     for name, arguments in files.items():
         call = getattr(library, "zx_file_" + name)
         call.argtypes, call.restype = [pointer(_RawFile), *arguments], u32
@@ -650,6 +665,7 @@ def _info(told, name):
 
 _modes = {"w": 0, "r": 1, "p": 2}
 _file_modes = {"x": 16, "w": 17, "c": 18, "r": 19, "p": 20}
+_MAPPED = 256
 
 
 class Segment(collections.abc.MutableMapping):
@@ -661,7 +677,7 @@ class Segment(collections.abc.MutableMapping):
         self._handle = self._file.segment
         self._thread, self._process = threading.get_ident(), os.getpid()
         self._calls = 0
-        self._path = None
+        self._path, self._is_mapped = None, False
         self.growing = grow
         """Whether a call that finds no space makes the segment longer by half and goes on."""
         self.encoding = encoding
@@ -748,11 +764,13 @@ class Segment(collections.abc.MutableMapping):
 
     def grow(self, extra):
         """Makes the segment longer by `extra` bytes: a multiple of 16, at least 32."""
-        self._call(_zx.zx_grow, _natural(extra))
+        self._calls += 1
+        self._file_call(_zx.zx_file_grow, self._path, _natural(extra))
 
     def shrink(self):
         """Makes the segment as short as its last block lets it be."""
-        self._call(_zx.zx_shrink)
+        self._calls += 1
+        self._file_call(_zx.zx_file_shrink, self._path)
 
     def relocate(self, capacity):
         """Moves the segment into a region of so many bytes."""
@@ -765,6 +783,10 @@ class Segment(collections.abc.MutableMapping):
         when all of it is on the disk, so that one of the two stands whole under the name whatever fails. ReadOnly,
         NoFile, FileError; after FileUnsynced alone it is saved."""
         self._file_call(_zx.zx_file_save, self._path)
+
+    def flush(self):
+        """Waits until the changes of a mapped file are on the disk; saves another one."""
+        self._file_call(_zx.zx_file_flush, self._path)
 
     def save_as(self, path):
         """Saves the image in a new file. FileExists, FileError."""
@@ -800,7 +822,7 @@ class Segment(collections.abc.MutableMapping):
         if file is None or not (self.is_open or file.held):
             return
         try:
-            if file.held and self._process == os.getpid():
+            if file.held and not self._is_mapped and self._process == os.getpid():
                 said = f"a segment of {self._path!r} was not closed, and is not saved"
                 warnings.warn(said, ResourceWarning, source=self)
         finally:
@@ -1545,7 +1567,7 @@ def load(image, mode="w", *, capacity=None, grow=False, encoding="utf-8"):
     return made
 
 
-def open(path, mode="c", *, size=65536, grow=False, encoding="utf-8"):
+def open(path, mode="c", *, size=65536, grow=False, encoding="utf-8", mapped=False):
     """The segment of a file. `mode` is one of
 
         "r"  the file is there, and is read alone             (open_read_only)
@@ -1556,12 +1578,16 @@ def open(path, mode="c", *, size=65536, grow=False, encoding="utf-8"):
 
     A new segment has `size` bytes, and its file stands under the name at once, with an empty segment. With `grow` a
     segment becomes longer where there is no space. In the modes that save, the file belongs to this segment until it is
-    closed: FileInUse. FileError, if the file is refused; BadImage."""
+    closed: FileInUse. FileError, if the file is refused; BadImage.
+
+    With `mapped` the segment lies in the file: opening copies nothing, each change is in the file at once, and
+    `discard` takes none back. docs/C.md says what that costs."""
     if mode not in _file_modes:
         raise BadMode(f"no mode is {mode!r}")
     opened = Segment(grow=grow, encoding=encoding)
-    opened._file_call(_zx.zx_file_open, path, _path_bytes(path), _file_modes[mode], _natural(size))
-    opened._path = path
+    how = _file_modes[mode] + (_MAPPED if mapped else 0)
+    opened._file_call(_zx.zx_file_open, path, _path_bytes(path), how, _natural(size))
+    opened._path, opened._is_mapped = path, mapped
     return opened
 
 

@@ -10,7 +10,7 @@ typedef struct {
     double weight;
 } article;
 
-static zx_file file = ZX_CLOSED_FILE;
+static zx_file file;
 static zx_segment *const shop = &file.segment;
 static uint64_t handle, len, places;
 static uint32_t found;
@@ -98,8 +98,10 @@ static void report(void) {
         printf("%d %.*s: %d of %g kg at %" PRId64 "\n", (int)each.number, (int)len, (const char *)text, (int)each.count,
                each.weight, price_of(each.number));
     }
-    for (uint64_t i = 0; zx_named_at(shop, i, &told, text, sizeof text) == ZX_DONE; i++) {
-        if (told.name_len < 10 || memcmp(text, "suppliers/", 10) != 0) continue;
+    uint64_t first;
+    must(zx_named_from(shop, (const uint8_t *)"suppliers/", 10, &first));
+    for (uint64_t i = first; zx_named_at(shop, i, &told, text, sizeof text) == ZX_DONE; i++) {
+        if (told.name_len < 10 || memcmp(text, "suppliers/", 10) != 0) break;
         zx_key supplier = zx_handle(told.handle);
         printf("%.*s sells", (int)told.name_len - 10, (const char *)text + 10);
         must(zx_measure(shop, &supplier, &len, &places));

@@ -26,10 +26,11 @@ int main(int words, char **word) {
         shop.construct<std::int64_t>("earned", 0);
     }
     article sold = articles[0];
-    if (sold.count-- > 0) {
+    shop.transaction([&] {
+        if (sold.count-- == 0) return;
         articles[0] = sold;
         shop.array<std::int64_t>("earned")[0] += prices[sold.number];
-    }
+    });
     shop.save_file();
 
     for (const article &each : articles)

@@ -48,13 +48,14 @@ template <class Error, class Call> void throws(int line, const char *what, Call 
         std::cout << "as_expected.cpp:" << line << ": WRONG " << what << ": '" << other.what() << "'\n";
         wrong++;
         return;
+    } catch (...) {
     }
     wrong++;
     std::cout << "as_expected.cpp:" << line << ": WRONG " << what << ": no error\n";
 }
 
 #define IS(...) is(__LINE__, #__VA_ARGS__, __VA_ARGS__)
-#define THROWS(error, call) throws<zaluxhoni::error>(__LINE__, #call, [&] { return (call); })
+#define THROWS(error, ...) throws<zaluxhoni::error>(__LINE__, #__VA_ARGS__, [&] { return (__VA_ARGS__); })
 
 /// A record of a program's own: 24 bytes, and none between its fields.
 struct item {
@@ -457,6 +458,100 @@ void own_types() {
     IS(row[0] == -5);
 }
 
+/// Elements where they stand, read and changed there.
+void views_without_a_copy() {
+    segment s = segment::create(65536);
+    const auto v = s.vector<i64>("v");
+    v.assign({3, 1, 2});
+    const auto there = v.view();
+    IS(there.size() == 3 && there[2] == 2 && !there.empty() && there.is_current());
+    THROWS(out_of_range, there[3]);
+    std::sort(there.begin(), there.end());
+    there[0] = 7;
+    IS(v == (std::vector<i64>{7, 2, 3}));
+    IS(std::accumulate(there.begin(), there.end(), i64{0}) == 12);
+    v.push_back(4);
+    IS(!there.is_current());
+    throws<zaluxhoni::outdated>(__LINE__, "outdated", [&] { return there[0]; });
+    const segment &kept = s;
+    const auto read = kept.vector<i64>("v").view();
+    static_assert(std::is_same_v<decltype(read.data()), const i64 *>);
+    IS(read.size() == 4 && read[3] == 4);
+    s.construct_array<bool>("b", {true, false});
+    s.array<bool>("b").view()[1] = true;
+    IS(s.array<bool>("b") == (std::vector<bool>{true, true}));
+    s.string("t").assign("text");
+    IS(s.string("t").view() == "text");
+    s.vector<item>("items").assign({{1.5, 1, 2, 3}, {2.5, 4, 5, 6}});
+    for (item &each : s.vector<item>("items").view()) each.price *= 2;
+    IS(s.vector<item>("items")[1]->price == 5);
+    s.vector<double>("d").assign({0.5, 0.25});
+    IS(s.vector<double>("d").view()[1] == 0.25);
+    IS(s.vector<i64>("none").view().empty());
+    s.construct_vector<u8>("odd", {1, 2, 3});
+    THROWS(wrong_kind, s.vector<item>("odd").view());
+    segment only = segment::open(s.save(), zaluxhoni::mode::read);
+    THROWS(read_only, only.vector<i64>("v").view());
+    IS(std::as_const(only).vector<i64>("v").view()[0] == 7);
+    const auto last = std::as_const(only).vector<i64>("v").view();
+    only.close();
+    IS(!last.is_current());
+    throws<zaluxhoni::outdated>(__LINE__, "outdated", [&] { return last.data(); });
+#if __cplusplus >= 202002L
+    static_assert(std::ranges::contiguous_range<zaluxhoni::view<i64>> && std::ranges::sized_range<zaluxhoni::view<i64>>);
+    const std::span<const i64> span = kept.vector<i64>("v").view();
+    IS(span.back() == 4);
+    const std::span<i64> changed = v.view();
+    changed[0] = 9;
+    IS(v[0] == 9);
+#endif
+}
+
+void several_calls_as_one() {
+    segment s = segment::create(8192);
+    const auto v = s.vector<i64>("v");
+    v.assign({1, 2});
+    const std::vector<u8> before = s.save();
+    const auto fails = [&] {
+        s.transaction([&] {
+            v.push_back(3);
+            s.construct<i64>("new", 1);
+            s.destroy("v");
+            throw std::out_of_range("of the program's own");
+        });
+    };
+    throws<std::out_of_range>(__LINE__, "transaction", fails);
+    IS(s.save() == before);
+    IS(v == (std::vector<i64>{1, 2}));
+    IS(s.transaction([&] { return v.push_back(5), v.size(); }) == 3);
+    s.transaction([&] {
+        v.push_back(6);
+        THROWS(no_space, s.transaction([&] {
+            v.push_back(7);
+            v.reserve(100000);
+        }));
+        v.push_back(8);
+    });
+    IS(v == (std::vector<i64>{1, 2, 5, 6, 8}));
+    s.set_growing(true);
+    const std::vector<u8> small = s.save();
+    throws<int>(__LINE__, "transaction", [&] {
+        s.transaction([&] {
+            v.resize(10000);
+            throw 7;
+        });
+    });
+    IS(s.save() == small);
+    segment read = segment::open(s.save(), zaluxhoni::mode::read);
+    THROWS(read_only, read.transaction([] {}));
+    segment gone = segment::create(1024);
+    THROWS(no_space, gone.transaction([&] {
+        gone.close();
+        throw zaluxhoni::no_space();
+    }));
+    IS(!gone.is_open());
+}
+
 void const_segments() {
     segment s = segment::create(8192);
     s.vector<i64>("v").assign({1, 2});
@@ -522,7 +617,8 @@ void segments_that_grow() {
 
 int main() {
     void (*const cases[])() = {an_array_that_is_made_anew, numbers_that_do_not_fit, truths, texts_that_are_stored,
-                               elements, texts, algorithms, bulk, own_types, const_segments, groups,
+                               elements, texts, algorithms, bulk, own_types,
+                               views_without_a_copy, several_calls_as_one, const_segments, groups,
                                segments_that_grow};
     for (void (*each)() : cases) {
         try {

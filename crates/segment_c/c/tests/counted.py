@@ -10,7 +10,7 @@ for header in headers:
     with open(header) as file:
         text += re.sub(r"/\*.*?\*/", "", file.read(), flags=re.DOTALL)
 # a call that looks for null slices is an inline function; what it calls then has the name in the library
-calls = re.findall(r"^(zx_code|void) (zx_\w+)\(([^()]*)\)(?:\s+ZX_NAMED\((\w+)\))?;", text, flags=re.MULTILINE)
+calls = re.findall(r"^(zx_code|void|uint32_t|const char \*) ?(zx_\w+)\(([^()]*)\)(?:\s+ZX_NAMED\((\w+)\))?;", text, flags=re.MULTILINE)
 print("""#define _GNU_SOURCE
 #include "zaluxhoni_files.h"
 #include <dlfcn.h>
@@ -27,7 +27,7 @@ static void *behind(const char *name) {
 """)
 for answer, called, parameters, name in calls:
     name = name or called
-    passed = ", ".join(re.search(r"(\w+)$", each.strip())[1] for each in parameters.split(","))
+    passed = ", ".join(re.search(r"(\w+)$", each.strip())[1] for each in parameters.split(",") if each != "void")
     print(f"""static int {name}_called;
 {answer} {called}({parameters}) {{
     static {answer} (*call)({parameters});

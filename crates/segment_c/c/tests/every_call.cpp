@@ -175,6 +175,38 @@ void files() {
     IS(std::filesystem::exists(path), false);
 }
 
+void mapped_files() {
+    const std::string path = path_of("mapped");
+    std::filesystem::remove(path);
+    {
+        segment s = segment::create_mapped_file(path, 1024);
+        s.construct<i64>("a", 5);
+        IS(segment::open_file(path, zaluxhoni::mode::read).get<i64>("a"), 5);
+        fails(__LINE__, [&] { return segment::map_file(path); }, ZX_FILE_IN_USE, std::errc::operation_would_block);
+        s.grow(1024);
+        IS(std::filesystem::file_size(path), 2048);
+        zaluxhoni::vector<i64> v = s.vector<i64>("v");
+        for (i64 i = 0; i < 1000; i++) s.growing([&] { v.push_back(i); });
+        IS(std::filesystem::file_size(path), s.size());
+        IS(v.get(999), 999);
+        s.destroy("v");
+        s.shrink();
+        IS(std::filesystem::file_size(path), s.size());
+        s.set<i64>("a", 0, 6);
+        s.flush_file();
+    }
+    segment one = segment::map_file(path, zaluxhoni::mode::read);
+    segment other = segment::map_file(path, zaluxhoni::mode::copy_on_write);
+    other.set<i64>("a", 0, 7);
+    IS(one.get<i64>("a"), 6);
+    fails(__LINE__, [&] { return segment::open_file(path); }, ZX_FILE_IN_USE, std::errc::operation_would_block);
+    one.close();
+    other.close();
+    segment last = segment::map_or_create_file(path, 1024);
+    IS(last.get<i64>("a"), 6);
+    last.close_file();
+}
+
 void index_and_object_do_not_both_fit() {
     segment s = segment::create(224);
     THROWS(no_space, s.construct<i64>("a", 5));
@@ -612,6 +644,37 @@ void modes() {
     IS(s.region_left(), 3072);
 }
 
+/// The calls that C++ has no names of its own for.
+void calls_of_c() {
+    segment made = segment::create(1024);
+    made.construct<i64>("a/1", 5);
+    std::vector<u8> image = made.save();
+    zx_segment s = ZX_CLOSED_HANDLE;
+    zx_memory memory = {image.data(), image.size()};
+    IS(zx_attach(&s, &memory, image.size(), ZX_WRITE), u64{ZX_DONE});
+    const zx_key name = zx_name("a/1");
+    zx_elements there;
+    IS(zx_view(&s, &name, &there), u64{ZX_DONE});
+    IS(*static_cast<const i64 *>(there.at), 5);
+    zx_segment before = ZX_CLOSED_HANDLE;
+    IS(zx_begin(&s, &before), u64{ZX_DONE});
+    IS(zx_view_mut(&s, &name, &there), u64{ZX_DONE});
+    *static_cast<i64 *>(zx_elements_mut(&s, &there)) = 6;
+    IS(zx_rollback(&s, &before), u64{ZX_DONE});
+    IS(zx_is_current(&s, &there), false);
+    zx_file none = ZX_CLOSED_FILE;
+    IS(zx_file_rollback(&none, &before), u64{ZX_CLOSED});
+    IS(zx_version(), u64{ZX_VERSION});
+    IS(std::string(zx_message(ZX_NO_SPACE)) == "no space", true);
+    IS(zx_view(&s, &name, &there), u64{ZX_DONE});
+    IS(*static_cast<const i64 *>(there.at), 5);
+    u64 index = 7;
+    IS(zx_named_from(&s, reinterpret_cast<const u8 *>("a/"), 2, &index), u64{ZX_DONE});
+    IS(index, 0);
+    IS(zx_detach(&s, &memory), u64{ZX_DONE});
+    IS(memory.at == image.data(), true);
+}
+
 void what_is_refused() {
     segment s = segment::create(1024);
     std::vector<u8> image = s.save();
@@ -699,10 +762,10 @@ int main(int count, char **arguments) {
     if (count != 2) return 2;
     folder = arguments[1];
     void (*const cases[])() = {
-        an_anonymous_object, names, files, index_and_object_do_not_both_fit, arrays, the_only_object_of_its_kind,
-        places_reserved_in_the_indexes, best_fit, storage_is_lengthened_then_replaced, a_string_grows_and_shrinks,
-        a_map, refusals_of_a_vector, a_vector_of_strings, objects_found_or_made, many_at_once,
-        another_kind_under_the_handle, one_of_each, size_and_region, modes, what_is_refused, segments_move,
+        an_anonymous_object, names, files, mapped_files, index_and_object_do_not_both_fit, arrays,
+        the_only_object_of_its_kind, places_reserved_in_the_indexes, best_fit, storage_is_lengthened_then_replaced,
+        a_string_grows_and_shrinks, a_map, refusals_of_a_vector, a_vector_of_strings, objects_found_or_made, many_at_once,
+        another_kind_under_the_handle, one_of_each, size_and_region, modes, calls_of_c, what_is_refused, segments_move,
         segments_end_before_their_objects, errors_say_what};
     for (void (*each)() : cases) {
         try {

@@ -1,6 +1,7 @@
 """Every call of zaluxhoni.py, and by it each of zaluxhoni.h, on the worked examples of docs/LANGUAGE.md, section 11,
 and on what is raised. The files that it makes are in the folder that is its one argument."""
 import copy
+import ctypes
 import gc
 import os
 import pickle
@@ -523,6 +524,35 @@ def size_and_region():
     saved(s, "grown")
 
 
+def calls_of_c():
+    """The calls that Python has no names of its own for."""
+    made = zaluxhoni.create(1024)
+    made["a/1"] = 5
+    image = made.image()
+    made.discard()
+    room = ctypes.create_string_buffer(image, len(image))
+    library, handle = zaluxhoni._zx, zaluxhoni._Handle()
+    memory = zaluxhoni._Memory(ctypes.addressof(room), len(image))
+    same(library.zx_attach(handle, memory, len(image), 0), 0)
+    key, there, index = zaluxhoni._Key(0, 0, 0, b"a/1", 3), zaluxhoni._Elements(), ctypes.c_uint64(7)
+    same(library.zx_view(handle, key, there), 0)
+    same(ctypes.c_int64.from_buffer(room, there.offset).value, 5)
+    same(there.at, ctypes.addressof(room) + there.offset)
+    before = zaluxhoni._Handle()
+    same(library.zx_begin(handle, before), 0)
+    same(library.zx_view_mut(handle, key, there), 0)
+    ctypes.c_int64.from_address(there.at).value = 6
+    same(library.zx_rollback(handle, before), 0)
+    same(library.zx_file_rollback(zaluxhoni._RawFile(), before), zaluxhoni.Closed.code)
+    same(library.zx_version(), 900)
+    same(library.zx_message(zaluxhoni.NoSpace.code), b"no space")
+    same(ctypes.c_int64.from_buffer(room, there.offset).value, 5)
+    same(library.zx_named_from(handle, b"a/", 2, index), 0)
+    same(index.value, 0)
+    same(library.zx_detach(handle, memory), 0)
+    same(memory.at, ctypes.addressof(room))
+
+
 def what_is_refused():
     s = zaluxhoni.create(1024)
     image = s.image()
@@ -635,6 +665,34 @@ def files():
         gc.collect()
     same([warning.category for warning in caught], [ResourceWarning])
     zaluxhoni.open(path, "w").close()
+
+
+def files_that_are_mapped():
+    path = new("mapped")
+    s = zaluxhoni.open(path, "x", size=4096, mapped=True)
+    s["a"] = 5
+    with zaluxhoni.open(path, "r") as reader:
+        same(reader["a"], 5)
+    raises(zaluxhoni.FileInUse, zaluxhoni.open, path, "w")
+    raises(zaluxhoni.FileInUse, zaluxhoni.open, path, "r", mapped=True)
+    s.grow(4096)
+    same((s.size, os.path.getsize(path), s["a"]), (8192, 8192, 5))
+    s.flush()
+    s.growing = True
+    s["v"] = list(range(4000))
+    same((s["v"][3999], os.path.getsize(path)), (3999, s.size))
+    del s["v"]
+    s.shrink()
+    same(os.path.getsize(path), s.size)
+    s["a"] = 6
+    s.discard()
+    with zaluxhoni.open(path, "r", mapped=True) as reader, zaluxhoni.open(path, "p", mapped=True) as private:
+        private["a"] = 7
+        same((reader["a"], private["a"]), (6, 7))
+        raises(zaluxhoni.ReadOnly, set_item, reader, "a", 7)
+        raises(zaluxhoni.FileInUse, zaluxhoni.open, path, "w")
+    with zaluxhoni.open(path, "w") as s:
+        same(s["a"], 6)
 
 
 def what_is_refused_by_name():
@@ -774,8 +832,9 @@ def what_is_not_closed():
 for case in (an_anonymous_object, names, index_and_object_do_not_both_fit, arrays, the_only_object_of_its_kind,
              places_reserved_in_the_indexes, best_fit, storage_is_lengthened_then_replaced, a_string_grows_and_shrinks, a_map,
              refusals_of_a_vector, a_vector_of_strings, objects_found_or_made, every_kind_of_scalar, many_at_once, one_of_each,
-             a_segment_as_a_dict, maps_are_made_whole, size_and_region, what_is_refused, one_thread, files,
-             what_is_refused_by_name, a_process_that_forks, a_relative_path, files_that_fail, what_is_not_closed):
+             a_segment_as_a_dict, maps_are_made_whole, size_and_region, calls_of_c, what_is_refused, one_thread, files,
+             files_that_are_mapped, what_is_refused_by_name, a_process_that_forks, a_relative_path, files_that_fail,
+             what_is_not_closed):
     try:
         case()
     except Exception as error:

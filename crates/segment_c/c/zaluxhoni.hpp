@@ -388,7 +388,9 @@ template <class T> class slice {
 
   public:
     slice() = default;
-    slice(const T *at, std::size_t count) : at_(at), count_(count) {}
+    slice(const T *at, std::size_t count) : at_(at), count_(count) {
+        if (at == nullptr && count != 0) throw null_slice();
+    }
     slice(std::initializer_list<listed> list) { copy(list); }
     template <class R, std::enable_if_t<detail::is_row<T, const R> || detail::is_list<listed, const R>, int> = 0>
     slice(const R &range) {

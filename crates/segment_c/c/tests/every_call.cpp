@@ -544,30 +544,32 @@ void another_kind_under_the_handle() {
     const segment &kept = s;
     IS(zaluxhoni::vector<u64>(kept, key::by_handle(handle)).size(), 2);
     THROWS(wrong_kind, zaluxhoni::vector<i64>(kept, key::by_handle(handle)));
-    s = segment::create(4096);
-    const zaluxhoni::vector<i64> first = s.vector<i64>(key("v"));
-    const zaluxhoni::map<i64, i64> second = s.map<i64, i64>("m");
-    s.construct<i64>("a", 1);
-    const zaluxhoni::array<i64> third = s.array<i64>("a");
-    for (const char *name : {"v", "m", "a"}) IS(s.destroy(name), true);
-    IS(s.construct_vector<u64>("v", {7, UINT64_MAX}), first.handle());
-    IS((s.construct_map<i64, u64>("m")), second.handle());
-    s.map<i64, u64>("m").put(1, UINT64_MAX);
-    s.construct_string(key::anonymous(), "x");
-    const std::vector<u8> before = s.save();
+
+    segment one = segment::create(4096), two = segment::create(4096), three = segment::create(4096);
+    const zaluxhoni::vector<i64> first = one.vector<i64>("v");
+    const zaluxhoni::map<i64, i64> second = two.map<i64, i64>("m");
+    three.construct<i64>("a", 1);
+    const zaluxhoni::array<i64> third = three.array<i64>("a");
+    IS(one.destroy("v") && two.destroy("m") && three.destroy("a"), true);
+    IS(one.construct_vector<u64>("v", {7, UINT64_MAX}), first.handle());
+    IS((two.construct_map<i64, u64>("m")), second.handle());
+    IS(three.construct<u64>("a", UINT64_MAX), third.handle());
+    two.map<i64, u64>("m").put(1, UINT64_MAX);
+    const std::vector<u8> before = one.save();
     THROWS(wrong_kind, first.get(1));
     THROWS(wrong_kind, i64{first[1]});
-    THROWS(wrong_kind, *first.begin());
+    THROWS(wrong_kind, first.begin()[0].value());
     THROWS(wrong_kind, first.pop_back());
     THROWS(wrong_kind, first.to_vector());
     THROWS(wrong_kind, second.find(1));
     THROWS(wrong_kind, second.first());
     THROWS(wrong_kind, second.next(0));
-    THROWS(wrong_kind, (zaluxhoni::map<u8, u64>(s, "m")));
+    THROWS(wrong_kind, (zaluxhoni::map<u8, u64>(two, "m")));
     THROWS(wrong_kind, third.get(0));
-    IS((s.save() == before), true);
-    IS(s.vector<u64>("v").pop_back(), UINT64_MAX);
-    IS(s.vector<u64>("v").size(), 1);
+    THROWS(wrong_kind, third.size());
+    IS((one.save() == before), true);
+    IS(one.vector<u64>("v").pop_back(), UINT64_MAX);
+    IS(one.vector<u64>("v").size(), 1);
 }
 
 /// One object of each kind, by the calls that every_call.c makes: all three programs save the same bytes.
@@ -681,10 +683,10 @@ void what_is_refused() {
     THROWS(bad_size, segment::open(image, zaluxhoni::mode::write, 1025));
     THROWS(bad_mode, segment::open(image, static_cast<zaluxhoni::mode>(3)));
     THROWS(null_slice, segment::open({nullptr, 1024}));
-    const zaluxhoni::slice<std::string_view> no_texts(nullptr, 2);
-    THROWS(null_slice, s.construct_strings("t", no_texts));
-    THROWS(null_slice, s.find_or_construct_strings("t", no_texts));
-    THROWS(null_slice, s.strings("t").assign(no_texts));
+    throws<zaluxhoni::null_slice>(__LINE__, "null texts", [&] { s.construct_strings("t", {nullptr, 2}); });
+    throws<zaluxhoni::null_slice>(__LINE__, "null texts", [&] { s.find_or_construct_strings("t", {nullptr, 2}); });
+    throws<zaluxhoni::null_slice>(__LINE__, "null texts", [&] { s.strings("t").assign({nullptr, 2}); });
+    throws<zaluxhoni::null_slice>(__LINE__, "null row", [&] { s.vector<i64>("v").append_range({nullptr, 2}); });
     THROWS(short_buffer, s.save(image.data(), 1023));
     const std::vector<u8> half(image.begin(), image.begin() + 512);
     IS(zaluxhoni::check_image(half), u64{ZX_TRUNCATED});

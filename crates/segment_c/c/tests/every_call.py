@@ -1070,6 +1070,14 @@ def views():
     with zaluxhoni.open(path, "r") as s:
         same(s["v"].copy(), [7, 8])
         view = s["v"].view()
+    with zaluxhoni.create(4096, check_same_thread=False) as s:
+        s["v"] = [1, 2]
+        view = s["v"].view()
+        same(on_a_thread(lambda: name_of_error(lambda: s["v"].append(3))), "Lent")
+        same(on_a_thread(lambda: view.tolist()), [1, 2])
+        view = None
+        same(on_a_thread(lambda: s["v"].append(3)), None)
+        same(s["v"].copy(), [1, 2, 3])
     s = zaluxhoni.open(path, "w", mapped=True)
     view = s["v"].view()
     view[0] = 9

@@ -1,8 +1,9 @@
 #!/usr/bin/env bash
 # build.sh [--archive FILE] [FOLDER]: makes the library for C, C++ and Python in a folder, `out` beside this script
 # where none is given: the archive libzaluxhoni.a, the shared object libzaluxhoni.so, the headers, the module for
-# Python, and the examples, ready to run. `rt lib` proves the crate and all below it first, unless it is given the
-# archive that `rt lib` made. It needs a C and a C++ compiler for Linux; CC, CXX and AR say which.
+# Python, and the examples, ready to run. It takes the archive that it is given, or the one that the gate or `rt lib` left,
+# where no source of what is in it is younger; otherwise `rt lib` proves what is missing first. It needs a C and a C++
+# compiler for Linux; CC, CXX and AR say which.
 set -euo pipefail
 here=$(cd "$(dirname "$0")" && pwd)
 crate=$(dirname "$here")
@@ -15,8 +16,10 @@ while [ $# -gt 0 ]; do
     esac
 done
 if [ -z "$archive" ]; then
-    (cd "$crate" && rt lib)
     archive=$crate/out/libsegment_c.a
+    if "$crate/../../.ci/is-stale" segment_c "$archive"; then
+        (cd "$crate" && rt lib)
+    fi
 fi
 cc=${CC:-gcc} cxx=${CXX:-g++} ar=${AR:-ar}
 

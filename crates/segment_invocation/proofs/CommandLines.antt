@@ -142,9 +142,9 @@ behind-lint : Behind (codes "lint" ∷ []) lint
 unfolding clap_on_literals
 behind-lint = record { takes = refl; asks = refl }
 
-behind-help : Behind (codes "help" ∷ codes "language" ∷ []) language
+behind-language : Behind (codes "language" ∷ []) language
 unfolding clap_on_literals
-behind-help = record { takes = refl; asks = refl }
+behind-language = record { takes = refl; asks = refl }
 
 -- a run in a mode, with a size where it wants one
 abbrev in_mode : Text → ModeName → Saving → Bool → Bool → Option ℕ → Option Asked
@@ -263,7 +263,7 @@ behind words (dump_capacities f) (p, e) = inl (rw e (behind-capacities f (path-p
 behind words (load f None) (p, e) = inl (rw e (behind-load f (path-plain f p)))
 behind words (load f (Some n)) (p, sizes, (d, h, s), e) = inl (rw (e, s) (behind-sized f d n (path-plain f p) h))
 behind words lint e = inl (rw e behind-lint)
-behind words language e = inl (rw e behind-help)
+behind words language e = inl (rw e behind-language)
 behind words version e = inr (rw e asks-version)
 
 -- the command is simple, takes the words, and they ask for this

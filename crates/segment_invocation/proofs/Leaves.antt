@@ -8,7 +8,7 @@ use Rattle.clap.specs.Walk.{Row, Rule, Text, Walk, finished, idle, option as wai
 use Rattle.clap.specs.Simple.{Shape, built_leaf, inherited}
 use Rattle.clap.specs.Takes.{default_passes, is_valid, level_passes, settle_passes, turn_passes, walk_passes}
 use Rattle.clap.specs.declared.builder.value_parser.Reading.TheVariants as reading
-use Rattle.clap.specs.declared.parser.matches.ValueSource.TheVariants.{CommandLine}
+use Rattle.clap.specs.declared.parser.matches.ValueSource.TheVariants.{CommandLine, DefaultValue}
 use Rattle.segment_invocation.specs.Invocations.{RunWords, asked_check, asked_dump, asked_load, check, check_command, dump, dump_capacities, dump_command, explain, file_command, flag_words, load, load_command, number_command, program, run_command, run_words, size_of}
 use Rattle.segment_invocation.specs.declared.invocations.Saving.{Saving}
 use Rattle.segment_invocation.specs.declared.invocations.Saving.TheVariants.{InPlace, Replacing}
@@ -22,6 +22,10 @@ leaf s = built_leaf (inherited program.top s)
 abbrev pub word_row : Text → Text → Row
 word_row id word = record { id = id; values = word ∷ []; count = None; source = Some CommandLine; reading = reading.AsWritten }
 
+-- the row of a flag that is left out
+abbrev pub unset_row : Text → Row
+unset_row id = record { id = id; values = codes "false" ∷ []; count = None; source = Some DefaultValue; reading = reading.AsWritten }
+
 -- the last tests of a level, behind the test of its words
 abbrev passes_at : Shape → Bool → Walk → Bool
 passes_at s words_pass end =
@@ -32,7 +36,7 @@ passes_at s words_pass end =
 file-walk : (name f : Text) → IsPlain f → walk (leaf (file_command name)).rules [] nothing_held (f ∷ []) ≡ plain_step (leaf (file_command name)).rules (walk_from nothing_held) f
 file-walk name f p = walked-plain (leaf (file_command name)).rules nothing_held idle 1 f p
 
-pub file-rows : (name f : Text) → IsPlain f → rows_after (leaf (file_command name)).rules [] (f ∷ []) ≡ word_row (codes "file") f ∷ []
+pub file-rows : (name f : Text) → IsPlain f → rows_after (leaf (file_command name)).rules [] (f ∷ []) ≡ word_row (codes "file") f ∷ unset_row (codes "verbose") ∷ []
 file-rows name f p = ap (λ (w : Walk). finished (leaf (file_command name)).rules w.held) (file-walk name f p)
 
 file-words : (name f : Text) → IsPlain f → walk_passes (leaf (file_command name)) [] (walk_from nothing_held) (f ∷ []) ≡ true
@@ -52,7 +56,7 @@ number-walk name f d p q =
     let c : List Rule = (leaf (number_command name)).rules in
     ap (λ (w : Walk). walked c [] w d) (walked-plain c nothing_held idle 1 f p) ∙ walked-plain c (plain_step c (walk_from nothing_held) f).held idle 2 d q
 
-pub number-rows : (name f d : Text) → IsPlain f → IsPlain d → rows_after (leaf (number_command name)).rules [] (f ∷ d ∷ []) ≡ word_row (codes "file") f ∷ word_row (codes "number") d ∷ []
+pub number-rows : (name f d : Text) → IsPlain f → IsPlain d → rows_after (leaf (number_command name)).rules [] (f ∷ d ∷ []) ≡ word_row (codes "file") f ∷ word_row (codes "number") d ∷ unset_row (codes "verbose") ∷ []
 number-rows name f d p q = ap (λ (w : Walk). finished (leaf (number_command name)).rules w.held) (number-walk name f d p q)
 
 number-words : (name f d : Text) → IsPlain f → IsPlain d → walk_passes (leaf (number_command name)) [] (walk_from nothing_held) (f ∷ d ∷ []) ≡ true

@@ -84,8 +84,8 @@ pub enum Invocation<'a> {
     Dump(&'a str),
     /// To write the same, and behind it the capacities of what has one.
     DumpCapacities(&'a str),
-    /// To make a segment of such a text in a file that is not there, of this size, or of the least that holds the
-    /// objects.
+    /// To make a segment of such a text in a file that is not there: of this size, or as long as the text says and cut
+    /// behind its last block.
     Load(&'a str, Option<u64>),
     /// To tell which lines of a script are no commands.
     Lint,

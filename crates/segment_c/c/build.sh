@@ -1,8 +1,9 @@
 #!/usr/bin/env bash
 # build.sh [--archive FILE] [FOLDER]: makes the library for C, C++ and Python in a folder, `out` beside this script
 # where none is given: the archive libzaluxhoni.a, the shared object libzaluxhoni.so, the headers, the package for
-# Python, and the examples, ready to run. `rt lib` proves the crate and all below it first, unless it is given the
-# archive that `rt lib` made. It needs a C and a C++ compiler for Linux; CC, CXX and AR say which.
+# Python, and the examples, ready to run. It takes the archive that it is given, or the one that the gate or `rt lib` left,
+# where no source of what is in it is younger; otherwise `rt lib` proves what is missing first. It needs a C and a C++
+# compiler for Linux; CC, CXX and AR say which.
 set -euo pipefail
 here=$(cd "$(dirname "$0")" && pwd)
 crate=$(dirname "$here")
@@ -15,8 +16,10 @@ while [ $# -gt 0 ]; do
     esac
 done
 if [ -z "$archive" ]; then
-    (cd "$crate" && rt lib)
     archive=$crate/out/libsegment_c.a
+    if "$crate/../../.ci/is-stale" segment_c "$archive"; then
+        (cd "$crate" && rt lib)
+    fi
 fi
 cc=${CC:-gcc} cxx=${CXX:-g++} ar=${AR:-ar}
 
@@ -29,15 +32,16 @@ cp "$here"/zaluxhoni/*.py "$here/zaluxhoni/py.typed" zaluxhoni
 "$cc" -std=c11 -O2 -fPIC -Wall -Wextra -fvisibility=hidden -c -o heap.o "$here/heap.c"
 "$cc" -std=c11 -O2 -fPIC -Wall -Wextra -c -o files.o "$here/files.c"
 "$cc" -std=c11 -O2 -fPIC -Wall -Wextra -c -o rows.o "$here/rows.c"
+"$cc" -std=c11 -O2 -fPIC -Wall -Wextra ${ZX_STATE:+"-DZX_STATE=\"$ZX_STATE\""} -c -o state.o "$here/state.c"
 cp "$archive" libzaluxhoni.a
 chmod u+w libzaluxhoni.a
-"$ar" rs libzaluxhoni.a heap.o files.o rows.o
+"$ar" rs libzaluxhoni.a heap.o files.o rows.o state.o
 
 # the shared object shows the calls of the header and nothing else
 printf '{ global: zx_*; local: *; };\n' > shown.map
 "$cc" -shared -pthread -o libzaluxhoni.so -Wl,-soname,libzaluxhoni.so -Wl,--version-script=shown.map \
     -Wl,--whole-archive libzaluxhoni.a -Wl,--no-whole-archive
-rm heap.o files.o rows.o shown.map
+rm heap.o files.o rows.o state.o shown.map
 
 for file in "$here"/examples/*; do
     name=$(basename "$file")

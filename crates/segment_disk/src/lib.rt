@@ -6,12 +6,14 @@ mod beside;
 mod disk;
 mod durable;
 mod host;
+mod limits;
 mod locks;
 mod numbering;
 mod outlet;
 mod presence;
 mod sparse;
 mod stopping;
+mod troubles;
 
 pub use disk::{Disk, Opened, Output};
 pub use host::{HostDisk, HostHold};

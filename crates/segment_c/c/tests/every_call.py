@@ -550,6 +550,8 @@ def calls_of_c():
     same(zx.zx_rollback(handle, before), 0)
     same(zx.zx_file_rollback(library.File(), before), zaluxhoni.Closed.code)
     same(zx.zx_version(), 900)
+    same(zaluxhoni.__version__, "0.9.0")
+    same(zaluxhoni.state(), zx.zx_state().decode())
     same(zx.zx_message(zaluxhoni.NoSpace.code), b"no space")
     text = library.Text()
     zx.zx_words(zaluxhoni.NoSpace.code, text)

@@ -34,13 +34,13 @@ from ._segment import FILE_MODES, MODES, Group, Info, Segment, Tile, Transaction
 from ._values import Key, ObjectKey, handle, natural, unique
 
 __all__ = [
-    "open", "create", "load", "check", "state", "unique", "handle", "ObjectKey", "Segment", "Group", "Transaction", "Object",
-    "Array", "Vector", "Strings", "String", "Map", "Records", "Info", "Tile", "Error", "ReadOnly", "Exists", "NotFound",
-    "WrongKind", "OutOfRange", "NoSpace", "Absent", "NoElement", "Closed", "BadKey", "BadName", "BadKind", "BadValue",
-    "BadCount", "BadSize", "BadMode", "ShortBuffer", "NullSlice", "NoMemory", "ShortRegion", "BadGrowth", "TooLarge",
-    "Lent", "WrongThread", "BadImage", "Truncated", "BadMagic", "UnsupportedVersion", "BadImageSize", "BadReserved",
-    "BadTag", "BadFreeTree", "BadIndex", "BadObject", "SharedBlock", "BadContainer", "OrphanBlock", "NoFile",
-    "FileError", "FileInUse", "FileExists", "FileMissing", "DanglingLink", "IsFolder", "IsDevice", "IsPipe",
+    "open", "create", "load", "check", "state", "unique", "handle", "ObjectKey", "Segment", "Group", "Transaction",
+    "Object", "Array", "Vector", "Strings", "String", "Map", "Records", "Info", "Tile", "Error", "ReadOnly", "Exists",
+    "NotFound", "WrongKind", "OutOfRange", "NoSpace", "Absent", "NoElement", "Closed", "BadKey", "BadName", "BadKind",
+    "BadValue", "BadCount", "BadSize", "BadMode", "ShortBuffer", "NullSlice", "NoMemory", "ShortRegion", "BadGrowth",
+    "TooLarge", "Lent", "WrongThread", "BadImage", "Truncated", "BadMagic", "UnsupportedVersion", "BadImageSize",
+    "BadReserved", "BadTag", "BadFreeTree", "BadIndex", "BadObject", "SharedBlock", "BadContainer", "OrphanBlock",
+    "NoFile", "FileError", "FileInUse", "FileExists", "FileMissing", "DanglingLink", "IsFolder", "IsDevice", "IsPipe",
     "FileTooLarge", "FileFault", "FileReplaced", "FileUnsynced", "FileForked",
 ]
 

@@ -1662,6 +1662,8 @@ template <class Of, class T> class const_values : public const_row<Of, values<T>
     [[nodiscard]] zaluxhoni::view<const T> view() const {
         return {this->state(), elements_by<T>(zx_view, this->spot())};
     }
+    /// The same, for reading, of what can be changed too.
+    [[nodiscard]] zaluxhoni::view<const T> cview() const { return view(); }
 };
 
 template <class T> void write_row(const spot &of, std::uint64_t first, const slice<T> &values) {

@@ -1076,6 +1076,7 @@ static void words(void) {
         IS(memcmp(zx_message(code), text.at, text.len), 0);
     }
     IS(zx_version(), ZX_VERSION);
+    IS(strncmp(zx_state(), "state ", 6), 0);
 }
 
 /* The calls for files, which tests/files.c and others try for themselves. */

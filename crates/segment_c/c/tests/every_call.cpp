@@ -679,6 +679,7 @@ void calls_of_c() {
     zx_file none = ZX_CLOSED_FILE;
     IS(zx_file_rollback(&none, &before), u64{ZX_CLOSED});
     IS(zx_version(), u64{ZX_VERSION});
+    IS(std::string_view{zx_state()}.substr(0, 6) == "state ", true);
     IS(std::string(zx_message(ZX_NO_SPACE)) == "no space", true);
     IS(zx_view(&s, &name, &there), u64{ZX_DONE});
     IS(*static_cast<const i64 *>(there.at), 5);

@@ -550,6 +550,8 @@ def calls_of_c():
     same(zx.zx_rollback(handle, before), 0)
     same(zx.zx_file_rollback(library.File(), before), zaluxhoni.Closed.code)
     same(zx.zx_version(), 900)
+    same(zaluxhoni.__version__, "0.9.0")
+    same(zaluxhoni.state(), zx.zx_state().decode())
     same(zx.zx_message(zaluxhoni.NoSpace.code), b"no space")
     text = library.Text()
     zx.zx_words(zaluxhoni.NoSpace.code, text)
@@ -1070,6 +1072,14 @@ def views():
     with zaluxhoni.open(path, "r") as s:
         same(s["v"].copy(), [7, 8])
         view = s["v"].view()
+    with zaluxhoni.create(4096, check_same_thread=False) as s:
+        s["v"] = [1, 2]
+        view = s["v"].view()
+        same(on_a_thread(lambda: name_of_error(lambda: s["v"].append(3))), "Lent")
+        same(on_a_thread(lambda: view.tolist()), [1, 2])
+        view = None
+        same(on_a_thread(lambda: s["v"].append(3)), None)
+        same(s["v"].copy(), [1, 2, 3])
     s = zaluxhoni.open(path, "w", mapped=True)
     view = s["v"].view()
     view[0] = 9

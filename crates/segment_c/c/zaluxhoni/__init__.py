@@ -34,18 +34,21 @@ from ._segment import FILE_MODES, MODES, Group, Info, Segment, Tile, Transaction
 from ._values import Key, ObjectKey, handle, natural, unique
 
 __all__ = [
-    "open", "create", "load", "check", "unique", "handle", "ObjectKey", "Segment", "Group", "Transaction", "Object",
-    "Array", "Vector", "Strings", "String", "Map", "Records", "Info", "Tile", "Error", "ReadOnly", "Exists", "NotFound",
-    "WrongKind", "OutOfRange", "NoSpace", "Absent", "NoElement", "Closed", "BadKey", "BadName", "BadKind", "BadValue",
-    "BadCount", "BadSize", "BadMode", "ShortBuffer", "NullSlice", "NoMemory", "ShortRegion", "BadGrowth", "TooLarge",
-    "Lent", "WrongThread", "BadImage", "Truncated", "BadMagic", "UnsupportedVersion", "BadImageSize", "BadReserved",
-    "BadTag", "BadFreeTree", "BadIndex", "BadObject", "SharedBlock", "BadContainer", "OrphanBlock", "NoFile",
-    "FileError", "FileInUse", "FileExists", "FileMissing", "DanglingLink", "IsFolder", "IsDevice", "IsPipe",
+    "open", "create", "load", "check", "state", "unique", "handle", "ObjectKey", "Segment", "Group", "Transaction",
+    "Object", "Array", "Vector", "Strings", "String", "Map", "Records", "Info", "Tile", "Error", "ReadOnly", "Exists",
+    "NotFound", "WrongKind", "OutOfRange", "NoSpace", "Absent", "NoElement", "Closed", "BadKey", "BadName", "BadKind",
+    "BadValue", "BadCount", "BadSize", "BadMode", "ShortBuffer", "NullSlice", "NoMemory", "ShortRegion", "BadGrowth",
+    "TooLarge", "Lent", "WrongThread", "BadImage", "Truncated", "BadMagic", "UnsupportedVersion", "BadImageSize",
+    "BadReserved", "BadTag", "BadFreeTree", "BadIndex", "BadObject", "SharedBlock", "BadContainer", "OrphanBlock",
+    "NoFile", "FileError", "FileInUse", "FileExists", "FileMissing", "DanglingLink", "IsFolder", "IsDevice", "IsPipe",
     "FileTooLarge", "FileFault", "FileReplaced", "FileUnsynced", "FileForked",
 ]
 
 
 _MAPPED = 256
+
+_number = zx.zx_version()
+__version__ = f"{_number // 10000}.{_number // 100 % 100}.{_number % 100}"
 
 
 def _image_bytes(image: Any) -> bytes:
@@ -107,6 +110,11 @@ def open(path: Any, mode: str = "c", *, size: int = 65536, grow: bool = False, e
     opened._file_call(zx.zx_file_open, path, path_bytes(path), how, natural(size))
     opened._path, opened._is_mapped = path, mapped
     return opened
+
+
+def state() -> str:
+    """The state of the crates that was proved, and the logic of the prover; dashes, outside a package."""
+    return str(zx.zx_state().decode())
 
 
 def check(image: Any) -> None:

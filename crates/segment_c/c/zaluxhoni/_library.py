@@ -129,6 +129,7 @@ def _load() -> Any:
         call.argtypes, call.restype = [u32, ctypes.POINTER(Text)], None
     library.zx_message.argtypes, library.zx_message.restype = [u32], ctypes.c_char_p
     library.zx_version.argtypes, library.zx_version.restype = [], u32
+    library.zx_state.argtypes, library.zx_state.restype = [], ctypes.c_char_p
     files: Dict[str, List[Any]] = {"open": [ctypes.c_char_p, u32, u64], "save": [], "save_as": [ctypes.c_char_p, u32],
                                    "close": [], "discard": [], "grow": [u64], "shrink": [], "flush": [],
                                    "rollback": [ctypes.POINTER(Handle)]}

@@ -874,8 +874,8 @@ def _locked(kind: Any) -> Any:
     members: Dict[str, Any] = {}
     for base in reversed(kind.__mro__[:-1]):
         for name, member in vars(base).items():
-            if name in ("__init__", "__new__", "__del__", "__exit__", "__init_subclass__", "__class_getitem__",
-                        "__subclasshook__"):
+            if name in ("__init__", "__new__", "__del__", "__exit__", "_give_back", "__init_subclass__",
+                        "__class_getitem__", "__subclasshook__"):
                 continue
             if inspect.isfunction(member) and not inspect.isgeneratorfunction(member):
                 members[name] = _locks(member)

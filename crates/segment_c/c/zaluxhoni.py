@@ -342,7 +342,7 @@ class _Memory(ctypes.Structure):
     _fields_ = [("at", ctypes.c_void_p), ("len", ctypes.c_uint64)]
 
 
-class _Elements(ctypes.Structure):
+class _RawElements(ctypes.Structure):
     _fields_ = [("at", ctypes.c_void_p), ("offset", ctypes.c_uint64), ("count", ctypes.c_uint64),
                 ("changes", ctypes.c_uint64), ("kind", ctypes.c_uint32)]
 
@@ -417,8 +417,8 @@ def _declare(library):
         "unique_at": [u64, info], "tile_at": [u64, pointer(_Tile)], "reserve_named": [u64], "reserve_unique": [u64],
         "shrink_indexes": [], "zero_free": [], "sanity": [truth], "all_deallocated": [truth],
         "write_elements": [key, u64, values], "attach": [pointer(_Memory), u64, u32], "detach": [pointer(_Memory)],
-        "view": [key, pointer(_Elements)], "view_mut": [key, pointer(_Elements)], "named_from": [text, size, number],
-        "begin": [segment], "rollback": [segment],
+        "view": [key, pointer(_RawElements)], "view_mut": [key, pointer(_RawElements)],
+        "named_from": [text, size, number], "begin": [segment], "rollback": [segment],
     }
     calls.update({f"read_{row}": [key, u64, ctypes.c_void_p, size] for row in ("bools", "u8s", "i32s", "i64s", "u64s")})
     for name, arguments in calls.items():

@@ -534,7 +534,7 @@ def calls_of_c():
     library, handle = zaluxhoni._zx, zaluxhoni._Handle()
     memory = zaluxhoni._Memory(ctypes.addressof(room), len(image))
     same(library.zx_attach(handle, memory, len(image), 0), 0)
-    key, there, index = zaluxhoni._Key(0, 0, 0, b"a/1", 3), zaluxhoni._Elements(), ctypes.c_uint64(7)
+    key, there, index = zaluxhoni._Key(0, 0, 0, b"a/1", 3), zaluxhoni._RawElements(), ctypes.c_uint64(7)
     same(library.zx_view(handle, key, there), 0)
     same(ctypes.c_int64.from_buffer(room, there.offset).value, 5)
     same(there.at, ctypes.addressof(room) + there.offset)

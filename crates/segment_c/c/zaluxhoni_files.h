@@ -63,7 +63,12 @@ typedef struct {
     struct zx_held_file *held; /* the file that is open for writing, or null */
 } zx_file;
 
-#define ZX_CLOSED_FILE { ZX_CLOSED_HANDLE, 0, 0 }
+/* None, as with ZX_CLOSED_HANDLE. */
+#ifdef __cplusplus
+#define ZX_CLOSED_FILE (zx_file{})
+#else
+#define ZX_CLOSED_FILE ((zx_file){ { 0, 0, false, false }, 0, 0 })
+#endif
 
 /* Opens a segment's file, or creates one with an empty segment of `size` bytes, which stands under the name at once.
    Only this call looks the path up: it opens what a link leads to, and that stays the file if the process changes its

@@ -1,6 +1,7 @@
-/* Every call of zaluxhoni.h and of zaluxhoni_files.h, on the worked examples of docs/LANGUAGE.md, section 11, and on what a call refuses. The
+/* Every call of zaluxhoni.h, zaluxhoni_files.h and zaluxhoni_rows.h, on the worked examples of docs/LANGUAGE.md, section 11, and on what a call refuses. The
    images that it makes are saved in the folder that is its one argument. */
 #include "zaluxhoni_files.h"
+#include "zaluxhoni_rows.h"
 
 #include <inttypes.h>
 #include <stdio.h>
@@ -1075,6 +1076,7 @@ static void words(void) {
         IS(memcmp(zx_message(code), text.at, text.len), 0);
     }
     IS(zx_version(), ZX_VERSION);
+    IS(strncmp(zx_state(), "state ", 6), 0);
 }
 
 /* The calls for files, which tests/files.c and others try for themselves. */
@@ -1121,6 +1123,112 @@ static void files(void) {
     TEXT(text.at, text.len, "is a folder");
 }
 
+/* Rows of elements and of pairs. */
+static void rows_of_numbers(void) {
+    zx_segment s = ZX_CLOSED_HANDLE;
+    zx_key v = zx_name("v"), m = zx_name("m");
+    int32_t few[3] = { 7, -8, 9 }, row[5];
+    int64_t keys[4] = { 3, 1, -2, 3 }, numbers[4] = { 30, 10, 20, 31 };
+    bool truth = true;
+    zx_values values = zx_i32s(few, 3), wrong_kind = zx_bools(&truth, 1), none = zx_i32s(0, 0);
+    zx_value after = zx_i64(1);
+    uint64_t handle, len, places;
+    size_t read;
+    DONE(zx_create(&s, 1024));
+    IS(made_vector(&s, v, zx_i32s(few, 2)), 192);
+    DONE(zx_push_row(&s, &v, 2, &values));
+    DONE(zx_push_row(&s, &v, 2, &values));
+    DONE(zx_read_i32s(&s, &v, 0, row, 5));
+    IS(row[1] == -8 && row[2] == 7 && row[4] == 9, true);
+    IS(zx_push_row(&s, &v, 5, &wrong_kind), ZX_WRONG_KIND);
+    IS(zx_push_row(&s, &v, 5, &none), ZX_NULL_SLICE);
+    values.kind = 9;
+    IS(zx_push_row(&s, &v, 5, &values), ZX_BAD_KIND);
+    DONE(zx_construct_map(&s, &m, ZX_I32, ZX_U64, &handle));
+    DONE(zx_put_pairs(&s, &m, ZX_I32, ZX_U64, keys, numbers, 4));
+    IS(zx_put_pairs(&s, &m, ZX_I32, ZX_U64, 0, numbers, 4), ZX_NULL_SLICE);
+    IS(zx_put_pairs(&s, &m, ZX_BOOL, ZX_U64, keys + 1, numbers, 1), ZX_WRONG_KIND);
+    DONE(zx_read_pairs(&s, &m, 0, keys, numbers, 4, &read));
+    IS(read, 3);
+    IS(keys[0] == -2 && keys[1] == 1 && keys[2] == 3 && numbers[0] == 20 && numbers[2] == 31, true);
+    DONE(zx_read_pairs(&s, &m, 0, keys, numbers, 2, &read));
+    IS(read, 2);
+    DONE(zx_read_pairs(&s, &m, &after, keys, numbers, 4, &read));
+    IS(read == 1 && keys[0] == 3 && numbers[0] == 31, true);
+    IS(zx_read_pairs(&s, &m, 0, keys, 0, 4, &read), ZX_NULL_SLICE);
+    IS(zx_read_pairs(&s, &v, 0, keys, numbers, 4, &read), ZX_WRONG_KIND);
+    IS(zx_clear_map(&s, &v), ZX_WRONG_KIND);
+    DONE(zx_clear_map(&s, &m));
+    DONE(zx_measure(&s, &m, &len, &places));
+    IS(len, 0);
+    zx_close(&s);
+}
+
+/* Rows of texts and of names. */
+static void rows_of_texts(void) {
+    zx_segment s = ZX_CLOSED_HANDLE;
+    zx_key t = zx_name("t");
+    zx_text texts[3] = { text_of("one"), text_of(""), text_of("three") };
+    uint8_t read_texts[100];
+    uint64_t handle, ends[4];
+    zx_info infos[4];
+    zx_value values[4];
+    size_t read;
+    DONE(zx_create(&s, 1024));
+    DONE(zx_construct_strings(&s, &t, texts, 1, &handle));
+    DONE(zx_push_texts(&s, &t, 1, texts + 1, 2));
+    DONE(zx_push_texts(&s, &t, 1, texts + 1, 2));
+    IS(zx_push_texts(&s, &t, 3, 0, 2), ZX_NULL_SLICE);
+    DONE(zx_read_texts(&s, &t, 0, read_texts, 100, ends, 3, &read));
+    IS(read == 3 && ends[0] == 3 && ends[1] == 3 && ends[2] == 8, true);
+    TEXT(read_texts, 8, "onethree");
+    DONE(zx_read_texts(&s, &t, 0, read_texts, 4, ends, 3, &read));
+    IS(read, 2);
+    IS(zx_read_texts(&s, &t, 2, read_texts, 4, ends, 1, &read), ZX_SHORT_BUFFER);
+    IS(zx_read_texts(&s, &t, 3, read_texts, 4, ends, 1, &read), ZX_OUT_OF_RANGE);
+    IS(zx_read_texts(&s, &t, 0, 0, 4, ends, 1, &read), ZX_NULL_SLICE);
+    IS(made(&s, zx_name("aa"), 1, zx_u8(200)) > 0, true);
+    DONE(zx_read_names(&s, 0, infos, values, read_texts, 100, 4, &read));
+    IS(read, 2);
+    IS(infos[0].name_len == 2 && infos[1].name_len == 1 && infos[1].kind == ZX_STRINGS, true);
+    IS(values[0].kind == ZX_U8 && values[0].natural == 200 && values[1].kind == 0, true);
+    TEXT(read_texts, 3, "aat");
+    DONE(zx_read_names(&s, 0, infos, values, read_texts, 2, 4, &read));
+    IS(read, 1);
+    IS(zx_read_names(&s, 0, infos, values, read_texts, 1, 4, &read), ZX_SHORT_BUFFER);
+    DONE(zx_read_names(&s, 2, infos, values, read_texts, 1, 4, &read));
+    IS(read, 0);
+    IS(zx_read_names(&s, 0, infos, 0, read_texts, 1, 4, &read), ZX_NULL_SLICE);
+    zx_close(&s);
+    IS(zx_read_names(&s, 0, infos, values, read_texts, 1, 4, &read), ZX_CLOSED);
+}
+
+/* The calls for one number. */
+static void one_number(void) {
+    zx_segment s = ZX_CLOSED_HANDLE;
+    uint64_t handle, here = zx_thread();
+    zx_place v = { &s, here, zx_name("v") }, m = { &s, 0, zx_name("m") }, elsewhere = { &s, here + 1, zx_name("v") };
+    IS(here > 0 && here == zx_thread(), true);
+    DONE(zx_create(&s, 1024));
+    IS(made_vector(&s, v.key, zx_i64s((const int64_t *)&s, 0)), 192);
+    DONE(zx_construct_map(&s, &m.key, ZX_U8, ZX_I32, &handle));
+    DONE(zx_push_number(&v, -5));
+    DONE(zx_set_at(&v, 0, -6));
+    IS(zx_element_at(&v, 0), -6);
+    IS(zx_element_at(&v, 1), ZX_NO_NUMBER);
+    IS(zx_set_at(&v, 1, 1), ZX_OUT_OF_RANGE);
+    DONE(zx_put_at(&m, 255, -7));
+    IS(zx_put_at(&m, 256, -7), ZX_OUT_OF_RANGE);
+    IS(zx_map_at(&m, 255), -7);
+    IS(zx_map_at(&m, 254), ZX_NO_NUMBER);
+    IS(zx_element_at(&elsewhere, 0), ZX_NO_NUMBER);
+    IS(zx_push_number(&elsewhere, 0), ZX_CLOSED);
+    IS(zx_set_at(&elsewhere, 0, 0), ZX_CLOSED);
+    zx_close(&s);
+    IS(zx_put_at(&m, 1, 1), ZX_CLOSED);
+    IS(zx_map_at(&m, 1), ZX_NO_NUMBER);
+}
+
 int main(int count, char **arguments) {
     if (count != 2) return 2;
     folder = arguments[1];
@@ -1150,6 +1258,9 @@ int main(int count, char **arguments) {
     what_is_passed_wrongly();
     words();
     files();
+    rows_of_numbers();
+    rows_of_texts();
+    one_number();
     printf("every_call.c: %d checks, %d wrong\n", checks, wrong);
     return wrong != 0;
 }

@@ -208,8 +208,8 @@ template <class T> constexpr std::uint32_t scalar_kind() {
 }
 
 /// Whether values of T mean something only where what they lead to is.
-template <class T>
-inline constexpr bool leads_elsewhere = std::is_pointer_v<T> || std::is_member_pointer_v<T> || std::is_null_pointer_v<T>;
+template <class T> inline constexpr bool leads_elsewhere =
+    std::is_pointer_v<T> || std::is_member_pointer_v<T> || std::is_null_pointer_v<T>;
 template <class C, class R> inline constexpr bool leads_elsewhere<std::basic_string_view<C, R>> = true;
 template <class T> inline constexpr bool leads_elsewhere<std::initializer_list<T>> = true;
 template <class T> inline constexpr bool leads_elsewhere<std::reference_wrapper<T>> = true;
@@ -265,8 +265,10 @@ template <class T> struct stored {
         const std::uint64_t from = detail::product(first, width);
         if constexpr (kind == ZX_BOOL) return zx_read_bools(of, at, from, row, count);
         else if constexpr (kind == ZX_I32) return zx_read_i32s(of, at, from, row, count);
-        else if constexpr (kind == ZX_I64) return zx_read_i64s(of, at, from, reinterpret_cast<std::int64_t *>(row), count);
-        else if constexpr (kind == ZX_U64) return zx_read_u64s(of, at, from, reinterpret_cast<std::uint64_t *>(row), count);
+        else if constexpr (kind == ZX_I64)
+            return zx_read_i64s(of, at, from, reinterpret_cast<std::int64_t *>(row), count);
+        else if constexpr (kind == ZX_U64)
+            return zx_read_u64s(of, at, from, reinterpret_cast<std::uint64_t *>(row), count);
         else return zx_read_u8s(of, at, from, reinterpret_cast<std::uint8_t *>(row), count * sizeof(T));
     }
 };
@@ -286,7 +288,8 @@ template <class T> struct object_kind<std::vector<T>> {
     static constexpr std::uint32_t code = ZX_VECTOR(stored<T>::kind);
 };
 template <class K, class V> struct object_kind<std::map<K, V>> {
-    static_assert(is_scalar<K> && is_scalar<V>, "keys and values of maps are bool, or integers of u8, i32, i64 and u64");
+    static_assert(is_scalar<K> && is_scalar<V>,
+                  "keys and values of maps are bool, or integers of u8, i32, i64 and u64");
     static constexpr std::uint32_t code = ZX_MAP(detail::scalar_kind<K>(), detail::scalar_kind<V>());
 };
 
@@ -375,9 +378,9 @@ inline constexpr bool
         std::is_same_v<std::decay_t<decltype(*std::begin(std::declval<R &>()))>, T>;
 
 template <class T, class R, class = void> inline constexpr bool is_list = false;
-template <class T, class R>
-inline constexpr bool is_list<T, R, std::void_t<decltype(std::begin(std::declval<R &>()) != std::end(std::declval<R &>()))>> =
-    std::is_convertible_v<decltype(*std::begin(std::declval<R &>())), T>;
+template <class T, class R> inline constexpr bool
+    is_list<T, R, std::void_t<decltype(std::begin(std::declval<R &>()) != std::end(std::declval<R &>()))>> =
+        std::is_convertible_v<decltype(*std::begin(std::declval<R &>())), T>;
 
 } // namespace detail
 
@@ -435,7 +438,8 @@ namespace detail {
 /// A text of a list, and no null pointer.
 class text {
   public:
-    template <class T, std::enable_if_t<std::is_convertible_v<const T &, std::string_view> && !std::is_null_pointer_v<T>, int> = 0>
+    template <class T, std::enable_if_t<
+                           std::is_convertible_v<const T &, std::string_view> && !std::is_null_pointer_v<T>, int> = 0>
     text(const T &of) : of_(there(of)) {}
     operator std::string_view() const noexcept { return of_; }
 
@@ -551,7 +555,8 @@ struct info {
     std::string name;
 
     friend bool operator==(const info &a, const info &b) {
-        return a.found_by == b.found_by && a.kind == b.kind && a.count == b.count && a.handle == b.handle && a.name == b.name;
+        return a.found_by == b.found_by && a.kind == b.kind && a.count == b.count && a.handle == b.handle &&
+               a.name == b.name;
     }
     friend bool operator!=(const info &a, const info &b) { return !(a == b); }
 };
@@ -689,7 +694,8 @@ template <class Tell> zx_code info_by(Tell tell, info &told) {
 /// What the object with so many names before its own says of itself; whether there is one.
 inline bool named_at(zx_segment *of, std::uint64_t index, info &told) {
     const zx_code code = info_by(
-        [&](zx_info *said, std::uint8_t *name, std::size_t room) { return zx_named_at(of, index, said, name, room); }, told);
+        [&](zx_info *said, std::uint8_t *name, std::size_t room) { return zx_named_at(of, index, said, name, room); },
+        told);
     if (code != ZX_OUT_OF_RANGE) check_code(code);
     return code == ZX_DONE;
 }
@@ -835,8 +841,8 @@ template <class T> class arrow {
     T value_;
 };
 
-/// One element, which is read where a value is wanted and set where one is assigned. It is good for as long as the segment
-/// is.
+/// One element, which is read where a value is wanted and set where one is assigned. It is good for as long as the
+/// segment is.
 template <class Access> class element {
   public:
     using value_type = typename Access::value_type;
@@ -1142,12 +1148,12 @@ class segment {
     /// Moves the segment into a region of `capacity` bytes.
     void relocate(std::uint64_t capacity) { check_code(zx_relocate(raw(), capacity)); }
 
-    /// Whether a call that finds no space makes the segment longer by half and goes on. Where the segment cannot be long
-    /// enough, the call throws `too_large` or `no_memory`, and the segment is as long as before.
+    /// Whether a call that finds no space makes the segment longer by half and goes on. Where the segment cannot be
+    /// long enough, the call throws `too_large` or `no_memory`, and the segment is as long as before.
     void set_growing(bool grows) { state().grows = grows; }
     [[nodiscard]] bool is_growing() const { return state().grows; }
-    /// Calls `call`, and where it throws `no_space` makes the segment longer by half and calls it again. Where the segment
-    /// cannot become longer it throws `too_large` or `no_memory`, and stays as long as it has become by then.
+    /// Calls `call`, and where it throws `no_space` makes the segment longer by half and calls it again. Where the
+    /// segment cannot become longer it throws `too_large` or `no_memory`, and stays as long as it has become by then.
     template <class Call> auto growing(Call call) -> decltype(call()) {
         for (;;) {
             try {
@@ -1158,9 +1164,9 @@ class segment {
         }
     }
 
-    /// Calls `call`, as one step: where it throws, the segment is again what it was before, and the error goes on. Steps
-    /// may lie in one another. It copies the segment. Of a file it saves nothing. Where there is no memory, or no room in
-    /// a mapped file, to make it what it was, it is closed.
+    /// Calls `call`, as one step: where it throws, the segment is again what it was before, and the error goes on.
+    /// Steps may lie in one another. It copies the segment. Of a file it saves nothing. Where there is no memory, or no
+    /// room in a mapped file, to make it what it was, it is closed.
     template <class Call> auto transaction(Call call) -> decltype(call()) {
         detail::snapshot before(state());
         if constexpr (std::is_void_v<decltype(call())>) {
@@ -1316,8 +1322,8 @@ class segment {
         check_code(zx_write_elements(raw(), &raw_key, detail::product(first, stored<T>::width), &passed));
     }
 
-    // -- one object, as what it is. A container that is not there is made, empty; of a segment that is const it is there, or
-    // that throws `not_found`
+    // -- one object, as what it is. A container that is not there is made, empty; of a segment that is const it is
+    // there, or that throws `not_found`
 
     template <class T> [[nodiscard]] zaluxhoni::array<T> array(const key &at);
     template <class T> [[nodiscard]] const_array<T> array(const key &at) const;
@@ -1530,9 +1536,9 @@ class outdated : public std::logic_error {
     outdated() : std::logic_error("the segment has changed since the view was made") {}
 };
 
-/// The values of an array, a vector or a string where they stand, without a copy: as good as a pointer and a count, until
-/// the next call that changes the segment. T is const in those that are only read; others are changed by writing there.
-/// It goes wherever a `std::span` goes.
+/// The values of an array, a vector or a string where they stand, without a copy: as good as a pointer and a count,
+/// until the next call that changes the segment. T is const in those that are only read; others are changed by writing
+/// there. It goes wherever a `std::span` goes.
 template <class T> class view {
   public:
     using element_type = T;
@@ -1541,10 +1547,11 @@ template <class T> class view {
 
     view(std::shared_ptr<detail::state> of, const zx_elements &there) : of_(std::move(of)), there_(there) {}
 
-    /// Whether the elements still stand there: no call has changed the segment since, and none has saved what was written.
+    /// Whether the elements still stand there: no call has changed the segment since, and none has saved what was
+    /// written.
     [[nodiscard]] bool is_current() const noexcept { return at() != nullptr; }
-    /// The first. With this, `begin`, `end` and [] it throws `outdated` where they may stand elsewhere now; what they gave
-    /// before is a pointer, which nobody looks at.
+    /// The first. With this, `begin`, `end` and [] it throws `outdated` where they may stand elsewhere now; what they
+    /// gave before is a pointer, which nobody looks at.
     [[nodiscard]] T *data() const {
         T *const first = at();
         if (first == nullptr) throw outdated();
@@ -1626,7 +1633,8 @@ template <class T> std::vector<T> row_of(const spot &of, std::uint64_t count) {
     }
 }
 /// Where the elements of an object stand: those of no other kind, or `wrong_kind`.
-template <class T> zx_elements elements_by(zx_code (*call)(zx_segment *, const zx_key *, zx_elements *), const spot &of) {
+template <class T>
+zx_elements elements_by(zx_code (*call)(zx_segment *, const zx_key *, zx_elements *), const spot &of) {
     static_assert(alignof(T) <= 8, "elements stand at multiples of 8 bytes");
     zx_elements there{};
     of.ask(call, &there);
@@ -1641,7 +1649,9 @@ template <class Of, class T> class const_values : public const_row<Of, values<T>
     using const_row<Of, values<T>>::const_row;
 
     /// Copies `count` values, from `first` on: all of them or none, by one call.
-    void read(std::uint64_t first, T *row, std::size_t count) const { this->spot().ask(stored<T>::read, first, row, count); }
+    void read(std::uint64_t first, T *row, std::size_t count) const {
+        this->spot().ask(stored<T>::read, first, row, count);
+    }
 #if __cplusplus >= 202002L
     void read(std::uint64_t first, std::span<T> row) const { read(first, row.data(), row.size()); }
 #endif
@@ -1649,7 +1659,11 @@ template <class Of, class T> class const_values : public const_row<Of, values<T>
         return row_of<T>(this->spot(), static_cast<const Of &>(*this).size());
     }
     /// Its values where they stand.
-    [[nodiscard]] zaluxhoni::view<const T> view() const { return {this->state(), elements_by<T>(zx_view, this->spot())}; }
+    [[nodiscard]] zaluxhoni::view<const T> view() const {
+        return {this->state(), elements_by<T>(zx_view, this->spot())};
+    }
+    /// The same, for reading, of what can be changed too.
+    [[nodiscard]] zaluxhoni::view<const T> cview() const { return view(); }
 };
 
 template <class T> void write_row(const spot &of, std::uint64_t first, const slice<T> &values) {
@@ -1685,7 +1699,8 @@ template <class T> class array : public detail::row<const_array<T>, detail::valu
 
     /// Makes values elements, from `first` on: all of them or none, by one call.
     void write(std::uint64_t first, slice<T> values) const { detail::write_row(this->spot(), first, values); }
-    /// Its values where they stand, which may be changed there. In a segment that is open for reading it throws `read_only`.
+    /// Its values where they stand, which may be changed there. In a segment that is open for reading it throws
+    /// `read_only`.
     [[nodiscard]] zaluxhoni::view<T> view() const {
         return {this->state(), detail::elements_by<T>(zx_view_mut, this->spot())};
     }
@@ -1726,8 +1741,8 @@ template <class T> class vector : public detail::row<const_vector<T>, detail::va
         if constexpr (is_scalar<T>) {
             zx_value value{};
             this->spot().ask(zx_pop, &value);
-            // one of another kind goes back into its place, which is still there, and is told of then: to look at the kind
-            // first would make each call a look-up dearer
+            // one of another kind goes back into its place, which is still there, and is told of then: to look at the
+            // kind first would make each call a look-up dearer
             if (value.kind != stored<T>::kind) this->spot().ask(zx_push, &value);
             return stored<T>::from(value);
         } else {
@@ -1785,7 +1800,8 @@ template <class T> class vector : public detail::row<const_vector<T>, detail::va
     }
     /// Makes values elements, from `first` on: all of them or none, by one call.
     void write(std::uint64_t first, slice<T> values) const { detail::write_row(this->spot(), first, values); }
-    /// Its values where they stand, which may be changed there. In a segment that is open for reading it throws `read_only`.
+    /// Its values where they stand, which may be changed there. In a segment that is open for reading it throws
+    /// `read_only`.
     [[nodiscard]] zaluxhoni::view<T> view() const {
         return {this->state(), detail::elements_by<T>(zx_view_mut, this->spot())};
     }
@@ -1895,7 +1911,8 @@ class strings : public detail::row<const_strings, detail::lines> {
 
 /// A map from scalars to scalars, in the order of its keys, for reading.
 template <class K, class V> class const_map : public object {
-    static_assert(is_scalar<K> && is_scalar<V>, "keys and values of maps are bool, or integers of u8, i32, i64 and u64");
+    static_assert(is_scalar<K> && is_scalar<V>,
+                  "keys and values of maps are bool, or integers of u8, i32, i64 and u64");
 
   public:
     using key_type = K;
@@ -2010,7 +2027,8 @@ template <class K, class V> class map : public const_map<K, V> {
         for (const auto &[at, value] : range) put(at, value);
     }
     void put_range(std::initializer_list<std::pair<K, V>> list) const { put_range<>(list); }
-    /// An element that is read, or put. Reading makes no pair; `+=`, `++` and their like begin with 0 where there is none.
+    /// An element that is read, or put. Reading makes no pair; `+=`, `++` and their like begin with 0 where there is
+    /// none.
     [[nodiscard]] detail::element<detail::pairs<K, V>> operator[](number<K> at) const { return {this->spot(), at}; }
     /// Takes a key out, and says whether it was there.
     bool erase(number<K> at) const {
@@ -2050,10 +2068,11 @@ template <class A, class B, std::enable_if_t<detail::is_read<A> || detail::is_re
 auto operator==(const A &a, const B &b) -> decltype(std::begin(a) == std::end(a) && std::begin(b) == std::end(b)) {
     const auto &left = detail::all_of(a);
     const auto &right = detail::all_of(b);
-    return std::equal(std::begin(left), std::end(left), std::begin(right), std::end(right), [](const auto &x, const auto &y) {
-        using value = std::conditional_t<detail::is_read<A>, A, B>;
-        return static_cast<typename value::value_type>(x) == static_cast<typename value::value_type>(y);
-    });
+    return std::equal(
+        std::begin(left), std::end(left), std::begin(right), std::end(right), [](const auto &x, const auto &y) {
+            using value = std::conditional_t<detail::is_read<A>, A, B>;
+            return static_cast<typename value::value_type>(x) == static_cast<typename value::value_type>(y);
+        });
 }
 template <class A, class B, std::enable_if_t<detail::is_read<A> || detail::is_read<B>, int> = 0>
 auto operator!=(const A &a, const B &b) -> decltype(std::begin(a) == std::end(a) && std::begin(b) == std::end(b)) {

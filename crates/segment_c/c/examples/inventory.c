@@ -1,4 +1,4 @@
-/* An inventory: articles as records, prices in a map, names as texts, suppliers as a group. Each run sells one apple. */
+/* An inventory: articles as records, prices in a map, names as texts, suppliers as a group. Each run sells an apple. */
 #include "zaluxhoni_files.h"
 
 #include <inttypes.h>

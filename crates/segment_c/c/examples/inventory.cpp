@@ -34,8 +34,8 @@ int main(int words, char **word) {
     shop.save_file();
 
     for (const article &each : articles)
-        std::cout << each.number << ' ' << shop.string("names/" + std::to_string(each.number)) << ": " << each.count << " of "
-                  << each.weight << " kg at " << prices[each.number] << '\n';
+        std::cout << each.number << ' ' << shop.string("names/" + std::to_string(each.number)) << ": " << each.count
+                  << " of " << each.weight << " kg at " << prices[each.number] << '\n';
     for (const auto &supplier : shop.group("suppliers/").named()) {
         std::cout << supplier.name << " sells";
         for (std::int32_t number : shop.vector<std::int32_t>("suppliers/" + supplier.name)) std::cout << ' ' << number;

@@ -84,7 +84,8 @@ static_assert(!zaluxhoni::is_storable<int item::*> && !zaluxhoni::is_storable<st
 
 template <class T, class U> constexpr bool takes = std::is_convertible_v<U, zaluxhoni::number<T>>;
 static_assert(takes<i32, long> && takes<u64, int> && takes<double, float> && takes<float, int> && takes<i64, colour>);
-static_assert(!takes<i64, double> && !takes<bool, int> && !takes<bool, double> && !takes<i64, bool> && !takes<double, bool>);
+static_assert(!takes<i64, double> && !takes<bool, int> && !takes<bool, double> && !takes<i64, bool> &&
+              !takes<double, bool>);
 static_assert(!takes<bool, const bool *> && !takes<bool, const char *> && !takes<i64, unit> && !takes<u8, void *>);
 static_assert(takes<bool, std::vector<bool>::reference> && takes<bool, std::true_type>);
 
@@ -337,7 +338,8 @@ static_assert(is_random<zaluxhoni::array<u8>> && is_random<zaluxhoni::const_arra
 static_assert(is_random<zaluxhoni::string> && is_random<zaluxhoni::const_strings> && is_random<zaluxhoni::strings>);
 static_assert(std::sortable<zaluxhoni::vector<i64>::iterator> && std::sortable<zaluxhoni::strings::iterator>);
 static_assert(std::sortable<zaluxhoni::array<double>::iterator>);
-static_assert(std::ranges::input_range<zaluxhoni::map<i32, i64>> && std::ranges::input_range<zaluxhoni::const_map<u8, bool>>);
+static_assert(std::ranges::input_range<zaluxhoni::map<i32, i64>> &&
+              std::ranges::input_range<zaluxhoni::const_map<u8, bool>>);
 static_assert(!std::ranges::output_range<zaluxhoni::const_vector<i64>, i64>);
 #endif
 
@@ -498,7 +500,8 @@ void views_without_a_copy() {
     IS(!last.is_current());
     throws<zaluxhoni::outdated>(__LINE__, "outdated", [&] { return last.data(); });
 #if __cplusplus >= 202002L
-    static_assert(std::ranges::contiguous_range<zaluxhoni::view<i64>> && std::ranges::sized_range<zaluxhoni::view<i64>>);
+    static_assert(std::ranges::contiguous_range<zaluxhoni::view<i64>> &&
+                  std::ranges::sized_range<zaluxhoni::view<i64>>);
     const std::span<const i64> span = kept.vector<i64>("v").view();
     IS(span.back() == 4);
     const std::span<i64> changed = v.view();

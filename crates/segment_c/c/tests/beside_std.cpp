@@ -1,5 +1,5 @@
-/* beside_std [COUNT [SEED]]: COUNT random calls (100000) of each container of zaluxhoni.hpp beside the same of one of std's: what
-   they answer, what they throw and what they have is the same. */
+/* beside_std [COUNT [SEED]]: COUNT random calls (100000) of each container of zaluxhoni.hpp beside the same of one of
+   std's: what they answer, what they throw and what they have is the same. */
 #include "zaluxhoni.hpp"
 
 #include <algorithm>
@@ -93,7 +93,8 @@ template <class T, class View> void call_vector(const View &ours, std::vector<T>
         break;
     case 3: {
         T popped{};
-        if (done(size > 0, [&] { popped = ours.pop_back(); })) same(popped == theirs.back(), "pop_back"), theirs.pop_back();
+        if (done(size > 0, [&] { popped = ours.pop_back(); }))
+            same(popped == theirs.back(), "pop_back"), theirs.pop_back();
         break;
     }
     case 4:
@@ -115,7 +116,8 @@ template <class T, class View> void call_vector(const View &ours, std::vector<T>
     }
     case 9: {
         const std::vector<T> more = some<T>(6);
-        if (done(index <= size, [&] { ours.insert_range(index, more); })) theirs.insert(begin + at, more.begin(), more.end());
+        if (done(index <= size, [&] { ours.insert_range(index, more); }))
+            theirs.insert(begin + at, more.begin(), more.end());
         break;
     }
     case 10: {
@@ -135,7 +137,8 @@ template <class T, class View> void call_vector(const View &ours, std::vector<T>
     case 13:
         if (size > 1) {
             const u64 other = below(size);
-            if (inside) swap(ours[index], ours[other]), std::iter_swap(begin + at, begin + static_cast<std::ptrdiff_t>(other));
+            if (inside)
+                swap(ours[index], ours[other]), std::iter_swap(begin + at, begin + static_cast<std::ptrdiff_t>(other));
             else std::reverse(ours.begin(), ours.end()), std::reverse(theirs.begin(), theirs.end());
         }
         break;
@@ -159,7 +162,8 @@ template <class T, class View> void call_vector(const View &ours, std::vector<T>
         ours.erase(index / 2, std::max(index / 2, size)), theirs.erase(begin + at / 2, theirs.end());
     }
     same(ours.size() == theirs.size() && ours.empty() == theirs.empty(), "size");
-    if (below(50) == 0) same(ours == theirs && std::equal(ours.begin(), ours.end(), theirs.begin(), theirs.end()), "all");
+    if (below(50) == 0)
+        same(ours == theirs && std::equal(ours.begin(), ours.end(), theirs.begin(), theirs.end()), "all");
 }
 
 template <class T> void beside_vector(const char *name, u64 count) {
@@ -238,7 +242,8 @@ void beside_string(u64 count) {
             break;
         case 3: {
             u8 got = 0;
-            if (done(index < theirs.size(), [&] { got = ours[index]; })) same(got == static_cast<u8>(theirs[index]), "get");
+            if (done(index < theirs.size(), [&] { got = ours[index]; }))
+                same(got == static_cast<u8>(theirs[index]), "get");
             break;
         }
         case 4: ours.reserve(below(1000)); break;
@@ -248,12 +253,14 @@ void beside_string(u64 count) {
         default: ours.assign(text), theirs.assign(text);
         }
         same(ours.size() == theirs.size(), "size");
-        if (below(20) == 0) same(ours == theirs && !(ours < theirs) && std::string(ours.begin(), ours.end()) == theirs, "all");
+        if (below(20) == 0)
+            same(ours == theirs && !(ours < theirs) && std::string(ours.begin(), ours.end()) == theirs, "all");
         if (below(5000) == 0) reopened(s), ours = s.string("s");
     }
 }
 
-template <class Pair> void same_pair(const std::optional<Pair> &ours, bool is_there, const Pair &theirs, const char *what) {
+template <class Pair>
+void same_pair(const std::optional<Pair> &ours, bool is_there, const Pair &theirs, const char *what) {
     same(ours.has_value() == is_there && (!is_there || *ours == theirs), what);
 }
 
@@ -281,7 +288,9 @@ template <class K, class V> void beside_map(const char *name, u64 keys, u64 coun
             same(ours.contains(key) == (at != theirs.end()), "contains");
             break;
         }
-        case 6: same_pair(ours.next(key), above != theirs.end(), above != theirs.end() ? pair(*above) : pair(), "next"); break;
+        case 6:
+            same_pair(ours.next(key), above != theirs.end(), above != theirs.end() ? pair(*above) : pair(), "next");
+            break;
         case 7: {
             const bool is_there = from != theirs.begin();
             same_pair(ours.previous(key), is_there, is_there ? pair(*std::prev(from)) : pair(), "previous");
@@ -294,8 +303,10 @@ template <class K, class V> void beside_map(const char *name, u64 keys, u64 coun
         }
         case 9: {
             const auto found = ours.lower_bound(key), beyond = ours.upper_bound(key);
-            same((found == ours.end()) == (from == theirs.end()) && (found == ours.end() || *found == pair(*from)), "lower_bound");
-            same((beyond == ours.end()) == (above == theirs.end()) && (beyond == ours.end() || *beyond == pair(*above)), "upper_bound");
+            same((found == ours.end()) == (from == theirs.end()) && (found == ours.end() || *found == pair(*from)),
+                 "lower_bound");
+            same((beyond == ours.end()) == (above == theirs.end()) && (beyond == ours.end() || *beyond == pair(*above)),
+                 "upper_bound");
             break;
         }
         case 10:

@@ -10,7 +10,8 @@ for header in headers:
     with open(header) as file:
         text += re.sub(r"/\*.*?\*/", "", file.read(), flags=re.DOTALL)
 # a call that looks for null slices is an inline function; what it calls then has the name in the library
-calls = re.findall(r"^(zx_code|void|u?int(?:32|64)_t|const char \*) ?(zx_\w+)\(([^()]*)\)(?:\s+ZX_NAMED\((\w+)\))?;", text, flags=re.MULTILINE)
+calls = re.findall(r"^(zx_code|void|u?int(?:32|64)_t|const char \*) ?(zx_\w+)\(([^()]*)\)"
+                   r"(?:\s+ZX_NAMED\((\w+)\))?;", text, flags=re.MULTILINE)
 print("""#define _GNU_SOURCE
 #include "zaluxhoni_files.h"
 #include "zaluxhoni_rows.h"

@@ -50,7 +50,7 @@ template <class Error, class Call> void throws(int line, const char *what, Call 
 }
 
 #define IS(got, wanted) is(__LINE__, #got, got, wanted)
-#define THROWS(error, call) throws<zaluxhoni::error>(__LINE__, #call, [&] { (void)(call); })
+#define THROWS(error, ...) throws<zaluxhoni::error>(__LINE__, #__VA_ARGS__, [&] { (void)(__VA_ARGS__); })
 
 std::string path_of(const std::string &name) { return folder + "/cpp-" + name + ".seg"; }
 
@@ -192,6 +192,20 @@ void mapped_files() {
         s.destroy("v");
         s.shrink();
         IS(std::filesystem::file_size(path), s.size());
+        s.set_growing(true);
+        s.vector<i64>("w").resize(5000);
+        IS(std::filesystem::file_size(path), s.size());
+        const u64 before = s.size();
+        THROWS(absent, s.transaction([&] {
+            s.vector<i64>("w").resize(20000);
+            s.vector<i64>("w").view()[0] = 7;
+            throw zaluxhoni::absent();
+        }));
+        IS(s.size(), before);
+        IS(std::filesystem::file_size(path), before);
+        IS(i64{s.vector<i64>("w")[0]}, 0);
+        s.vector<i64>("w").view()[0] = 8;
+        IS(segment::open_file(path, zaluxhoni::mode::read).vector<i64>("w").cview()[0], 8);
         s.set<i64>("a", 0, 6);
         s.flush_file();
     }
@@ -519,8 +533,8 @@ void many_at_once() {
     THROWS(read_only, s.write<i64>("a", 0, {1}));
 }
 
-/// What was asked of an object is for that one. When it is destroyed and another one gets its handle, what is read is of that
-/// one, or nothing is read.
+/// What was asked of an object is for that one. When it is destroyed and another one gets its handle, what is read is of
+/// that one, or nothing is read.
 void another_kind_under_the_handle() {
     segment s = segment::create(4096);
     const zaluxhoni::vector<i64> v = s.vector<i64>("v");

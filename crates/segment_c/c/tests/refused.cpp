@@ -1,5 +1,5 @@
-/* What zaluxhoni.hpp does not let be compiled. With CASE 0 this is compiled, without a warning; with any other CASE it is
-   not, for the one line that is then another. */
+/* What zaluxhoni.hpp does not let be compiled. With CASE 0 this is compiled, without a warning; with any other CASE it
+   is not, for the one line that is then another. */
 #include "zaluxhoni.hpp"
 
 using i32 = std::int32_t;

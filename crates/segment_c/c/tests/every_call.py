@@ -261,6 +261,16 @@ def a_map():
     raises(zaluxhoni.WrongKind, set_item, m, 7, 1.5)
     raises(zaluxhoni.OutOfRange, set_item, m, 2**63, 1)
     same(m.pop(7), 71)
+    # what is changed while it is gone over is seen: it goes on with the next key above
+    s.growing = True
+    m.update({key: 0 for key in range(20)})
+    seen = []
+    for key, value in m.items():
+        seen.append((key, value))
+        if key == 8:
+            del m[9]
+            m[10], m[30] = 1, 2
+    same(seen, [(key, key == 10) for key in range(20) if key != 9] + [(30, 2)])
     m.clear()
     same(len(m), 0)
 

@@ -1,5 +1,5 @@
 -- Where elements stand, as it goes out.
-use Rattle.std.proofs.Common.{◌≡◌, refl, sym, subst, ◌+◌, ◌*◌, ◌%◌, ◌≤◌, ◌∙◌, ap, ℕ, length}
+use Rattle.std.proofs.Common.{◌≡◌, refl, sym, subst, ◌+◌, ◌*◌, ◌%◌, ◌≤◌, ◌∙◌, ap, length}
 use Rattle.raw_region.specs.Memory.{Has, bytes_of}
 use Rattle.seg_types.specs.declared.kinds.ScalarKind.{ScalarKind}
 use Rattle.seg_types.specs.declared.kinds.ScalarKind.TheVariants.{Bool as BoolKind, U8, I32, I64, U64}

@@ -1,5 +1,5 @@
 -- Segments in memory that C lends: what the calls owe.
-use Rattle.std.specs.Prelude.{◌≡◌, ◌≤◌, ℕ, nat_le, List, length, if◌then◌else◌}
+use Rattle.std.specs.Prelude.{◌≡◌, ℕ, nat_le, List, if◌then◌else◌}
 use Rattle.raw_region.specs.Memory.{part, whole}
 use Rattle.segment_manager.specs.declared.modes.Mode.{Mode}
 use Rattle.segment_manager.specs.State.{IsSegment, State}

@@ -335,9 +335,7 @@ static zx_code make_mapped_scene(zx_file *file) {
     zx_code code = zx_file_open(file, the_file(), ZX_CREATE_ONLY | ZX_MAPPED, 66560);
     IS(has_errno(file, code), true);
     if (code == ZX_DONE) code = set(file, 6);
-    if (code == ZX_DONE) code = zx_file_flush(file);
-    IS(has_errno(file, code), true);
-    return code;
+    return code == ZX_DONE ? looked_at(file, zx_file_flush(file)) : code;
 }
 
 struct scene {

@@ -1,5 +1,5 @@
 -- Why a copy is not put back, or that it is.
-use Rattle.std.proofs.Common.{◌≡◌, ◌∙◌, ap, length, nat_le, sym, true}
+use Rattle.std.proofs.Common.{◌∙◌, ap, length, nat_le, sym}
 use Rattle.std.proofs.lemmas.Bool.{leb-true}
 use Rattle.grow_shrink.specs.Resized.{room_of}
 use Rattle.segment_c.proofs.Rooms.{no-room, put-back}

@@ -1,5 +1,5 @@
 -- `start_of` tells the address that a slice has. Assumes `Logic`.
-use Rattle.std.proofs.Common.{◌≡◌, ℕ, List, [], ◌∷◌, length, refl}
+use Rattle.std.proofs.Common.{ℕ, List, [], ◌∷◌, length, refl}
 use seplogic.Ra.Ura.{Ura}
 use mir.Syntax.{named}
 use mir.Val.{Val}
@@ -12,7 +12,7 @@ use types.Logic.{Logic}
 use contract.Monad.{Fun}
 use contract.Running.{tables, tables_of}
 use sound.WpLaws.{WpFn-mono}
-use types.Kit.{‵, raw, ◌⊛◌, ◌$◌, ◌∵◌, !, qed, by, move, keep, drop, feq_i, fsplit, fjoin, suffices, frame, done}
+use types.Kit.{‵, raw, ◌⊛◌, ◌$◌, ◌∵◌, !, qed, by, keep, feq_i, fjoin, suffices, frame, done}
 use types.Part.{whole, sub}
 use types.Run.{stop, fld, hop, addr, from, returns, enter}
 use types.ByLocal.{alloc_all, pass_all, free_all, look_at, look_in_at, sets}

@@ -3,6 +3,7 @@
 #include "zaluxhoni.hpp"
 
 #include <algorithm>
+#include <atomic>
 #include <deque>
 #include <iostream>
 #include <limits>
@@ -10,6 +11,7 @@
 #include <numeric>
 #include <set>
 #include <sstream>
+#include <thread>
 #include <unordered_set>
 
 #if __cplusplus >= 202002L
@@ -29,7 +31,7 @@ using u64 = std::uint64_t;
 
 namespace {
 
-int checks, wrong;
+std::atomic<int> checks, wrong;
 
 void is(int line, const char *what, bool truth) {
     checks++;
@@ -606,23 +608,25 @@ void segments_that_grow() {
     s.vector<item>("items").resize(1000);
     s.reserve_named(1000);
     IS(v.size() == 10000 && v[9999] == 9999 && s.sanity());
-    // where it cannot be long enough, it is as long as before
     const u64 before = s.size();
-    THROWS(too_large, v.reserve(u64{1} << 28));
-    IS(s.size() == before);
     THROWS(out_of_range, v.insert(20000, 1));
     IS(s.size() == before);
     s.set_growing(false);
     THROWS(no_space, v.reserve(u64{1} << 20));
 }
 
-} // namespace
+/// Where a segment cannot be long enough, it is as long as before. This takes 1 GiB of memory.
+void the_longest_segment() {
+    segment s = segment::create(1024);
+    s.set_growing(true);
+    THROWS(too_large, s.vector<i64>("v").reserve(u64{1} << 28));
+    IS(s.size() == 1024 && s.vector<i64>("v").empty());
+}
 
-int main() {
+void every_case() {
     void (*const cases[])() = {an_array_that_is_made_anew, numbers_that_do_not_fit, truths, texts_that_are_stored,
-                               elements, texts, algorithms, bulk, own_types,
-                               views_without_a_copy, several_calls_as_one, const_segments, groups,
-                               segments_that_grow};
+                               elements, texts, algorithms, bulk, own_types, views_without_a_copy,
+                               several_calls_as_one, const_segments, groups, segments_that_grow};
     for (void (*each)() : cases) {
         try {
             each();
@@ -631,6 +635,16 @@ int main() {
             std::cout << "as_expected.cpp: WRONG, a case ends with '" << error.what() << "'\n";
         }
     }
+}
+
+} // namespace
+
+/* Two threads at once, which have their own segments. With an argument the longest segment is tried too. */
+int main(int arguments, char **) {
+    std::thread other(every_case);
+    every_case();
+    other.join();
+    if (arguments > 1) the_longest_segment();
     std::cout << "as_expected.cpp: " << checks << " checks, " << wrong << " wrong\n";
     return wrong != 0;
 }

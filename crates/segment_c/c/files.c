@@ -429,6 +429,19 @@ static bool allot(int file, const struct stat *found, uint64_t len) {
     return fallocate(file, 0, 0, (off_t)len) == 0 || (errno == EOPNOTSUPP && ftruncate(file, (off_t)len) == 0);
 }
 
+/* Makes the file just as long as its image. */
+static bool cut(int file, uint64_t size) {
+    struct stat found;
+    return fstat(file, &found) == 0 && ((uint64_t)found.st_size == size || ftruncate(file, (off_t)size) == 0);
+}
+
+/* The size that an image says (docs/FORMAT.md). */
+static uint64_t size_said(const uint8_t *image) {
+    uint64_t size = 0;
+    for (int i = 7; i >= 0; i--) size = size << 8 | image[16 + i];
+    return size;
+}
+
 /* Maps the file, and opens its segment where it stands. */
 static zx_code map(zx_file *file, struct zx_held_file *held, uint32_t how) {
     struct stat found;
@@ -444,21 +457,20 @@ static zx_code map(zx_file *file, struct zx_held_file *held, uint32_t how) {
     held->at = at;
     held->len = len;
     zx_code code = attach(file, held, len, how);
-    if (code != ZX_DONE) {
-        munmap(at, len);
-        return code;
-    }
+    // a process that was killed while it changed the length leaves an image with more behind it
+    uint64_t said = code == ZX_BAD_IMAGE_SIZE ? size_said(at) : len;
+    bool is_longer = said < len && attach(file, held, said, how) == ZX_DONE;
+    if (is_longer) code = ZX_DONE;
+    bool is_cut = is_longer && how == ZX_WRITE;
+    if (is_cut) zx_close(&file->segment);
+    if (code != ZX_DONE || is_cut) munmap(at, len);
+    if (is_cut) return cut(held->file, said) ? map(file, held, how) : fault(file);
+    if (code != ZX_DONE) return code;
     held->mapped = &file->segment;
     // it stands under its name with all changes, also where it is never flushed
     held->is_unsynced = held->is_new;
     held->is_new = false;
     return ZX_DONE;
-}
-
-/* Makes the file just as long as its image. */
-static bool cut(int file, uint64_t size) {
-    struct stat found;
-    return fstat(file, &found) == 0 && ((uint64_t)found.st_size == size || ftruncate(file, (off_t)size) == 0);
 }
 
 /* Ends the mapping. A file that could not be cut before is tried once more. */

@@ -260,8 +260,24 @@ static void no_image(void) {
         }
     }
     seed(5);
+    /* one that is longer than its image is read, and cut by a writer; bytes that say so are not enough */
+    IS(truncate(path, 8192 + 4096), 0);
+    IS(stands(), -1000 - ZX_BAD_IMAGE_SIZE);
+    for (uint32_t mode = READ; mode <= COPY; mode++) {
+        DONE(zx_file_open(&file, path, mode, 0));
+        IS(get(&file), 5);
+        DONE(zx_file_close(&file));
+        IS(length(), 8192 + 4096);
+    }
+    DONE(zx_file_open(&file, path, WRITE, 0));
+    IS(length(), 8192);
+    IS(get(&file), 5);
+    DONE(zx_file_close(&file));
+    IS(stands(), 5);
+    IS(truncate(path, 4096), 0);
     IS(truncate(path, 8192 + 16), 0);
-    IS(zx_file_open(&file, path, WRITE, 0), -1000 - stands());
+    for (uint32_t mode = WRITE; mode <= COPY; mode++) IS(zx_file_open(&file, path, mode, 0), -1000 - stands());
+    IS(length(), 8192 + 16);
 }
 
 /* A child has no part in a mapping, and its calls find the segment closed. */
@@ -335,10 +351,10 @@ static void change_for_ever(void) {
     }
 }
 
-/* A process that is killed within a call leaves an image, or bytes that are refused as what they are: both ways of
-   opening agree, and none of them crashes. */
+/* A process that is killed within a call leaves an image, or one with more behind it, which a writer cuts, or bytes
+   that are refused as what they are: both ways of opening agree, and none of them crashes. */
 static void killed_within_a_call(int kills) {
-    int images = 0, refused = 0, status;
+    int images = 0, longer = 0, refused = 0, status;
     for (int i = 0; i < kills; i++) {
         seed(5);
         fflush(stdout);
@@ -351,14 +367,19 @@ static void killed_within_a_call(int kills) {
         zx_file file = ZX_CLOSED_FILE, mapped = ZX_CLOSED_FILE;
         zx_code code = zx_file_open(&file, path, ZX_OPEN_READ_ONLY, 0);
         IS(code == ZX_DONE || (code >= ZX_TRUNCATED && code <= ZX_ORPHAN_BLOCK), true);
-        IS(zx_file_open(&mapped, path, WRITE, 0), code);
-        if (code == ZX_DONE) IS(get(&mapped), 5);
+        zx_code opened = zx_file_open(&mapped, path, WRITE, 0);
+        if (code != ZX_BAD_IMAGE_SIZE || opened != ZX_DONE) IS(opened, code);
+        if (opened == ZX_DONE) {
+            IS(get(&mapped), 5);
+            IS(stands(), 5);
+        }
         if (code == ZX_DONE) images++;
+        else if (opened == ZX_DONE) longer++;
         else refused++;
         zx_file_discard(&file);
         zx_file_discard(&mapped);
     }
-    printf("killed: %d images, %d refused\n", images, refused);
+    printf("killed: %d images, %d longer than theirs, %d refused\n", images, longer, refused);
     IS(images > 0, true);
 }
 

@@ -3,6 +3,7 @@ set -l commands create run check grow shrink migrate stat draw dump load lint la
 set -l modes create_only open_only open_or_create open_read_only open_copy_on_write
 complete -c segment -n "not __fish_seen_subcommand_from $commands" -f -a "$commands"
 complete -c segment -n "not __fish_seen_subcommand_from $commands" -l version -d 'which program this is'
+complete -c segment -n '__fish_seen_subcommand_from help' -f -a "$commands"
 complete -c segment -l help -d 'what the command takes'
 complete -c segment -l verbose -d 'tell which file failed, and why'
 complete -c segment -n '__fish_seen_subcommand_from run' -l mode -x -a "$modes" -d 'how the file is opened'

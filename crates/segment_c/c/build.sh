@@ -1,9 +1,9 @@
 #!/usr/bin/env bash
 # build.sh [--archive FILE] [FOLDER]: makes the library for C, C++ and Python in a folder, `out` beside this script
 # where none is given: the archive libzaluxhoni.a, the shared object libzaluxhoni.so, the headers, the package for
-# Python, and the examples, ready to run. It takes the archive that it is given, or the one that the gate or `rt lib` left,
-# where no source of what is in it is younger; otherwise `rt lib` proves what is missing first. It needs a C and a C++
-# compiler for Linux; CC, CXX and AR say which.
+# Python, and the examples, ready to run. It takes the archive that it is given, or the one that the gate or `rt lib`
+# left, where no source of what is in it is younger; otherwise `rt lib` proves what is missing first. It needs a C and a
+# C++ compiler for Linux; CC, CXX and AR say which.
 set -euo pipefail
 here=$(cd "$(dirname "$0")" && pwd)
 crate=$(dirname "$here")

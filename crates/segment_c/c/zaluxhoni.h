@@ -33,8 +33,8 @@ extern "C" {
 /* The one of the library, where ZX_VERSION is that of this header. */
 uint32_t zx_version(void);
 
-/* The state of the crates that was proved, and the logic of the prover, as `state S, logic L` with 16 hexadecimal digits each;
- * dashes stand for both in a library that is not from a package. */
+/* The state of the crates that was proved, and the logic of the prover, as `state S, logic L` with 16 hexadecimal
+   digits each; dashes stand for both in a library that is not from a package. */
 const char *zx_state(void);
 
 /* ---- codes */

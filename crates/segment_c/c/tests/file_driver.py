@@ -1,4 +1,4 @@
-"""file_driver.py FILE..: what file_driver.c does, by zaluxhoni.py."""
+"""file_driver.py FILE..: what file_driver.c does, by the package for Python."""
 import os
 import signal
 import sys

@@ -53,3 +53,5 @@ mod NoteLines
 mod PlaceNotes
 mod NoteLaws
 mod SaidSizes
+mod HereObjects
+mod FrontPlaces

@@ -14,6 +14,7 @@ mod Judged
 mod PartLines
 mod Owed
 mod Members
+mod Laid
 mod Elements
 mod WalkedPairs
 mod Sections
@@ -55,3 +56,5 @@ mod NoteLaws
 mod SaidSizes
 mod HereObjects
 mod FrontPlaces
+mod JsonLines
+mod Base64

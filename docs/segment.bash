@@ -2,7 +2,7 @@
 # of bash's completions.
 _segment() {
     local word=${COMP_WORDS[COMP_CWORD]} before=${COMP_WORDS[COMP_CWORD - 1]}
-    local commands='create run check grow shrink migrate stat draw dump load lint help'
+    local commands='create run check grow shrink migrate stat draw dump load lint language help'
     COMPREPLY=()
     if [ "$COMP_CWORD" = 1 ]; then
         COMPREPLY=($(compgen -W "$commands --help --version" -- "$word"))
@@ -18,32 +18,39 @@ _segment() {
                 --size) return ;;
             esac
             if [[ $word == -* ]]; then
-                COMPREPLY=($(compgen -W '--mode --size --replace --strict --numbered --help' -- "$word"))
+                COMPREPLY=($(compgen -W '--mode --size --replace --strict --numbered --verbose --help' -- "$word"))
                 return
             fi ;;
         check)
             if [[ $word == -* ]]; then
-                COMPREPLY=($(compgen -W '--explain --help' -- "$word"))
+                COMPREPLY=($(compgen -W '--explain --verbose --help' -- "$word"))
+                return
+            fi ;;
+        draw)
+            if [[ $word == -* ]]; then
+                COMPREPLY=($(compgen -W '--html --verbose --help' -- "$word"))
                 return
             fi ;;
         dump)
             if [[ $word == -* ]]; then
-                COMPREPLY=($(compgen -W '--capacities --help' -- "$word"))
+                COMPREPLY=($(compgen -W '--capacities --verbose --help' -- "$word"))
                 return
             fi ;;
         load)
             [ "$before" = --size ] && return
             if [[ $word == -* ]]; then
-                COMPREPLY=($(compgen -W '--size --help' -- "$word"))
+                COMPREPLY=($(compgen -W '--size --verbose --help' -- "$word"))
                 return
             fi ;;
         help)
-            COMPREPLY=($(compgen -W 'language' -- "$word"))
+            COMPREPLY=($(compgen -W "$commands" -- "$word"))
             return ;;
-        lint) return ;;
+        lint | language)
+            COMPREPLY=($(compgen -W '--verbose --help' -- "$word"))
+            return ;;
         *)
             if [[ $word == -* ]]; then
-                COMPREPLY=($(compgen -W '--help' -- "$word"))
+                COMPREPLY=($(compgen -W '--verbose --help' -- "$word"))
                 return
             fi
             # the number behind a file

@@ -1,13 +1,15 @@
 # Completions of the words of `segment` for fish.
-set -l commands create run check grow shrink migrate stat draw dump load lint help
+set -l commands create run check grow shrink migrate stat draw dump load lint language help
 set -l modes create_only open_only open_or_create open_read_only open_copy_on_write
 complete -c segment -n "not __fish_seen_subcommand_from $commands" -f -a "$commands"
 complete -c segment -n "not __fish_seen_subcommand_from $commands" -l version -d 'which program this is'
 complete -c segment -l help -d 'what the command takes'
+complete -c segment -l verbose -d 'tell which file failed, and why'
 complete -c segment -n '__fish_seen_subcommand_from run' -l mode -x -a "$modes" -d 'how the file is opened'
 complete -c segment -n '__fish_seen_subcommand_from run load' -l size -x -d 'bytes of a new segment'
 complete -c segment -n '__fish_seen_subcommand_from run' -l replace -d 'keep the old file until the new one is whole'
 complete -c segment -n '__fish_seen_subcommand_from run' -l strict -d 'stop at the first error, and save nothing'
 complete -c segment -n '__fish_seen_subcommand_from run' -l numbered -d 'number the answers'
 complete -c segment -n '__fish_seen_subcommand_from check' -l explain -d 'tell where and why'
+complete -c segment -n '__fish_seen_subcommand_from draw' -l html -d 'show a page for a browser'
 complete -c segment -n '__fish_seen_subcommand_from dump' -l capacities -d 'tell capacities too'

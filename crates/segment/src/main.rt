@@ -7,16 +7,16 @@ ghost use Rattle.segment_disk.specs.Events.{nothing_taken};
 use raw_region::stream::{Reading, Writing};
 use segment_cli::SessionFault;
 use segment_commands::{
-    ProgramFault, check, create, draw, dump, dump_capacities, explain, grow, lint, load, migrate,
-    print, print_language, report, report_file, run, run_strict, shrink, stat,
+    ProgramFault, check, create, draw, draw_page, dump, dump_capacities, explain, grow, lint, load,
+    migrate, print, print_language, report, report_file, run, run_strict, shrink, stat,
 };
 use segment_disk::{HostDisk, Numbered, Outlet, Output, StopsAtError};
 use segment_invocation::{
-    Answering, Invocation, InvocationFault, ModeName, Saving, VERSION, invocation,
+    Answering, Invocation, InvocationFault, ModeName, Saving, VERSION, invocation, is_verbose,
 };
 use segment_scripts::command_rows;
 use std::alloc::{AllocError, Global};
-use std::io::{self, BufWriter, ErrorKind};
+use std::io::{self, BufWriter, ErrorKind, IsTerminal};
 use std::process::ExitCode;
 
 /// Memory for reading the command line, or for the answers, was refused.
@@ -44,7 +44,7 @@ fn obey(rt: &HostRuntime) -> Result<u8, ProgramFault> {
     let owned = words(rt)?;
     let words = borrowed(rt.alloc(), owned.as_slice()).map_err(|_| OUT_OF_MEMORY)?;
     match invocation(rt.alloc(), words.as_slice()) {
-        Ok(asked) => perform(rt, asked),
+        Ok(asked) => perform(rt, asked, is_verbose(words.as_slice())),
         Err(InvocationFault::Usage(wrong)) => {
             let _ = eprint!(rt; "{wrong}");
             Err(ProgramFault::Usage)
@@ -54,8 +54,9 @@ fn obey(rt: &HostRuntime) -> Result<u8, ProgramFault> {
 }
 
 /// Does what the command line asks for, with the files of the system, standard input and standard output, and answers
-/// the status. Behind the line of a fault stands why the system did not open or make the file, where it said so.
-fn perform(rt: &HostRuntime, asked: Invocation<'_>) -> Result<u8, ProgramFault> {
+/// the status. Where a person reads standard error, or more is asked for, it is told behind the line of a fault why the
+/// system did not open or make the file, as far as it said so.
+fn perform(rt: &HostRuntime, asked: Invocation<'_>, is_verbose: bool) -> Result<u8, ProgramFault> {
     let Ok(buffer) = BufWriter::with_capacity(rt.alloc(), PIECE, io::writer(rt)) else {
         return Err(OUT_OF_MEMORY);
     };
@@ -64,8 +65,8 @@ fn perform(rt: &HostRuntime, asked: Invocation<'_>) -> Result<u8, ProgramFault> 
         return Ok(0);
     };
     let status = tell(rt, fault);
-    if let (Some(path), Some(trouble)) = (file_of(asked), disk.trouble()) {
-        if is_of_file(fault) {
+    if is_of_file(fault) && (is_verbose || rt.stderr().is_terminal()) {
+        if let (Some(path), Some(trouble)) = (file_of(asked), disk.trouble()) {
             report_file(path, trouble, &mut Writing::new(rt.stderr()));
         }
     }
@@ -95,6 +96,7 @@ fn command<O: Output + Drop>(
         Invocation::Explain(file) => explain(alloc, disk, file, &mut out),
         Invocation::Stat(file) => stat(alloc, disk, file, &mut out),
         Invocation::Draw(file) => draw(alloc, disk, file, &mut out),
+        Invocation::DrawPage(file) => draw_page(alloc, disk, file, &mut out),
         Invocation::Dump(file) => dump(alloc, disk, file, &mut out),
         Invocation::DumpCapacities(file) => dump_capacities(alloc, disk, file, &mut out),
         Invocation::Load(file, size) => {
@@ -170,6 +172,7 @@ fn file_of<'a>(asked: Invocation<'a>) -> Option<&'a str> {
         | Invocation::Migrate(file)
         | Invocation::Stat(file)
         | Invocation::Draw(file)
+        | Invocation::DrawPage(file)
         | Invocation::Dump(file)
         | Invocation::DumpCapacities(file)
         | Invocation::Load(file, _) => Some(file),

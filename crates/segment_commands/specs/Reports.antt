@@ -13,8 +13,9 @@ use Rattle.segment_cli.specs.declared.faults.SessionFault.{SessionFault}
 use Rattle.segment_cli.specs.declared.faults.SessionFault.TheVariants as session
 use Rattle.segment_commands.specs.declared.program_faults.ProgramFault.{ProgramFault}
 use Rattle.segment_commands.specs.declared.program_faults.ProgramFault.TheVariants.{Usage, Exists, InUse, Stopped, Misspelled, Growth, BadDump, NoSpace, Session}
+use Rattle.segment_lang.specs.Texts.{quoted_text}
 use Rattle.segment_disk.specs.declared.presence.Trouble.{Trouble}
-use Rattle.segment_disk.specs.declared.presence.Trouble.TheVariants.{Missing, Homeless, Folder, Denied}
+use Rattle.segment_disk.specs.declared.presence.Trouble.TheVariants.{Missing, Homeless, Unnamed, Folder, Denied}
 
 -- ---- the line of a fault
 
@@ -93,15 +94,16 @@ HasFixedLine (BadDump bad) = ⊥
 HasFixedLine NoSpace = ⊤
 HasFixedLine (Session f) = ⊤
 
--- what a second line says of the file of a path
+-- what a second line says of the file of a path, which stands there as a text of the language
 abbrev pub trouble_words : Trouble → List ℕ
 trouble_words Missing = codes ": no such file\n"
 trouble_words Homeless = codes ": no such folder\n"
+trouble_words Unnamed = codes ": is no name of a file\n"
 trouble_words Folder = codes ": is a folder\n"
 trouble_words Denied = codes ": permission denied\n"
 
 abbrev pub trouble_text : List ℕ → Trouble → List ℕ
-trouble_text path trouble = codes "segment: " ++ (path ++ (trouble_words trouble ++ []))
+trouble_text path trouble = codes "segment: " ++ (quoted_text path ++ (trouble_words trouble ++ []))
 
 -- ---- its status
 

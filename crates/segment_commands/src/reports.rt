@@ -166,12 +166,14 @@ fn trouble_words(trouble: Trouble) -> &'static [u8]
     match trouble {
         Trouble::Missing => b": no such file\n",
         Trouble::Homeless => b": no such folder\n",
+        Trouble::Unnamed => b": is no name of a file\n",
         Trouble::Folder => b": is a folder\n",
         Trouble::Denied => b": permission denied\n",
     }
 }
 
-/// Writes a line that says why the file of a path can't be read or written: it stands behind the line of the fault.
+/// Writes a line that says why the file of a path can't be read or written, behind the line of the fault. The path
+/// stands there as a text of the language, so that none of its bytes ends the line or means something to a terminal.
 pub fn report_file<S: Sink>(path: &str, trouble: Trouble, err: &mut S)
     requires { (S.history err.old).failures < 2 ^ 64 - 1 }
     ensures { Puts (S.history err.old) (S.history err.new) (trouble_text path.now trouble) }
@@ -180,7 +182,7 @@ pub fn report_file<S: Sink>(path: &str, trouble: Trouble, err: &mut S)
         err,
         &[
             Piece::Bytes(b"segment: "),
-            Piece::Bytes(path.as_bytes()),
+            Piece::Text(path.as_bytes()),
             Piece::Bytes(trouble_words(trouble)),
         ],
     );

@@ -1,8 +1,8 @@
 //! A run that ends with the first error.
 ghost use Rattle.std.specs.Prelude.{◌^◌, ◌-◌, ◌<◌};
-ghost use Rattle.segment_disk.specs.Events.{IsFlushed};
 ghost use Rattle.segment_commands.specs.Strict.{RunsStrictly};
 
+use crate::creating::WRITE_FAULT;
 use crate::modes::run;
 use crate::program_faults::ProgramFault;
 use raw_region::Source;
@@ -15,7 +15,7 @@ use std::alloc::Global;
 ///
 /// # Errors
 ///
-/// `Stopped` where an answer was an error, and else those of [`run`].
+/// `Stopped` where an answer was an error and went out, `WriteFault` where it did not, and else those of [`run`].
 pub fn run_strict<D: Disk, S: Source, O: Stopping>(
     alloc: Global,
     disk: &mut D,
@@ -29,11 +29,14 @@ pub fn run_strict<D: Disk, S: Source, O: Stopping>(
     requires script { (S.history script.old).failures < 2 ^ 64 - 1 }
     requires out { (O.history out.old).failures < 2 ^ 64 - 1 }
     ensures { RunsStrictly D.step disk.old disk.new path.now (S.history script.old) (S.history script.new)
-        O.history (IsFlushed O.history O.flushes out.new) out.old out.new result mode size saving }
+        O.history O.flushes O.gives out.old out.new result mode size saving }
 {
     let answer = run(alloc, disk, path, mode, size, saving, script, out);
-    if out.has_stopped() {
-        return Err(ProgramFault::Stopped);
+    if !out.has_stopped() {
+        return answer;
     }
-    answer
+    match out.give_out() {
+        Ok(()) => Err(ProgramFault::Stopped),
+        Err(_) => Err(WRITE_FAULT),
+    }
 }

@@ -8,6 +8,7 @@ use crate::locks::lock;
 use crate::outlet::Outlet;
 use crate::presence::{InUse, Making, Presence, Trouble};
 use crate::sparse::SparseFile;
+use crate::troubles::{making_trouble, trouble_of};
 use raw_region::stream::Reading;
 use raw_region::{DeviceFault, fill};
 use std::fs::{self, File, OpenFile};
@@ -47,16 +48,6 @@ impl<'a, R: Files> HostDisk<'a, R> {
     /// written.
     pub fn trouble(&self) -> Option<Trouble> {
         self.trouble
-    }
-}
-
-/// What an error of the system says of a file.
-fn trouble_of(error: &io::Error) -> Option<Trouble> {
-    match error.kind() {
-        ErrorKind::NotFound => Some(Trouble::Missing),
-        ErrorKind::IsADirectory => Some(Trouble::Folder),
-        ErrorKind::PermissionDenied => Some(Trouble::Denied),
-        _ => None,
     }
 }
 
@@ -142,7 +133,7 @@ impl<'a, R: Files<File = File> + AllocGlobal> Disk for HostDisk<'a, R> {
                 Ok(Opened { reader, len, front })
             }
             Err(error) => {
-                self.trouble = trouble_of(&error);
+                self.trouble = trouble_of(error.kind());
                 Err(DeviceFault)
             }
         }
@@ -157,10 +148,7 @@ impl<'a, R: Files<File = File> + AllocGlobal> Disk for HostDisk<'a, R> {
                 Ok(Outlet::new(SparseFile::new(file)))
             }
             Err(error) => {
-                self.trouble = match trouble_of(&error) {
-                    Some(Trouble::Missing) => Some(Trouble::Homeless),
-                    trouble => trouble,
-                };
+                self.trouble = making_trouble(error.kind(), path, how);
                 Err(DeviceFault)
             }
         }

@@ -12,6 +12,7 @@ mod outlet;
 mod presence;
 mod sparse;
 mod stopping;
+mod troubles;
 
 pub use disk::{Disk, Opened, Output};
 pub use host::{HostDisk, HostHold};

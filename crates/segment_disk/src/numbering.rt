@@ -1,9 +1,9 @@
 //! An output whose lines stand behind the number of the line of the script that they answer.
-ghost use Rattle.std.specs.Prelude.{◌≡◌, ◌≤◌, ◌<◌, ◌-◌, ◌^◌, ◌+◌, ◌++◌, ℕ, true, false, length, take, IfOk, OnOk, OnErr};
+ghost use Rattle.std.specs.Prelude.{◌≡◌, ◌≢◌, ◌≤◌, ◌<◌, ◌-◌, ◌^◌, ◌+◌, ◌++◌, ℕ, true, false, codes, decimal, length, min, take, IfOk, OnOk, OnErr};
 ghost use Rattle.raw_region.specs.Answers.{failures_in, write_failures_in};
 ghost use Rattle.segment_disk.specs.Events.{nothing_taken};
 ghost use Rattle.segment_disk.specs.Numbers.{has_number, in_text, is_in_text, text_part};
-ghost use Rattle.segment_disk.specs.declared.numbering.Spot.TheVariants.{Front};
+ghost use Rattle.segment_disk.specs.declared.numbering.Spot.TheVariants.{Front, Broken as IsBroken};
 
 use crate::disk::Output;
 use crate::outlet::Passing;
@@ -20,7 +20,7 @@ pub enum Spot {
     Ahead,
     /// It is within a line.
     Inside,
-    /// Nothing more goes out: the number of its line was cut.
+    /// Nothing more goes out: the output failed within the number of its line.
     Broken,
 }
 
@@ -41,7 +41,8 @@ fn line_length(bytes: &[u8]) -> usize
 
 /// Where the next byte stands behind this one of a line's text.
 fn spot_behind(byte: u8) -> Spot
-    ensures { has_number result ≡ in_text true byte }
+    ensures text { has_number result ≡ in_text true byte }
+    ensures whole { result ≢ IsBroken }
 {
     if byte == b'\n' {
         Spot::Front
@@ -51,7 +52,7 @@ fn spot_behind(byte: u8) -> Spot
 }
 
 /// An output that writes `N: ` before each line that it takes, where N is how often it was told of a next line of the
-/// script.
+/// script. It fails only where the output behind it did.
 #[derive(Drop)]
 pub struct Numbered<O: Output> {
     inner: O,
@@ -63,6 +64,8 @@ pub struct Numbered<O: Output> {
     ghost told: { text_part false (O.history inner).bytes ≡ plain.history.bytes },
     ghost place: { is_in_text false (O.history inner).bytes ≡ has_number spot },
     ghost passing: { plain.history.failures ≡ 0 },
+    ghost broken: { spot ≡ IsBroken → 0 < (O.history inner).failures },
+    ghost faultless: { 0 < failures → 0 < (O.history inner).failures },
 }
 
 impl<O: Output> Numbered<O> {
@@ -103,6 +106,8 @@ impl<O: Output> Numbered<O> {
         requires front { self.old.spot ≡ Front }
         requires room { self.old.failures < 2 ^ 64 - 1 }
         ensures ok { OnOk result (has_number self.new.spot ≡ true) }
+        ensures number { OnOk result ((O.history self.new.inner).bytes
+            ≡ (O.history self.old.inner).bytes ++ (decimal self.old.number ++ codes ": ")) }
         ensures plain { self.new.plain ≡ self.old.plain }
         ensures counted { self.new.failures ≡ self.old.failures + failures_in result }
     {
@@ -160,11 +165,14 @@ impl<O: Output> Sink for Numbered<O> {
 impl<O: Output> Output for Numbered<O> {
     ghost flushes = { λ old ok new. O.flushes old.inner ok new.inner };
 
+    ghost turns = { λ old new. (new.number ≡ min (old.number + 1) (2 ^ 64 - 1)) × O.turns old.inner new.inner };
+
     fn flush(&mut self) -> Result<(), DeviceFault> {
         self.inner.flush()
     }
 
     fn next_line(&mut self) {
         self.number = self.number.saturating_add(1);
+        self.inner.next_line();
     }
 }

@@ -77,6 +77,8 @@ impl<W: Write> Sink for Outlet<W> {
 impl<W: Write> Output for Outlet<W> {
     ghost flushes = { λ old ok new. ⊤ };
 
+    ghost turns = { λ old new. new ≡ old };
+
     fn flush(&mut self) -> Result<(), DeviceFault> {
         match self.inner.flush() {
             Ok(()) => Ok(()),

@@ -34,8 +34,10 @@ pub struct InUse;
 pub enum Trouble {
     /// No file is there.
     Missing,
-    /// No folder is there in which the file is to be made, or no file beside which it is to be made.
+    /// No folder is there in which the file is to be made.
     Homeless,
+    /// The path is none that a file can be made by: it is empty, or ends as that of a folder does.
+    Unnamed,
     /// It is a folder.
     Folder,
     /// Its rights do not let it be.

@@ -1,5 +1,5 @@
 //! An output that ends with the first line of an error.
-ghost use Rattle.std.specs.Prelude.{◌≡◌, ◌≢◌, ◌≤◌, ◌<◌, ◌+◌, ℕ, true, false, length, take};
+ghost use Rattle.std.specs.Prelude.{◌≡◌, ◌≢◌, ◌≤◌, ◌<◌, ◌+◌, ℕ, Bool, true, false, is_ok, length, take};
 ghost use Rattle.segment_disk.specs.Events.{nothing_taken};
 ghost use Rattle.segment_disk.specs.ErrorLines.{EndsWithError, IsFlushUnlessStopped, after, after_word, is_over, watched};
 ghost use Rattle.segment_disk.specs.ErrorLines.{not_over};
@@ -129,6 +129,8 @@ impl<O: Output> Sink for StopsAtError<O> {
 impl<O: Output> Output for StopsAtError<O> {
     ghost flushes = { λ old ok new. IsFlushUnlessStopped O.history O.flushes old.inner ok new.inner };
 
+    ghost turns = { λ old new. O.turns old.inner new.inner };
+
     fn flush(&mut self) -> Result<(), DeviceFault> {
         let flushed = self.inner.flush();
         if self.watch == Watch::Over {
@@ -148,13 +150,27 @@ pub trait Stopping: Output {
     fn has_stopped(&self) -> bool
         ensures { result ≡ is_over (watched (OfWord 0) (Self.history self.now).bytes) };
 
+    // What the output gives out behind the line of an error, and what it is then.
+    ghost gives: { Self → Bool → Self → Type 0 };
+
+    /// Gives out all that it took, the line of an error too.
+    fn give_out(&mut self) -> Result<(), DeviceFault>
+        ensures same { Self.history self.new ≡ Self.history self.old }
+        ensures gives { gives self.old (is_ok result) self.new };
+
     // Then no flush gives all out.
     ghost stops: { (old new : Self) → Self.flushes old true new → is_over (watched (OfWord 0) (Self.history old).bytes) ≡ false };
 }
 
 impl<O: Output> Stopping for StopsAtError<O> {
+    ghost gives = { λ old ok new. O.flushes old.inner ok new.inner };
+
     fn has_stopped(&self) -> bool {
         self.watch == Watch::Over
+    }
+
+    fn give_out(&mut self) -> Result<(), DeviceFault> {
+        self.inner.flush()
     }
 
     ghost stops = { λ old new flush. not_over (flush.went_out) _ flush.answer };

@@ -4,18 +4,21 @@ use Rattle.std.specs.Prelude.{if◌then◌else◌}
 use Rattle.std.specs.Str.{bytes_eq}
 use Rattle.std.proofs.lemmas.Slice.Eq.{bytes_eq-Decides}
 use Rattle.clap.specs.Walk.{Row, Text, first_of}
-use Rattle.segment_invocation.specs.Invocations.{Asked, lint, asked_in}
+use Rattle.segment_invocation.specs.Invocations.{Asked, language, lint, asked_in}
 
 module _ (name : Text) (rows : List Row) where
   pub lint_asked : bytes_eq name (codes "lint") ≡ true → asked_in name rows ≡ Some lint
   lint_asked e = ap (λ n. asked_in n rows) ((bytes_eq-Decides name (codes "lint")).0 e)
+
+  pub language_asked : bytes_eq name (codes "language") ≡ true → asked_in name rows ≡ Some language
+  language_asked e = ap (λ n. asked_in n rows) ((bytes_eq-Decides name (codes "language")).0 e)
 
 neither : (b : Bool) (x y : Option Asked) → x ≡ None → y ≡ None → (if b then x else y) ≡ None
 neither true x y h k = h
 neither false x y h k = k
 
 -- every other command wants a file
-pub without_file : (name : Text) (rows : List Row) → bytes_eq name (codes "lint") ≡ false → bytes_eq name (codes "help") ≡ false
+pub without_file : (name : Text) (rows : List Row) → bytes_eq name (codes "lint") ≡ false → bytes_eq name (codes "language") ≡ false
     → first_of (codes "file") rows ≡ None → asked_in name rows ≡ None
 without_file name rows l h e =
     neither (bytes_eq name (codes "create")) _ _ (rw e refl)

@@ -8,8 +8,8 @@ use Rattle.clap.specs.Walk.{Row, Rule, Text, Walk, finished, idle, option as wai
 use Rattle.clap.specs.Simple.{Shape, built_leaf, inherited}
 use Rattle.clap.specs.Takes.{default_passes, is_valid, level_passes, settle_passes, turn_passes, walk_passes}
 use Rattle.clap.specs.declared.builder.value_parser.Reading.TheVariants as reading
-use Rattle.clap.specs.declared.parser.matches.ValueSource.TheVariants.{CommandLine}
-use Rattle.segment_invocation.specs.Invocations.{RunWords, asked_check, asked_dump, asked_load, check, check_command, dump, dump_capacities, dump_command, explain, file_command, flag_words, load, load_command, number_command, program, run_command, run_words, size_of}
+use Rattle.clap.specs.declared.parser.matches.ValueSource.TheVariants.{CommandLine, DefaultValue}
+use Rattle.segment_invocation.specs.Invocations.{RunWords, asked_check, asked_draw, asked_dump, asked_load, check, check_command, draw, draw_command, draw_page, dump, dump_capacities, dump_command, explain, file_command, flag_words, load, load_command, number_command, program, run_command, run_words, size_of}
 use Rattle.segment_invocation.specs.declared.invocations.Saving.{Saving}
 use Rattle.segment_invocation.specs.declared.invocations.Saving.TheVariants.{InPlace, Replacing}
 use Rattle.segment_invocation.proofs.PlainWords.{IsPlain, plain_step, turn-plain, walked-plain}
@@ -22,6 +22,10 @@ leaf s = built_leaf (inherited program.top s)
 abbrev pub word_row : Text → Text → Row
 word_row id word = record { id = id; values = word ∷ []; count = None; source = Some CommandLine; reading = reading.AsWritten }
 
+-- the row of a flag that is left out
+abbrev pub unset_row : Text → Row
+unset_row id = record { id = id; values = codes "false" ∷ []; count = None; source = Some DefaultValue; reading = reading.AsWritten }
+
 -- the last tests of a level, behind the test of its words
 abbrev passes_at : Shape → Bool → Walk → Bool
 passes_at s words_pass end =
@@ -32,7 +36,7 @@ passes_at s words_pass end =
 file-walk : (name f : Text) → IsPlain f → walk (leaf (file_command name)).rules [] nothing_held (f ∷ []) ≡ plain_step (leaf (file_command name)).rules (walk_from nothing_held) f
 file-walk name f p = walked-plain (leaf (file_command name)).rules nothing_held idle 1 f p
 
-pub file-rows : (name f : Text) → IsPlain f → rows_after (leaf (file_command name)).rules [] (f ∷ []) ≡ word_row (codes "file") f ∷ []
+pub file-rows : (name f : Text) → IsPlain f → rows_after (leaf (file_command name)).rules [] (f ∷ []) ≡ word_row (codes "file") f ∷ unset_row (codes "verbose") ∷ []
 file-rows name f p = ap (λ (w : Walk). finished (leaf (file_command name)).rules w.held) (file-walk name f p)
 
 file-words : (name f : Text) → IsPlain f → walk_passes (leaf (file_command name)) [] (walk_from nothing_held) (f ∷ []) ≡ true
@@ -52,7 +56,7 @@ number-walk name f d p q =
     let c : List Rule = (leaf (number_command name)).rules in
     ap (λ (w : Walk). walked c [] w d) (walked-plain c nothing_held idle 1 f p) ∙ walked-plain c (plain_step c (walk_from nothing_held) f).held idle 2 d q
 
-pub number-rows : (name f d : Text) → IsPlain f → IsPlain d → rows_after (leaf (number_command name)).rules [] (f ∷ d ∷ []) ≡ word_row (codes "file") f ∷ word_row (codes "number") d ∷ []
+pub number-rows : (name f d : Text) → IsPlain f → IsPlain d → rows_after (leaf (number_command name)).rules [] (f ∷ d ∷ []) ≡ word_row (codes "file") f ∷ word_row (codes "number") d ∷ unset_row (codes "verbose") ∷ []
 number-rows name f d p q = ap (λ (w : Walk). finished (leaf (number_command name)).rules w.held) (number-walk name f d p q)
 
 number-words : (name f d : Text) → IsPlain f → IsPlain d → walk_passes (leaf (number_command name)) [] (walk_from nothing_held) (f ∷ d ∷ []) ≡ true
@@ -93,6 +97,34 @@ unfolding clap_on_literals
 explain-passes f p =
     let s : Shape = leaf check_command in
     ap₂ (passes_at s) (ap₂ (λ a b. a && (b && true)) (turn-plain s nothing_held idle 1 f p) (ap (λ (w : Walk). turn_passes s [] w (codes "--explain")) (check-walk f p))) (explain-walk f p)
+
+-- ---- a file, which may have `--html` behind it
+
+draw-walk : (f : Text) → IsPlain f → walk (leaf draw_command).rules [] nothing_held (f ∷ []) ≡ plain_step (leaf draw_command).rules (walk_from nothing_held) f
+draw-walk f p = walked-plain (leaf draw_command).rules nothing_held idle 1 f p
+
+pub draw-asks : (f : Text) → IsPlain f → asked_draw (rows_after (leaf draw_command).rules [] (f ∷ [])) ≡ Some (draw f)
+unfolding clap_on_literals
+draw-asks f p = ap (λ (w : Walk). asked_draw (finished (leaf draw_command).rules w.held)) (draw-walk f p)
+
+pub draw-passes : (f : Text) → IsPlain f → level_passes (leaf draw_command) [] nothing_held (f ∷ []) false ≡ true
+unfolding clap_on_literals
+draw-passes f p = ap₂ (passes_at (leaf draw_command)) (ap (λ b. b && true) (turn-plain (leaf draw_command) nothing_held idle 1 f p)) (draw-walk f p)
+
+html-walk : (f : Text) → IsPlain f
+    → walk (leaf draw_command).rules [] nothing_held (f ∷ codes "--html" ∷ [])
+    ≡ walked (leaf draw_command).rules [] (plain_step (leaf draw_command).rules (walk_from nothing_held) f) (codes "--html")
+html-walk f p = ap (λ (w : Walk). walked (leaf draw_command).rules [] w (codes "--html")) (draw-walk f p)
+
+pub html-asks : (f : Text) → IsPlain f → asked_draw (rows_after (leaf draw_command).rules [] (f ∷ codes "--html" ∷ [])) ≡ Some (draw_page f)
+unfolding clap_on_literals
+html-asks f p = ap (λ (w : Walk). asked_draw (finished (leaf draw_command).rules w.held)) (html-walk f p)
+
+pub html-passes : (f : Text) → IsPlain f → level_passes (leaf draw_command) [] nothing_held (f ∷ codes "--html" ∷ []) false ≡ true
+unfolding clap_on_literals
+html-passes f p =
+    let s : Shape = leaf draw_command in
+    ap₂ (passes_at s) (ap₂ (λ a b. a && (b && true)) (turn-plain s nothing_held idle 1 f p) (ap (λ (w : Walk). turn_passes s [] w (codes "--html")) (draw-walk f p))) (html-walk f p)
 
 -- ---- a file, which may have `--capacities` behind it
 

@@ -15,6 +15,3 @@ module _ (old new : Command-F Command) (a : App) (h : app_of_fields old ≡ a) w
 
   pub help_wanted : new ≡ record old { arg_required_else_help = true } → app_of_fields new ≡ on_top (λ s. record s { arg_required_else_help = true }) a
   help_wanted e = ap app_of_fields e ∙ ap (on_top (λ s. record s { arg_required_else_help = true })) h
-
-  pub no_help_command : new ≡ record old { disable_help_subcommand = true } → app_of_fields new ≡ on_top (λ s. record s { disable_help_subcommand = true }) a
-  no_help_command e = ap app_of_fields e ∙ ap (on_top (λ s. record s { disable_help_subcommand = true })) h

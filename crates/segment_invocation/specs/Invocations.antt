@@ -12,13 +12,13 @@ use Rattle.clap.specs.declared.error.kind.ErrorKind.TheVariants.{DisplayVersion}
 use Rattle.clap.specs.declared.builder.action.ArgAction.TheVariants.{Set, SetTrue}
 use Rattle.segment_lang.specs.Words.{number_of}
 use Rattle.segment_invocation.specs.declared.invocations.Invocation.{Invocation}
-use Rattle.segment_invocation.specs.declared.invocations.Invocation.TheVariants.{Create, Run, Check, Explain, Grow, Shrink, Migrate, Stat, Draw, Dump, DumpCapacities, Load, Lint, Language, Version}
+use Rattle.segment_invocation.specs.declared.invocations.Invocation.TheVariants.{Create, Run, Check, Explain, Grow, Shrink, Migrate, Stat, Draw, DrawPage, Dump, DumpCapacities, Load, Lint, Language, Version}
 use Rattle.segment_invocation.specs.declared.invocations.ModeName.{ModeName}
 use Rattle.segment_invocation.specs.declared.invocations.ModeName.TheVariants.{CreateOnly, OpenOnly, OpenOrCreate, OpenReadOnly, OpenCopyOnWrite}
 use Rattle.segment_invocation.specs.declared.invocations.Saving.{Saving}
 use Rattle.segment_invocation.specs.declared.invocations.Saving.TheVariants.{InPlace, Replacing}
 use Rattle.segment_invocation.specs.declared.usage.UsageError.{UsageError}
-use Rattle.segment_invocation.specs.declared.usage.UsageError.TheVariants.{Words, Command, File, Number, Mode, Topic}
+use Rattle.segment_invocation.specs.declared.usage.UsageError.TheVariants.{Words, Command, File, Number, Mode}
 use Rattle.segment_invocation.specs.declared.usage.UsageError.TheVariants.{Size}
 
 -- ---- the command line, as clap reads it
@@ -35,13 +35,13 @@ flag name = record (new_rule name) { long = Some name; action = Some SetTrue }
 abbrev pub operand : Text → Rule
 operand name = record (new_rule name) { required = true; value_names = 1 }
 
--- a subcommand that takes these
+-- a subcommand that takes these, and `--verbose`
 abbrev pub taking : Text → List Rule → Shape
-taking name rules = record (new_shape name) { rules = rules }
+taking name rules = record (new_shape name) { rules = rules ++ (flag (codes "verbose") ∷ []) }
 
--- the program, without its subcommands: it wants one, and gives help where no word stands behind its name
+-- the program, without its subcommands: it wants one, gives help where no word stands behind its name, and has clap's `help`
 abbrev pub program : App
-program = record { top = record (new_shape (codes "segment")) { has_version = true; disable_help_subcommand = true; arg_required_else_help = true; subcommand_required = true }; subs = [] }
+program = record { top = record (new_shape (codes "segment")) { has_version = true; arg_required_else_help = true; subcommand_required = true }; subs = [] }
 
 abbrev pub file_command : Text → Shape
 file_command name = taking name (operand (codes "file") ∷ [])
@@ -51,6 +51,9 @@ number_command name = taking name (operand (codes "file") ∷ operand (codes "nu
 
 abbrev pub check_command : Shape
 check_command = taking (codes "check") (operand (codes "file") ∷ flag (codes "explain") ∷ [])
+
+abbrev pub draw_command : Shape
+draw_command = taking (codes "draw") (operand (codes "file") ∷ flag (codes "html") ∷ [])
 
 abbrev pub dump_command : Shape
 dump_command = taking (codes "dump") (operand (codes "file") ∷ flag (codes "capacities") ∷ [])
@@ -64,12 +67,9 @@ run_options = operand (codes "file") ∷ option (codes "mode") ∷ option (codes
 abbrev pub run_command : Shape
 run_command = taking (codes "run") (run_options ++ (flag (codes "replace") ∷ flag (codes "strict") ∷ flag (codes "numbered") ∷ []))
 
-abbrev pub help_command : Shape
-help_command = taking (codes "help") (operand (codes "topic") ∷ [])
-
 abbrev pub subcommands : List Shape
 subcommands = number_command (codes "create") ∷ run_command ∷ check_command ∷ number_command (codes "grow") ∷ file_command (codes "shrink")
-    ∷ file_command (codes "migrate") ∷ file_command (codes "stat") ∷ file_command (codes "draw") ∷ dump_command ∷ load_command ∷ taking (codes "lint") [] ∷ help_command ∷ []
+    ∷ file_command (codes "migrate") ∷ file_command (codes "stat") ∷ draw_command ∷ dump_command ∷ load_command ∷ taking (codes "lint") [] ∷ taking (codes "language") [] ∷ []
 
 abbrev pub command_line : App
 command_line = fold with_subcommand program subcommands
@@ -88,6 +88,7 @@ pub data Asked : Type 0 where
   migrate : Text → Asked
   stat : Text → Asked
   draw : Text → Asked
+  draw_page : Text → Asked
   dump : Text → Asked
   dump_capacities : Text → Asked
   load : Text → Option ℕ → Asked
@@ -105,6 +106,7 @@ asked_by (Shrink file) = shrink file.now
 asked_by (Migrate file) = migrate file.now
 asked_by (Stat file) = stat file.now
 asked_by (Draw file) = draw file.now
+asked_by (DrawPage file) = draw_page file.now
 asked_by (Dump file) = dump file.now
 asked_by (DumpCapacities file) = dump_capacities file.now
 asked_by (Load file size) = load file.now size
@@ -170,6 +172,10 @@ with_number ask words = with_file (λ file. option_map (ask file) (option_and_th
 abbrev pub asked_check : List Row → Option Asked
 asked_check words = with_file (λ file. Some (if is_set (first_of (codes "explain") words) then explain file else check file)) words
 
+-- a picture's file, and its flag --html
+abbrev pub asked_draw : List Row → Option Asked
+asked_draw words = with_file (λ file. Some (if is_set (first_of (codes "html") words) then draw_page file else draw file)) words
+
 -- a dump's file, and its flag --capacities
 abbrev pub asked_dump : List Row → Option Asked
 asked_dump words = with_file (λ file. Some (if is_set (first_of (codes "capacities") words) then dump_capacities file else dump file)) words
@@ -199,13 +205,6 @@ asked_of_run (file, mode, size, replace, strict, numbered) =
 abbrev pub asked_run : List Row → Option Asked
 asked_run words = asked_of_run (run_words words)
 
-abbrev pub asked_topic : Option Text → Option Asked
-asked_topic None = None
-asked_topic (Some word) = if bytes_eq word (codes "language") then Some language else None
-
-abbrev pub asked_help : List Row → Option Asked
-asked_help words = asked_topic (first_of (codes "topic") words)
-
 abbrev pub asked_in : Text → List Row → Option Asked
 asked_in subcommand words =
     if bytes_eq subcommand (codes "create") then with_number create words
@@ -215,11 +214,11 @@ asked_in subcommand words =
     else if bytes_eq subcommand (codes "shrink") then with_file (λ file. Some (shrink file)) words
     else if bytes_eq subcommand (codes "migrate") then with_file (λ file. Some (migrate file)) words
     else if bytes_eq subcommand (codes "stat") then with_file (λ file. Some (stat file)) words
-    else if bytes_eq subcommand (codes "draw") then with_file (λ file. Some (draw file)) words
+    else if bytes_eq subcommand (codes "draw") then asked_draw words
     else if bytes_eq subcommand (codes "dump") then asked_dump words
     else if bytes_eq subcommand (codes "load") then asked_load words
     else if bytes_eq subcommand (codes "lint") then Some lint
-    else if bytes_eq subcommand (codes "help") then asked_help words
+    else if bytes_eq subcommand (codes "language") then Some language
     else None
 
 -- a subcommand with its words
@@ -239,13 +238,12 @@ Reads wanted result = MatchResult result (λ a. wanted ≡ Some a) (λ e. wanted
 
 -- ---- what is wrong with words that ask for nothing
 
--- there is no such command, topic or mode, or no file, number or size
+-- there is no such command or mode, or no file, number or size
 pub data Wrong : Type 0 where
   no_command : Wrong
   no_file : Wrong
   no_number : Wrong
   no_mode : Wrong
-  no_topic : Wrong
   no_size : Wrong
 
 -- what an error says of the words, unless it is one of clap's
@@ -255,7 +253,6 @@ wrong_by Command = Some no_command
 wrong_by File = Some no_file
 wrong_by Number = Some no_number
 wrong_by (Mode nearest) = Some no_mode
-wrong_by Topic = Some no_topic
 wrong_by Size = Some no_size
 
 -- of a run the first of these: its mode is none, its size is no number, it lacks a size
@@ -272,11 +269,10 @@ wrong_filed subcommand words =
     else if bytes_eq subcommand (codes "load") then no_number
     else no_command
 
--- a file is looked for before all else, but by `help`
+-- a file is looked for before all else
 abbrev pub wrong_in : Text → List Row → Wrong
 wrong_in subcommand words =
-    if bytes_eq subcommand (codes "help") then no_topic
-    else if is_some (first_of (codes "file") words) then wrong_filed subcommand words
+    if is_some (first_of (codes "file") words) then wrong_filed subcommand words
     else no_file
 
 -- of a subcommand with its words, or of none
@@ -336,10 +332,11 @@ IsWritten (shrink file) words = IsTrue (is_path file) × (words ≡ codes "shrin
 IsWritten (migrate file) words = IsTrue (is_path file) × (words ≡ codes "migrate" ∷ file ∷ [])
 IsWritten (stat file) words = IsTrue (is_path file) × (words ≡ codes "stat" ∷ file ∷ [])
 IsWritten (draw file) words = IsTrue (is_path file) × (words ≡ codes "draw" ∷ file ∷ [])
+IsWritten (draw_page file) words = IsTrue (is_path file) × (words ≡ codes "draw" ∷ file ∷ codes "--html" ∷ [])
 IsWritten (dump file) words = IsTrue (is_path file) × (words ≡ codes "dump" ∷ file ∷ [])
 IsWritten (dump_capacities file) words = IsTrue (is_path file) × (words ≡ codes "dump" ∷ file ∷ codes "--capacities" ∷ [])
 IsWritten (load file None) words = IsTrue (is_path file) × (words ≡ codes "load" ∷ file ∷ [])
 IsWritten (load file (Some size)) words = IsTrue (is_path file) × (sizes : List Text) × IsSized sizes size × (words ≡ codes "load" ∷ file ∷ sizes)
 IsWritten lint words = words ≡ codes "lint" ∷ []
-IsWritten language words = words ≡ codes "help" ∷ codes "language" ∷ []
+IsWritten language words = words ≡ codes "language" ∷ []
 IsWritten version words = words ≡ codes "--version" ∷ []

@@ -1,12 +1,13 @@
 //! What the words of a command line ask for.
 ghost use Rattle.std.specs.Prelude.{◌≡◌, false, Some, None, Ok, Err, map, drop, codes, IfErr, IfOk, MatchResult, option_map, option_and_then};
+ghost use Rattle.std.specs.List.{list_any};
 ghost use Rattle.std.specs.Str.{bytes_eq};
 ghost use Rattle.clap.specs.Matches.{found_of};
 ghost use Rattle.clap.specs.Values.{kind_of};
 ghost use Rattle.clap.specs.Walk.{first_of, rows_of};
 ghost use Rattle.clap.specs.declared.error.kind.ErrorKind.TheVariants.{DisplayVersion, OutOfMemory as NoMemory};
 ghost use Rattle.segment_lang.specs.Words.{number_of};
-ghost use Rattle.segment_invocation.specs.Invocations.{Asked, IsAskedBy, IsWritten, IsWrongBy, Reads, asked_by, asked_help, asked_in, asked_run, is_set, mode_of, no_mode, no_number, no_topic, run_words, saving_of, size_of, wrong_by, wrong_filed, wrong_in, wrong_run};
+ghost use Rattle.segment_invocation.specs.Invocations.{Asked, IsAskedBy, IsWritten, IsWrongBy, Reads, asked_by, asked_in, asked_run, is_set, mode_of, no_mode, no_number, run_words, saving_of, size_of, wrong_by, wrong_filed, wrong_in, wrong_run};
 ghost use Rattle.segment_invocation.specs.declared.invocations.Invocation.TheVariants.{Version};
 ghost use Rattle.segment_invocation.specs.declared.usage.InvocationFault.TheVariants.{OutOfMemory, Usage};
 ghost use Rattle.segment_invocation.specs.declared.usage.UsageError.TheVariants.{Words};
@@ -116,18 +117,6 @@ fn read_run<'a>(
     Ok(Invocation::Run(file, mode, size, saving_in(words), answering_in(words)))
 }
 
-/// What the word of the command `help` asks for.
-fn read_help<'a>(words: &ArgMatches<'a>) -> Result<Invocation<'a>, UsageError>
-    ensures read { MatchResult result (λ i. asked_help (rows_of (found_of words.now)) ≡ Some (asked_by i))
-        (λ e. asked_help (rows_of (found_of words.now)) ≡ None) }
-    ensures wrong { IfErr result (λ e. wrong_by e ≡ Some no_topic) }
-{
-    match word_of(words, "topic") {
-        Some("language") => Ok(Invocation::Language),
-        _ => Err(UsageError::Topic),
-    }
-}
-
 /// What the words of a command ask for that has a file.
 fn read_filed<'a>(
     alloc: Global,
@@ -137,7 +126,7 @@ fn read_filed<'a>(
 ) -> Result<Invocation<'a>, UsageError>
     requires file { first_of (codes "file") (rows_of (found_of words.now)) ≡ Some file.now }
     requires lint { bytes_eq name.now (codes "lint") ≡ false }
-    requires help { bytes_eq name.now (codes "help") ≡ false }
+    requires language { bytes_eq name.now (codes "language") ≡ false }
     ensures read { MatchResult result (λ i. asked_in name.now (rows_of (found_of words.now)) ≡ Some (asked_by i))
         (λ e. asked_in name.now (rows_of (found_of words.now)) ≡ None) }
     ensures wrong { IfErr result (λ e. wrong_by e ≡ Some (wrong_filed name.now (rows_of (found_of words.now)))) }
@@ -151,6 +140,7 @@ fn read_filed<'a>(
         "shrink" => Ok(Invocation::Shrink(file)),
         "migrate" => Ok(Invocation::Migrate(file)),
         "stat" => Ok(Invocation::Stat(file)),
+        "draw" if is_set(words, "html") => Ok(Invocation::DrawPage(file)),
         "draw" => Ok(Invocation::Draw(file)),
         "dump" if is_set(words, "capacities") => Ok(Invocation::DumpCapacities(file)),
         "dump" => Ok(Invocation::Dump(file)),
@@ -160,7 +150,7 @@ fn read_filed<'a>(
 }
 
 /// What the words of a command ask for.
-#[tactic(auto, using(crate::proofs::Filed::lint_asked, crate::proofs::Filed::without_file))]
+#[tactic(auto, using(crate::proofs::Filed::lint_asked, crate::proofs::Filed::language_asked, crate::proofs::Filed::without_file))]
 fn read_command<'a>(
     alloc: Global,
     name: &str,
@@ -172,7 +162,7 @@ fn read_command<'a>(
 {
     match name {
         "lint" => Ok(Invocation::Lint),
-        "help" => read_help(words),
+        "language" => Ok(Invocation::Language),
         _ => match word_of(words, "file") {
             Some(file) => read_filed(alloc, name, file, words),
             None => Err(UsageError::File),
@@ -217,4 +207,11 @@ pub fn invocation<'a>(
         Some((name, found)) => Ok(read_command(alloc, name, found)?),
         None => Err(InvocationFault::Usage(UsageError::Command)),
     }
+}
+
+/// Whether one of the words of a command line is `--verbose`.
+pub fn is_verbose(words: &[&str]) -> bool
+    ensures { result ≡ list_any (λ word. bytes_eq word.now (codes "--verbose")) words.now }
+{
+    words.contains(&"--verbose")
 }

@@ -52,8 +52,24 @@ const LOAD: &str =
 const LINT: &str =
     "Tells which lines of the script of standard input are no commands, and where; it needs no segment";
 
-/// What the command `help` does.
-const HELP: &str = "Prints the commands of a script, where TOPIC is language";
+/// What the command `language` does.
+const LANGUAGE: &str = "Prints the commands of a script, each with its answer and what it does";
+
+/// What the words of the commands of a script stand for.
+const WORDS: &str = "\
+Words of the commands:
+  KIND     bool, u8, i32, i64, u64, string, vec<KIND>, vec<string> or map<KIND,KIND>, with a kind of the first five inside
+  [k]      How many elements an array has, 1 where it is left out; behind a kind of the first five
+  NEWKEY   A name, @KIND for the one object of a kind that is unique, or - for an object without a name
+  NAMEKEY  A name or @KIND
+  KEY      A name, @KIND, or #n, where n is the number that a command answered for the object
+  ARGS     The values that the object begins with: one of a kind of the first five, any number of a vector, one TEXT of
+           a string, none of a map
+  V, K, I  A value; a key of a map; a place, from 0
+  TEXT     Bytes between quotes, as in \"a\"
+
+Example:
+  echo 'construct vec<i64> v 1 2 3' | segment run a.seg";
 
 /// What the modes are.
 const MODES: &str = "\
@@ -143,6 +159,12 @@ const EXPLAIN: Word = Word::Flag(
     "Where FILE holds no segment, tells in words why, and at which byte, from 0 on, that shows",
 );
 
+/// The option of a picture.
+const HTML: Word = Word::Flag(
+    "html",
+    "Prints a page for a browser: the picture, the figures of stat, and the objects as a table",
+);
+
 /// What a dump has behind its end.
 const CAPACITIES: Word = Word::Flag(
     "capacities",
@@ -153,31 +175,34 @@ const CAPACITIES: Word = Word::Flag(
 const LOADED: Word = Word::Option(
     "size",
     "SIZE",
-    "The bytes of the segment, as for create; where it is left out, the least that holds the objects",
+    "The bytes of the segment, as for create; without it the segment is made as long as the dump says, and then shrunk",
 );
 
-/// What there is help on.
-const TOPIC: Word = Word::Operand("topic", "TOPIC", "The word language");
+/// How much is told of a file that can't be read or written.
+const VERBOSE: Word = Word::Flag(
+    "verbose",
+    "Behind a read fault or write fault of FILE, tells FILE and why, as far as the system says",
+);
 
 /// The commands, in the order in which help has them.
 static COMMANDS: [Row; 12] = [
-    ("create", CREATE, None, &[FILE, SIZE]),
+    ("create", CREATE, None, &[FILE, SIZE, VERBOSE]),
     (
         "run",
         RUN,
         Some(MODES),
-        &[FILE, MODE, RUN_SIZE, REPLACE, STRICT, NUMBERED],
+        &[FILE, MODE, RUN_SIZE, REPLACE, STRICT, NUMBERED, VERBOSE],
     ),
-    ("check", CHECK, None, &[FILE, EXPLAIN]),
-    ("grow", GROW, None, &[FILE, BYTES]),
-    ("shrink", SHRINK, None, &[FILE]),
-    ("migrate", MIGRATE, None, &[FILE]),
-    ("stat", STAT, None, &[FILE]),
-    ("draw", DRAW, None, &[FILE]),
-    ("dump", DUMP, None, &[FILE, CAPACITIES]),
-    ("load", LOAD, None, &[FILE, LOADED]),
-    ("lint", LINT, None, &[]),
-    ("help", HELP, None, &[TOPIC]),
+    ("check", CHECK, None, &[FILE, EXPLAIN, VERBOSE]),
+    ("grow", GROW, None, &[FILE, BYTES, VERBOSE]),
+    ("shrink", SHRINK, None, &[FILE, VERBOSE]),
+    ("migrate", MIGRATE, None, &[FILE, VERBOSE]),
+    ("stat", STAT, None, &[FILE, VERBOSE]),
+    ("draw", DRAW, None, &[FILE, HTML, VERBOSE]),
+    ("dump", DUMP, None, &[FILE, CAPACITIES, VERBOSE]),
+    ("load", LOAD, None, &[FILE, LOADED, VERBOSE]),
+    ("lint", LINT, None, &[VERBOSE]),
+    ("language", LANGUAGE, Some(WORDS), &[VERBOSE]),
 ];
 
 /// A word of a command, for clap.
@@ -246,7 +271,6 @@ fn program<'a>(alloc: Global, about: &'a str, statuses: &'a str) -> Command<'a>
         .version(VERSION)
         .subcommand_required(true)
         .arg_required_else_help(true)
-        .disable_help_subcommand(true)
 }
 
 /// The program with a command behind those that it has.

@@ -80,12 +80,14 @@ pub enum Invocation<'a> {
     Stat(&'a str),
     /// To draw the segment in a file.
     Draw(&'a str),
+    /// To show the segment in a file as a page for a browser.
+    DrawPage(&'a str),
     /// To write the objects of the segment in a file as text.
     Dump(&'a str),
     /// To write the same, and behind it the capacities of what has one.
     DumpCapacities(&'a str),
-    /// To make a segment of such a text in a file that is not there, of this size, or of the least that holds the
-    /// objects.
+    /// To make a segment of such a text in a file that is not there: of this size, or as long as the text says and cut
+    /// behind its last block.
     Load(&'a str, Option<u64>),
     /// To tell which lines of a script are no commands.
     Lint,

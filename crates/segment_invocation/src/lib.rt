@@ -8,7 +8,7 @@ mod nearest;
 mod usage;
 mod version;
 
-pub use asking::invocation;
+pub use asking::{invocation, is_verbose};
 pub use invocations::{Answering, Invocation, ModeName, Saving};
 pub use nearest::Tip;
 pub use usage::{InvocationFault, UsageError};

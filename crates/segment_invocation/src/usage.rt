@@ -29,9 +29,6 @@ pub enum UsageError {
     /// The mode is none of the five; the name of the nearest, if one is near.
     #[error("error: a mode is create_only, open_only, open_or_create, open_read_only or open_copy_on_write\n{0}")]
     Mode(Tip),
-    /// There is help on the commands alone, by `--help`, and on this topic.
-    #[error("error: a topic is language; help on a command is told by its --help\n")]
-    Topic,
     /// The mode may make a segment, and no size is given.
     #[error("error: the modes create_only and open_or_create want --size with a number of bytes\n")]
     Size,

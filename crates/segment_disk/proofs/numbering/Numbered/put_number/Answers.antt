@@ -15,6 +15,8 @@ invariant_of-self g c =
       told = number_text was.number fits old new front c.in-Ok.ensures.ok ∙ was.told;
       place = number_end was.number fits old new front c.in-Ok.ensures.ok;
       passing = was.passing;
+      broken = λ e. cc;
+      faultless = λ h. omega (arith, was.faultless h, c.in-Ok.ensures.counted);
     }
 
 pub invariant_of-self-in-Err : goal.invariant_of-self-in-Err
@@ -29,4 +31,6 @@ invariant_of-self-in-Err g c =
       told = part_text was.number fits old new front c.in-Err.ensures.err ∙ was.told;
       place = part_end was.number fits old new front c.in-Err.ensures.err;
       passing = was.passing;
+      broken = λ e. omega (arith, c.in-Err.ensures.counted);
+      faultless = λ h. omega (arith, c.in-Err.ensures.counted);
     }

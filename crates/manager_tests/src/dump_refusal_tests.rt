@@ -6,9 +6,27 @@ use std::process::Abort;
 
 /// Texts that are no dumps: in which line and column, and why. Counts that no lines stand behind are no reason to say
 /// that there is too little space.
-const DAMAGED: [(&[u8], u64, u64, DumpFault); 11] = [
+const DAMAGED: [(&[u8], u64, u64, DumpFault); 14] = [
     (b"", 1, 1, DumpFault::Cut),
     (b"segment dump 2\n", 1, 14, DumpFault::BadSyntax),
+    (
+        b"segment dump 1\nsize\nindexes 0 0\nend\n",
+        2,
+        5,
+        DumpFault::BadSyntax,
+    ),
+    (
+        b"segment dump 1\nsize 1024\nindexes 2000000000 0\nend\n",
+        3,
+        1,
+        DumpFault::Unlike,
+    ),
+    (
+        b"segment dump 1\nsize 1000\nindexes 0 2000000000\nend\n",
+        3,
+        1,
+        DumpFault::Unlike,
+    ),
     (
         b"segment dump 1\nsize 1024\nindexes 0 0\n",
         4,
@@ -105,7 +123,8 @@ fn needs_are_counted(rt: HostRuntime) {
         longest: 20,
     };
     same(&rt, count_dump(NEEDS_560), Ok(Count { size: 4096, needs }));
-    same(&rt, count_dump(b"segment dump 1\nsize 4096\n"), Err(25));
+    same(&rt, count_dump(b"segment dump 1\nsize 4096\n"), Err(0));
+    same(&rt, count_dump(b"segment dump 1\nsize x\nindexes"), Err(14));
 }
 
 /// The dump is not loaded with this room for its longest text: the region comes back.

@@ -1,9 +1,10 @@
-//! Segments that are dumped, and loaded again; and dumps with notes behind them: those of capacities, and others.
+//! Segments that are dumped, and loaded again; dumps with notes behind them: those of capacities, and others; and
+//! segments as lines of JSON.
 use crate::checks::{done, holds, same};
 use crate::dumps::{empty, is_dumped, loaded, text_of, writer};
 use crate::segments::{named, new_named};
 use seg_types::{Handle, Key, ScalarKind, ScalarValue};
-use segment_dump::{dump_with_capacities, said_size, without_notes};
+use segment_dump::{dump_json, dump_with_capacities, said_size, without_notes};
 use segment_manager::{AnonymousInstance, Segment, UniqueInstance};
 use std::process::Abort;
 
@@ -147,4 +148,53 @@ fn notes_are_left_out(rt: HostRuntime) {
 fn the_size_is_said(rt: HostRuntime) {
     same(&rt, said_size(NOTED), Some(4096));
     same(&rt, said_size(b"segment dump 2\nsize 4096\n"), None);
+}
+
+/// One object of each kind as lines of JSON.
+const ONE_OF_EACH_IN_JSON: &[u8] =
+    b"{\"class\":\"named\",\"name\":\"a\",\"kind\":\"i64\",\"value\":[7,-2]}\n{\"class\":\"named\",\"name\":\"b c\",\"kind\":\"vec<string>\",\"value\":[\"hello\",\"\"]}\n{\"class\":\"unique\",\"name\":null,\"kind\":\"map<i32,bool>\",\"value\":[[-7,false],[7,true]]}\n{\"class\":\"anonymous\",\"name\":null,\"kind\":\"string\",\"value\":\"a\\u0000\\\"b\"}\n{\"class\":\"anonymous\",\"name\":null,\"kind\":\"vec<u8>\",\"value\":[1,2,255]}\n";
+
+/// Texts in UTF-8 and others, as JSON has them.
+const TEXTS_IN_JSON: &[u8] =
+    b"{\"class\":\"named\",\"name\":\"\xc3\xa4\\\"\",\"kind\":\"vec<string>\",\"value\":[\"\xc3\xa4\\u001f\\\\/\",{\"base64\":\"/w==\"},{\"base64\":\"+P4=\"},{\"base64\":\"TWHz\"},{\"base64\":\"AICAgA==\"},\"\"]}\n";
+
+/// A writer with room for so many bytes takes these of the lines of JSON, and then fails.
+fn is_in_json<R: Abort + AllocGlobal>(rt: &R, segment: &Segment, room: usize, lines: &[u8]) {
+    let mut out = writer(rt, room);
+    let told = dump_json(segment, &mut out).is_ok();
+    same(rt, told, room >= lines.len());
+    same(rt, out.taken(), &lines[..room.min(lines.len())]);
+    drop(out);
+}
+
+#[test]
+fn objects_are_lines_of_json(rt: HostRuntime) {
+    let mut segment = empty(&rt);
+    is_in_json(&rt, &segment, 100, b"");
+    fill(&rt, &mut segment);
+    is_in_json(&rt, &segment, 16384, ONE_OF_EACH_IN_JSON);
+    for room in [0, 11, 50, 56, 57, 100, 200, 300] {
+        is_in_json(&rt, &segment, room, ONE_OF_EACH_IN_JSON);
+    }
+    drop(segment);
+}
+
+#[test]
+fn texts_of_other_bytes_are_base64(rt: HostRuntime) {
+    let mut segment = empty(&rt);
+    let name = new_named(&rt, b"\xc3\xa4\"");
+    let texts: [&[u8]; 6] = [
+        b"\xc3\xa4\x1f\\/",
+        b"\xff",
+        b"\xf8\xfe",
+        b"Ma\xf3",
+        b"\0\x80\x80\x80",
+        b"",
+    ];
+    done(&rt, segment.construct_texts(&name, &texts));
+    is_in_json(&rt, &segment, 16384, TEXTS_IN_JSON);
+    for room in [60, 80, 97, 100, 130] {
+        is_in_json(&rt, &segment, room, TEXTS_IN_JSON);
+    }
+    drop(segment);
 }

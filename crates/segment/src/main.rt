@@ -14,7 +14,7 @@ use segment_disk::{HostDisk, Numbered, Outlet, Output, StopsAtError};
 use segment_invocation::{
     Answering, Invocation, InvocationFault, ModeName, Saving, VERSION, invocation, is_verbose,
 };
-use segment_scripts::{CommandRow, LANGUAGE};
+use segment_scripts::command_rows;
 use std::alloc::{AllocError, Global};
 use std::io::{self, BufWriter, ErrorKind, IsTerminal};
 use std::process::ExitCode;
@@ -102,8 +102,8 @@ fn command<O: Output + Drop>(
         Invocation::Load(file, size) => {
             load(alloc, disk, file, size, &mut Reading::new(rt.reader()))
         }
-        Invocation::Lint => lint(language(), &mut Reading::new(rt.reader()), &mut out),
-        Invocation::Language => print_language(&mut out, language()),
+        Invocation::Lint => lint(command_rows(), &mut Reading::new(rt.reader()), &mut out),
+        Invocation::Language => print_language(&mut out, command_rows()),
         Invocation::Version => print(&mut out, VERSION),
     }
 }
@@ -158,11 +158,6 @@ fn answer_as<O: Output + Drop>(
     }
     let mut out = out;
     run(alloc, disk, file, mode, size, saving, &mut script, &mut out)
-}
-
-/// The commands of a script. They stand in a function of their own, since a table is dear to prove beside calls.
-fn language() -> &'static [CommandRow] {
-    &LANGUAGE
 }
 
 /// The file that the command line names, if there is one.

@@ -109,6 +109,7 @@ pub use Rattle.segment_dump.specs.Filling.{head_of}
 pub use Rattle.segment_dump.specs.Items.{Content, Item, Items, Map, Scalars, String, Strings, Vector, anonymous_objects}
 pub use Rattle.segment_dump.specs.Items.{bytes_in, content_of, count_of_content, item_of_object, kind_of_content}
 pub use Rattle.segment_dump.specs.Items.{portable}
+pub use Rattle.segment_dump.specs.Layouts.{Spelling, in_lines, laid_at, laid_from, laid_object, laid_out}
 pub use Rattle.segment_dump.specs.Leads.{IsSmall, closed_text, entries_text}
 pub use Rattle.segment_dump.specs.Lines.{IsShortLine, IsWordOf, ReadsEnd, ReadsLine, ReadsThis, ReadsWord, any_word}
 pub use Rattle.segment_dump.specs.Lines.{bare_word, quoted_word, text, value_word}
@@ -119,8 +120,7 @@ pub use Rattle.segment_dump.specs.Need.{only_room, text_needs, texts_needs}
 unfoldable pub use Rattle.segment_dump.specs.Need.{block_room, front_room, object_room}
 pub use Rattle.segment_dump.specs.Notes.{are_notes, before_notes, ends_line, is_line, without_notes}
 pub use Rattle.segment_dump.specs.Order.{all_items}
-pub use Rattle.segment_dump.specs.Owed.{WritesOf, all_text, count_at, lines_at, object_count, object_lines}
-pub use Rattle.segment_dump.specs.Owed.{where_anonymous}
+pub use Rattle.segment_dump.specs.Owed.{WritesOf, all_text, count_at, object_count, where_anonymous}
 pub use Rattle.segment_dump.specs.Parts.{part_of, parts_until}
 pub use Rattle.segment_dump.specs.Places.{place_behind}
 pub use Rattle.segment_dump.specs.Reads.{Any, AreLines, Breaks, HasNoEnd, IsWord, Reads, Skips, ended, itself}

@@ -1,4 +1,4 @@
--- The lines of an object's elements are those that its value has in a dump.
+-- The texts of an object's elements are those of its value, whatever their layout.
 use Rattle.segment_dump.proofs.Common.{◌≡◌, ℕ, suc, ℤ, Bool, true, false, ◌&&◌, List, [], ◌∷◌, ◌++◌, length, map}
 use Rattle.segment_dump.proofs.Common.{Option, Some, None, Result, Ok, Err, if◌then◌else◌, slice_get, refl, sym, ap}
 use Rattle.segment_dump.proofs.Common.{subst, ◌∙◌, option_map, flat_map, free_bytes, Table, Scalar, ScalarKind, Refusal}
@@ -8,8 +8,8 @@ use Rattle.segment_dump.proofs.Common.{Value, Numbers, Elements, Bytes, Pairs, T
 use Rattle.segment_dump.proofs.Common.{named_objects, object_at, unique_objects, SaysOf, IsLocated, Plan, Reply}
 use Rattle.segment_dump.proofs.Common.{perform, with, Answers, State, StandsFor, effect, step, step_of_kind, said-at}
 use Rattle.segment_dump.proofs.Common.{element_part, element_text, length_in, string_part, text_part, bytes_in}
-use Rattle.segment_dump.proofs.Common.{content_of, count_of_content, count_at, lines_at, object_count, object_lines}
-use Rattle.segment_dump.proofs.Common.{part_of, parts_until, content_text, element_line, text_lines}
+use Rattle.segment_dump.proofs.Common.{content_of, count_of_content, count_at, object_count}
+use Rattle.segment_dump.proofs.Common.{part_of, parts_until, Spelling, laid_at, laid_from, laid_object, laid_out}
 use Rattle.std.specs.Prelude.{is_some}
 use Rattle.seg_types.specs.declared.kinds.Kind.TheVariants.{String, Strings as StringsKind, Vector}
 use Rattle.seg_types.specs.Commands.{is_changing}
@@ -23,7 +23,8 @@ use Rattle.segment_manager.specs.Directory.{count_of}
 use Rattle.segment_manager.specs.objects.Located.{located}
 use Rattle.segment_manager.specs.Plan.{Refuse}
 use Rattle.segment_manager.specs.Step.{get, is_read_only}
-use Rattle.segment_dump.proofs.PartLines.{parts-all, parts-same}
+use Rattle.segment_dump.proofs.Laid.{laid-made, parts-laid}
+use Rattle.segment_dump.proofs.PartLines.{parts-same}
 use Rattle.seg_types.specs.declared.refusals.Refusal.TheVariants as refusal
 use Rattle.seg_types.specs.Commands as asked
 
@@ -71,47 +72,49 @@ going_on next r = with (elim r as (λ _. Result Object Refusal) [ None ↦ Err N
 abbrev element_of : Directory → ScalarKind → Option ℤ → Plan
 element_of d k r = with (elim r as (λ _. Result ℤ Refusal) [ None ↦ Err OutOfRange | Some z ↦ Ok z ]) (λ z. Reply (Element k z) d)
 
-element-if : (d : Directory) (k : ScalarKind) (r : Option ℤ) → element_text (perform d (live d) (element_of d k r)).0 ≡ part_of (element_line k) r
-element-if d k None = refl
-element-if d k (Some z) = refl
+element-if : (sp : Spelling) (i : ℕ) (d : Directory) (k : ScalarKind) (r : Option ℤ)
+    → element_text sp i (perform d (live d) (element_of d k r)).0 ≡ part_of (sp.scalar i k) r
+element-if sp i d k None = refl
+element-if sp i d k (Some z) = refl
 
--- numbers, alone or in a vector, by how they are read and by their lines
+-- numbers, alone or in a vector, by how they are read and by their texts
 record IsRow (v : Value) (k : ScalarKind) (zs : List ℤ) : Type 0 where
   gets : (d : Directory) (i : ℕ) → get d v i ≡ element_of d k (slice_get zs i)
-  lines : content_text (content_of v) ≡ flat_map (element_line k) zs
+  laid : (sp : Spelling) → laid_out sp (content_of v) ≡ laid_from (λ j z. sp.scalar j k z) 0 zs
 
 numbers-row : (k : ScalarKind) (zs : List ℤ) → IsRow (Numbers k zs) k zs
-numbers-row k zs = record { gets = λ d i. refl; lines = refl }
+numbers-row k zs = record { gets = λ d i. refl; laid = λ sp. refl }
 
 vector-row : (k : ScalarKind) (zs : List ℤ) (t : Table) → IsRow (Elements k zs t) k zs
-vector-row k zs t = record { gets = λ d i. refl; lines = refl }
+vector-row k zs t = record { gets = λ d i. refl; laid = λ sp. refl }
 
-element-is : (mode : Mode) (d : Directory) (key : Key) (o : Object) (k : ScalarKind) (zs : List ℤ) (i : ℕ) → object_at d key ≡ Some o → IsRow o.value k zs
-    → element_part mode d key i ≡ part_of (element_line k) (slice_get zs i)
-element-is mode d key o k zs i e row =
-    ap element_text (answered-reads mode d (asked.Get key i) refl)
-    ∙ ap (λ (r : Option Object). element_text (perform d (live d) (going_on (λ o. get d o.value i) r)).0) e
-    ∙ ap (λ (p : Plan). element_text (perform d (live d) p).0) (row.gets d i)
-    ∙ element-if d k (slice_get zs i)
+element-is : (sp : Spelling) (mode : Mode) (d : Directory) (key : Key) (o : Object) (k : ScalarKind) (zs : List ℤ) (i : ℕ) → object_at d key ≡ Some o → IsRow o.value k zs
+    → element_part sp mode d key i ≡ part_of (sp.scalar i k) (slice_get zs i)
+element-is sp mode d key o k zs i e row =
+    ap (element_text sp i) (answered-reads mode d (asked.Get key i) refl)
+    ∙ ap (λ (r : Option Object). element_text sp i (perform d (live d) (going_on (λ o. get d o.value i) r)).0) e
+    ∙ ap (λ (p : Plan). element_text sp i (perform d (live d) p).0) (row.gets d i)
+    ∙ element-if sp i d k (slice_get zs i)
 
 -- all of them
-row-lines : (mode : Mode) (d : Directory) (key : Key) (o : Object) (k : ScalarKind) (zs : List ℤ) → object_at d key ≡ Some o → IsRow o.value k zs
-    → parts_until (element_part mode d key) (length zs) ≡ object_lines o
-row-lines mode d key o k zs e row =
-    parts-same (element_part mode d key) (λ i. part_of (element_line k) (slice_get zs i)) (length zs) (λ i. element-is mode d key o k zs i e row)
-    ∙ parts-all (element_line k) zs ∙ sym row.lines
+row-laid : (sp : Spelling) (mode : Mode) (d : Directory) (key : Key) (o : Object) (k : ScalarKind) (zs : List ℤ) → object_at d key ≡ Some o → IsRow o.value k zs
+    → parts_until (element_part sp mode d key) (length zs) ≡ laid_object sp o
+row-laid sp mode d key o k zs e row =
+    parts-same (element_part sp mode d key) (λ i. part_of (sp.scalar i k) (slice_get zs i)) (length zs) (λ i. element-is sp mode d key o k zs i e row)
+    ∙ parts-laid (λ i z. sp.scalar i k z) zs ∙ sym (row.laid sp)
 
 -- ---- texts
 
-abbrev owned_lines : OwnedText → List ℕ
-owned_lines p = text_lines p.bytes
+abbrev owned_text : Spelling → ℕ → OwnedText → List ℕ
+owned_text sp i p = sp.text i p.bytes
 
 abbrev text_read : Directory → Option OwnedText → Plan
 text_read d r = with (elim r as (λ _. Result OwnedText Refusal) [ None ↦ Err OutOfRange | Some p ↦ Ok p ]) (λ p. Reply (TextElement p.bytes) d)
 
-text-if : (d : Directory) (r : Option OwnedText) → element_text (perform d (live d) (text_read d r)).0 ≡ part_of owned_lines r
-text-if d None = refl
-text-if d (Some p) = refl
+text-if : (sp : Spelling) (i : ℕ) (d : Directory) (r : Option OwnedText)
+    → element_text sp i (perform d (live d) (text_read d r)).0 ≡ part_of (owned_text sp i) r
+text-if sp i d None = refl
+text-if sp i d (Some p) = refl
 
 abbrev for_texts : Directory → Key → ℕ → Value → Plan
 for_texts d key i v = if same_kind StringsKind (kind_of v) then effect d (asked.Get key i) else Refuse WrongKind
@@ -129,21 +132,21 @@ unfolding step_of_kind
 asked-step mode d key i =
     ap (λ p. (perform d (live d) p).0) (read-only (is_read_only mode && false) (going_on (λ o. for_texts d key i o.value) (object_at d key)) (never (is_read_only mode)))
 
-text-is : (mode : Mode) (d : Directory) (key : Key) (o : Object) (ps : List OwnedText) (t : Table) (i : ℕ) → object_at d key ≡ Some o → o.value ≡ Texts ps t
-    → text_part mode d key i ≡ part_of owned_lines (slice_get ps i)
-text-is mode d key o ps t i e f =
-    ap element_text (asked-step mode d key i)
-    ∙ ap (λ (r : Option Object). element_text (perform d (live d) (going_on (λ o. for_texts d key i o.value) r)).0) e
-    ∙ ap (λ (v : Value). element_text (perform d (live d) (for_texts d key i v)).0) f
-    ∙ ap (λ (r : Option Object). element_text (perform d (live d) (going_on (λ o. get d o.value i) r)).0) e
-    ∙ ap (λ (v : Value). element_text (perform d (live d) (get d v i)).0) f
-    ∙ text-if d (slice_get ps i)
+text-is : (sp : Spelling) (mode : Mode) (d : Directory) (key : Key) (o : Object) (ps : List OwnedText) (t : Table) (i : ℕ) → object_at d key ≡ Some o → o.value ≡ Texts ps t
+    → text_part sp mode d key i ≡ part_of (owned_text sp i) (slice_get ps i)
+text-is sp mode d key o ps t i e f =
+    ap (element_text sp i) (asked-step mode d key i)
+    ∙ ap (λ (r : Option Object). element_text sp i (perform d (live d) (going_on (λ o. for_texts d key i o.value) r)).0) e
+    ∙ ap (λ (v : Value). element_text sp i (perform d (live d) (for_texts d key i v)).0) f
+    ∙ ap (λ (r : Option Object). element_text sp i (perform d (live d) (going_on (λ o. get d o.value i) r)).0) e
+    ∙ ap (λ (v : Value). element_text sp i (perform d (live d) (get d v i)).0) f
+    ∙ text-if sp i d (slice_get ps i)
 
-texts-lines : (mode : Mode) (d : Directory) (key : Key) (o : Object) (ps : List OwnedText) (t : Table) → object_at d key ≡ Some o → o.value ≡ Texts ps t
-    → parts_until (text_part mode d key) (length ps) ≡ object_lines o
-texts-lines mode d key o ps t e f =
-    parts-same (text_part mode d key) (λ i. part_of owned_lines (slice_get ps i)) (length ps) (λ i. text-is mode d key o ps t i e f)
-    ∙ parts-all owned_lines ps ∙ sym (flat_map-made text_lines bytes_in ps) ∙ ap (λ v. content_text (content_of v)) (sym f)
+texts-laid : (sp : Spelling) (mode : Mode) (d : Directory) (key : Key) (o : Object) (ps : List OwnedText) (t : Table) → object_at d key ≡ Some o → o.value ≡ Texts ps t
+    → parts_until (text_part sp mode d key) (length ps) ≡ laid_object sp o
+texts-laid sp mode d key o ps t e f =
+    parts-same (text_part sp mode d key) (λ i. part_of (owned_text sp i) (slice_get ps i)) (length ps) (λ i. text-is sp mode d key o ps t i e f)
+    ∙ parts-laid (owned_text sp) ps ∙ sym (laid-made sp.text bytes_in 0 ps) ∙ ap (λ v. laid_out sp (content_of v)) (sym f)
 
 -- ---- the kinds
 
@@ -241,25 +244,25 @@ module _ (s : State) (o : Located) (l : IsLocated s (ByHandle o.handle) o) where
   pub scalars-at : (k : ScalarKind) → elements_of o.kind ≡ Ok k → HasScalars s (ByHandle o.handle)
   scalars-at k e = (k, record { answers = λ d st. sym e ∙ ap elements_of (kind-said d st) ∙ sym (ap elements_of_object (said-at s (ByHandle o.handle) o l d st).is) })
 
-  module _ (n : ℕ) (counted : Answers s (λ d. count_at d (ByHandle o.handle)) n) where
+  module _ (sp : Spelling) (n : ℕ) (counted : Answers s (λ d. count_at d (ByHandle o.handle)) n) where
     count-said : (d : Directory) (st : StandsFor s.cut.bytes d) → n ≡ object_count (said-at s (ByHandle o.handle) o l d st).object
     count-said d st = counted.answers d st ∙ ap count_of_object (said-at s (ByHandle o.handle) o l d st).is
 
     row-said : (d : Directory) (st : StandsFor s.cut.bytes d) (k : ScalarKind) (zs : List ℤ) → n ≡ length zs → IsRow (said-at s (ByHandle o.handle) o l d st).object.value k zs
-        → parts_until (element_part s.mode d (ByHandle o.handle)) n ≡ lines_at d (ByHandle o.handle)
+        → parts_until (element_part sp s.mode d (ByHandle o.handle)) n ≡ laid_at sp d (ByHandle o.handle)
     row-said d st k zs long row =
         let f = said-at s (ByHandle o.handle) o l d st in
-        ap (parts_until (element_part s.mode d (ByHandle o.handle))) long ∙ row-lines s.mode d (ByHandle o.handle) f.object k zs f.is row ∙ sym (ap (part_of object_lines) f.is)
+        ap (parts_until (element_part sp s.mode d (ByHandle o.handle))) long ∙ row-laid sp s.mode d (ByHandle o.handle) f.object k zs f.is row ∙ sym (ap (part_of (laid_object sp)) f.is)
 
     -- scalars
-    pub scalars-said : (k : ScalarKind) → o.kind ≡ Scalar k → (d : Directory) → StandsFor s.cut.bytes d → parts_until (element_part s.mode d (ByHandle o.handle)) n ≡ lines_at d (ByHandle o.handle)
+    pub scalars-said : (k : ScalarKind) → o.kind ≡ Scalar k → (d : Directory) → StandsFor s.cut.bytes d → parts_until (element_part sp s.mode d (ByHandle o.handle)) n ≡ laid_at sp d (ByHandle o.handle)
     scalars-said k e d st =
         let f = said-at s (ByHandle o.handle) o l d st in
         let v : IsNumbers k f.object.value = numbers-if k f.object.value (sym (kind-said d st) ∙ e) in
         row-said d st k v.numbers (count-said d st ∙ ap (λ w. count_of_content (content_of w)) v.is) (subst (λ w. IsRow w k v.numbers) (sym v.is) (numbers-row k v.numbers))
 
     -- a vector of them
-    pub vector-said : (k : ScalarKind) → o.kind ≡ Vector k → (d : Directory) → StandsFor s.cut.bytes d → parts_until (element_part s.mode d (ByHandle o.handle)) n ≡ lines_at d (ByHandle o.handle)
+    pub vector-said : (k : ScalarKind) → o.kind ≡ Vector k → (d : Directory) → StandsFor s.cut.bytes d → parts_until (element_part sp s.mode d (ByHandle o.handle)) n ≡ laid_at sp d (ByHandle o.handle)
     vector-said k e d st =
         let f = said-at s (ByHandle o.handle) o l d st in
         let v : IsElements k f.object.value = vector-if k f.object.value (sym (kind-said d st) ∙ e) in
@@ -267,20 +270,20 @@ module _ (s : State) (o : Located) (l : IsLocated s (ByHandle o.handle) o) where
         (subst (λ w. IsRow w k v.numbers) (sym v.is) (vector-row k v.numbers v.table))
 
     -- a vector of strings
-    pub strings-said : o.kind ≡ StringsKind → (d : Directory) → StandsFor s.cut.bytes d → parts_until (text_part s.mode d (ByHandle o.handle)) n ≡ lines_at d (ByHandle o.handle)
+    pub strings-said : o.kind ≡ StringsKind → (d : Directory) → StandsFor s.cut.bytes d → parts_until (text_part sp s.mode d (ByHandle o.handle)) n ≡ laid_at sp d (ByHandle o.handle)
     strings-said e d st =
         let f = said-at s (ByHandle o.handle) o l d st in
         let v : IsTexts f.object.value = texts-if f.object.value (sym (kind-said d st) ∙ e) in
         let long : n ≡ length v.texts = count-said d st ∙ ap (λ w. count_of_content (content_of w)) v.is ∙ length-made bytes_in v.texts in
-        ap (parts_until (text_part s.mode d (ByHandle o.handle))) long ∙ texts-lines s.mode d (ByHandle o.handle) f.object v.texts v.table f.is v.is ∙ sym (ap (part_of object_lines) f.is)
+        ap (parts_until (text_part sp s.mode d (ByHandle o.handle))) long ∙ texts-laid sp s.mode d (ByHandle o.handle) f.object v.texts v.table f.is v.is ∙ sym (ap (part_of (laid_object sp)) f.is)
 
   -- a string
-  pub string-said : o.kind ≡ String → (d : Directory) → StandsFor s.cut.bytes d → string_part (bytes_at d (ByHandle o.handle)) ≡ lines_at d (ByHandle o.handle)
-  string-said e d st =
+  pub string-said : (sp : Spelling) → o.kind ≡ String → (d : Directory) → StandsFor s.cut.bytes d → string_part sp (bytes_at d (ByHandle o.handle)) ≡ laid_at sp d (ByHandle o.handle)
+  string-said sp e d st =
       let f = said-at s (ByHandle o.handle) o l d st in
       let v : IsBytes f.object.value = bytes-if f.object.value (sym (kind-said d st) ∙ e) in
-      ap (λ (r : Option Object). string_part (bytes_of_object r)) f.is ∙ ap (λ w. string_part (text_bytes w)) v.is
-      ∙ sym (ap (part_of object_lines) f.is ∙ ap (λ w. content_text (content_of w)) v.is)
+      ap (λ (r : Option Object). string_part sp (bytes_of_object r)) f.is ∙ ap (λ w. string_part sp (text_bytes w)) v.is
+      ∙ sym (ap (part_of (laid_object sp)) f.is ∙ ap (λ w. laid_out sp (content_of w)) v.is)
 
 -- what an object says of itself is what is located under its handle
 pub said-located : (s : State) (said : Instance) → SaysOf s (ByHandle said.handle) said

@@ -1,9 +1,11 @@
 -- Worked examples: elements and texts, as a dump has them.
 use Rattle.segment_dump.proofs.Common.{◌≡◌, [], ◌∷◌, ◌++◌, List, ℕ, map, None, refl, digits, pos, negsuc, codes}
 use Rattle.segment_dump.proofs.Common.{replicate, Table, no_table, I32, I64, Anonymous, Named, Unique, Directory}
-use Rattle.segment_dump.proofs.Common.{Object, Value, Class, capacities, capacities_text, Items, Vector, Map, Strings}
+use Rattle.segment_dump.proofs.Common.{Object, Value, Class, capacities, capacities_text, Items, Scalars, Vector, Map}
+use Rattle.segment_dump.proofs.Common.{Strings}
 use Rattle.segment_dump.proofs.Common.{block_room, front_room, items_needs, object_room, without_notes, place_behind}
 use Rattle.segment_dump.proofs.Common.{content_text, pieces_text}
+use Rattle.segment_dump.specs.Json.{base64_text, json_dump, json_string}
 use Rattle.block_tags.specs.declared.tile.Role.TheVariants.{Object as ObjectRole}
 use Rattle.seg_types.specs.declared.kinds.ScalarKind.TheVariants.{Bool}
 use Rattle.segment_manager.specs.Directory as directory
@@ -88,3 +90,29 @@ told : capacities_text (capacities some_directory)
     ++ line (codes "# capacity of anonymous string: 16")
 unfolding digits
 told = refl
+
+-- ---- lines of JSON
+
+abbrev json_items : Items
+json_items = record {
+  named = record { class = Named; name = codes "a\"b"; content = Scalars I64 (pos 1 ∷ negsuc 1 ∷ []) } ∷ [];
+  unique = record { class = Unique; name = []; content = Map I32 Bool ((negsuc 6, pos 0) ∷ (pos 7, pos 1) ∷ []) } ∷ [];
+  anonymous = record { class = Anonymous; name = []; content = Vector Bool (pos 0 ∷ pos 1 ∷ []) } ∷ [];
+}
+
+in-json : json_dump json_items
+    ≡ line (codes "{\"class\":\"named\",\"name\":\"a\\\"b\",\"kind\":\"i64\",\"value\":[1,-2]}")
+    ++ line (codes "{\"class\":\"unique\",\"name\":null,\"kind\":\"map<i32,bool>\",\"value\":[[-7,false],[7,true]]}")
+    ++ line (codes "{\"class\":\"anonymous\",\"name\":null,\"kind\":\"vec<bool>\",\"value\":[false,true]}")
+unfolding digits
+in-json = refl
+
+-- the words of RFC 4648, section 10
+base64 : map base64_text (codes "f" ∷ codes "fo" ∷ codes "foo" ∷ codes "foobar" ∷ []) ≡ codes "Zg==" ∷ codes "Zm8=" ∷ codes "Zm9v" ∷ codes "Zm9vYmFy" ∷ []
+base64 = refl
+
+base64-all : base64_text (0 ∷ 0x10 ∷ 0x83 ∷ 0xFB ∷ 0xFF ∷ 0xBF ∷ []) ≡ codes "ABCD+/+/"
+base64-all = refl
+
+in-quotes : json_string (0x61 ∷ 0x0A ∷ 0x22 ∷ 0x5C ∷ 0x7F ∷ 0xC3 ∷ 0xA4 ∷ []) ≡ codes "\"a\\u000a\\\"\\\\" ++ 0x7F ∷ 0xC3 ∷ 0xA4 ∷ 0x22 ∷ []
+in-quotes = refl

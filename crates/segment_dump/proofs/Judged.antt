@@ -54,9 +54,22 @@ pub wrong-why : (text region : List ℕ) (base : ℕ) (size : Option ℕ) (room 
 wrong-why text region base size room (Bad bad) h = h
 wrong-why text region base size room cause h = absurd h
 
+-- the region comes back, or is let go
+pub back-some : (region : List ℕ) (cause : LoadError) → IsBack cause region (Some region)
+back-some region (Bad bad) = refl
+back-some region cause = refl
+
+back-wrong : (text region : List ℕ) (cause : LoadError) → IsWrong text cause → (back : Option (List ℕ)) → back ≡ None
+    → IsBack cause region back
+back-wrong text region (Bad bad) h back e = subst (IsBack (Bad bad) region) (sym e) tt
+back-wrong text region cause h back e = absurd h
+
 -- one that was begun is let go
 pub let-go : (text region : List ℕ) (base : ℕ) (size : Option ℕ) (room : ℕ) (refused : LoadRefused) → IsLetGo text refused → IsNotLoaded text region base size room refused
-let-go text region base size room refused h = record { why = wrong-why text region base size room refused.cause h.why; back = subst (IsBack region) (sym h.gone) tt }
+let-go text region base size room refused h = record {
+  why = wrong-why text region base size room refused.cause h.why;
+  back = back-wrong text region refused.cause h.why refused.region h.gone;
+}
 
 pub judged : (text region : List ℕ) (base : ℕ) (size : Option ℕ) (room : ℕ) (r : Result State LoadRefused) → MatchResult r (IsJudged text size) (IsLetGo text)
     → MatchResult r (IsLoaded text size) (IsNotLoaded text region base size room)
@@ -69,7 +82,7 @@ pub not-created : (text region : List ℕ) (base : ℕ) (size : Option ℕ) (roo
     → IsWrong text said.cause → IsNotLoaded text region base size room said
 not-created text region base size room n refused said h e w = record {
   why = wrong-why text region base size room said.cause w;
-  back = subst (IsBack region) (sym e) h.region_same;
+  back = subst (IsBack said.cause region) (sym (e ∙ ap Some h.region_same)) (back-some region said.cause);
 }
 
 -- ---- too little of something for the objects of a segment

@@ -14,6 +14,7 @@ mod Judged
 mod PartLines
 mod Owed
 mod Members
+mod Laid
 mod Elements
 mod WalkedPairs
 mod Sections
@@ -53,3 +54,7 @@ mod NoteLines
 mod PlaceNotes
 mod NoteLaws
 mod SaidSizes
+mod HereObjects
+mod FrontPlaces
+mod JsonLines
+mod Base64

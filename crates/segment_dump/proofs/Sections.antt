@@ -5,12 +5,13 @@ use Rattle.segment_dump.proofs.Common.{flat_map, AllByRecursion, take_all, Class
 use Rattle.segment_dump.proofs.Common.{ByHandle, Instance, Directory, Object, is_class, named_objects, object_at}
 use Rattle.segment_dump.proofs.Common.{unique_objects, SaysOf, SaysAt, Answers, State, StandsFor, anonymous_objects}
 use Rattle.segment_dump.proofs.Common.{content_of, item_of_object, kind_of_content, portable, all_text, count_at}
-use Rattle.segment_dump.proofs.Common.{lines_at, object_count, object_lines, where_anonymous, WritesOf, part_of}
+use Rattle.segment_dump.proofs.Common.{object_count, where_anonymous, WritesOf, part_of, in_lines, laid_at, laid_object}
 use Rattle.segment_dump.proofs.Common.{parts_until, dump_text, end_text, front_text, head_line, item_text, items_text}
 use Rattle.segment_dump.proofs.Common.{IsErr, Took}
 use Rattle.segment_dump.specs.Owed.{object_text, objects_text, text_at}
 use Rattle.std.proofs.lemmas.Option.{slice_get_within}
 use Rattle.segment_dump.proofs.Elements.{flat_map-made, length-made, count_of_object}
+use Rattle.segment_dump.proofs.Laid.{laid-lines}
 use Rattle.segment_dump.proofs.PartLines.{parts-all, parts-taken, well}
 use Rattle.segment_dump.proofs.Orders.{kind-made}
 use Rattle.segment_dump.proofs.Members.{IsFoundIn, text-of}
@@ -68,12 +69,14 @@ places-all objects text i w all = of-same (of-all (object_at_place text objects)
 
 -- the line that is made of what is said, and the lines of the elements, are the text of the object
 pub entry-text : (s : State) (said : Instance) (n : ℕ) → SaysOf s (ByHandle said.handle) said → Answers s (λ d. count_at d (ByHandle said.handle)) n → (d : Directory) → StandsFor s.cut.bytes d
-    → head_line said.class said.name.now said.kind n ++ lines_at d (ByHandle said.handle) ≡ text_at d (ByHandle said.handle)
+    → head_line said.class said.name.now said.kind n ++ laid_at in_lines d (ByHandle said.handle) ≡ text_at d (ByHandle said.handle)
 entry-text s said n h a d st =
     let f = h.says d st in
     let count : n ≡ object_count f.0 = a.answers d st ∙ ap count_of_object f.1 in
     let kind : said.kind ≡ kind_of_content (content_of f.0.value) = f.2.kind ∙ sym (kind-made f.0.value) in
-    (λ i. head_line (f.2.class i) (f.2.name i) (kind i) (count i) ++ part_of object_lines (f.1 i)) ∙ sym (ap (part_of object_text) f.1)
+    (λ i. head_line (f.2.class i) (f.2.name i) (kind i) (count i) ++ part_of (laid_object in_lines) (f.1 i))
+    ∙ ap (λ l. head_line f.0.class f.0.name (kind_of_content (content_of f.0.value)) (object_count f.0) ++ l) (laid-lines (content_of f.0.value))
+    ∙ sym (ap (part_of object_text) f.1)
 
 -- ---- the anonymous objects among all, in a text of each
 

@@ -19,3 +19,5 @@ pub mod Filling
 pub mod Builders
 pub mod Order
 pub mod Succeeding
+pub mod Layouts
+pub mod Json

@@ -127,14 +127,18 @@ pub record IsLacking (text : List ℕ) (capacity base : ℕ) (size : Option ℕ)
   pub counts : CountsDump text (Ok count)
   pub lacks : refusal_for capacity base size room count ≡ Some cause
 
--- the region comes back as it was, if it does
-abbrev pub IsBack : List ℕ → Option (List ℕ) → Type 0
-IsBack region None = ⊤
-IsBack region (Some back) = back ≡ region
+-- the region comes back as it was, but that it may be let go where the text is wrong
+abbrev pub IsBack : LoadError → List ℕ → Option (List ℕ) → Type 0
+IsBack (Bad bad) region None = ⊤
+IsBack (Bad bad) region (Some back) = back ≡ region
+IsBack BadSize region back = back ≡ Some region
+IsBack RegionTooSmall region back = back ≡ Some region
+IsBack NoSpace region back = back ≡ Some region
+IsBack LongText region back = back ≡ Some region
 
 pub record IsNotLoaded (text region : List ℕ) (base : ℕ) (size : Option ℕ) (room : ℕ) (refused : LoadRefused) : Type 0 where
   pub why : IsWhyNot text region base size room refused.cause
-  pub back : IsBack region refused.region
+  pub back : IsBack refused.cause region refused.region
 
 -- a segment was begun, and its region is let go: the text is wrong
 pub record IsLetGo (text : List ℕ) (refused : LoadRefused) : Type 0 where

@@ -9,7 +9,7 @@ use Rattle.segment_manager.specs.Directory.{Directory, Object, is_class, named_o
 use Rattle.segment_manager.specs.State.{State, StandsFor}
 use Rattle.segment_dump.specs.Items.{anonymous_objects, content_of, count_of_content, item_of_object}
 use Rattle.segment_dump.specs.Parts.{part_of}
-use Rattle.segment_dump.specs.Texts.{content_text, end_text, item_text}
+use Rattle.segment_dump.specs.Texts.{end_text, item_text}
 
 -- the text that is owed of each directory; and whichever it is, a failure is counted once
 pub record WritesOf {A E : Type 0} (s : State) (old new : Took) (result : Result A E) (owed : Directory → List ℕ) : Type 0 where
@@ -20,16 +20,9 @@ pub record WritesOf {A E : Type 0} (s : State) (old new : Took) (result : Result
 abbrev pub object_count : Object → ℕ
 object_count o = count_of_content (content_of o.value)
 
--- the elements of an object, line by line
-abbrev pub object_lines : Object → List ℕ
-object_lines o = content_text (content_of o.value)
-
 -- all lines of an object
 abbrev pub object_text : Object → List ℕ
 object_text o = item_text (item_of_object o)
-
-abbrev pub lines_at : Directory → Key → List ℕ
-lines_at d key = part_of object_lines (object_at d key)
 
 abbrev pub text_at : Directory → Key → List ℕ
 text_at d key = part_of object_text (object_at d key)

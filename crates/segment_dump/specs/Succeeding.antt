@@ -56,6 +56,10 @@ entries_said p = ended (entries_line p)
 abbrev pub IsNumber : ℕ → Type 0
 IsNumber n = n < 2 ^ 64
 
+-- what is left of a text whose first two lines are a dump's is what stands behind them
+pub record LeavesThird (text : List ℕ) (left : ℕ) : Type 0 where
+  pub leaves : (n : ℕ) (rest : List ℕ) → IsNumber n → text ≡ version_said tt ++ (size_said n ++ rest) → left ≡ length rest
+
 abbrev pub AreNumbers : ℕ × ℕ → Type 0
 AreNumbers p = IsNumber p.0 × IsNumber p.1
 

@@ -1,22 +1,24 @@
 //! Objects made of the lines of a dump. Nothing here is believed: the segment that comes out is compared with the whole
 //! text.
-ghost use Rattle.std.specs.Prelude.{◌≡◌, ◌≤◌, ◌↔◌, ⊤, length, option_map, IsTrue, Some, None, if◌then◌else◌};
+ghost use Rattle.std.specs.Prelude.{◌≡◌, ◌≤◌, ◌↔◌, ⊤, [], length, option_map, IfOk, IsTrue, Some, None, if◌then◌else◌};
 ghost use Rattle.raw_region.specs.Format.{current};
-ghost use Rattle.seg_types.specs.Commands.{Construct};
+ghost use Rattle.seg_types.specs.Commands.{Construct, Elements};
 ghost use Rattle.seg_types.specs.Keys.{name_seen};
 ghost use Rattle.seg_types.specs.Names.{is_name};
 ghost use Rattle.segment_lang.specs.Seen.{bytes_said};
 ghost use Rattle.seg_types.specs.declared.kinds.Kind.{Kind as AnyKind};
 ghost use Rattle.seg_types.specs.declared.kinds.Kind.TheVariants.{Scalar as ScalarOf, Vector as VectorOf};
-ghost use Rattle.segment_manager.specs.State.{IsStep, handle_answer};
-ghost use Rattle.segment_dump.specs.Builders.{Builds, BuildsObject, IsCountOf, IsGone, ReadsClass, ReadsShape, StartsNamed, StartsNext, StartsUnder, first_content};
+ghost use Rattle.segment_manager.specs.State.{IsSegment, IsStep, handle_answer};
+ghost use Rattle.segment_manager.specs.containers.Filled.{Makes, alike};
+ghost use Rattle.segment_dump.specs.Builders.{Builds, BuildsObject, IsCountOf, IsGone, IsHere, ReadsClass, ReadsShape, StartsNamed, StartsNext, StartsUnder, first_content};
 
 use crate::faults::{DumpFault, Misfit};
 use crate::filling::fill;
 use crate::reading::{Lines, Words};
-use seg_types::{Class, Handle, Kind, MAX_ARRAY_LEN, Name, Refusal, ScalarKind, by_kind};
+use seg_types::{Class, Handle, Kind, MAX_ARRAY_LEN, Name, Refusal, Scalar, ScalarKind, by_kind};
 use segment_lang::{Text, Word, numbers_are_decimals, texts_are_spelled};
-use segment_manager::{AnonymousInstance, Destination, Segment, UniqueInstance};
+use segment_manager::conditioned::instance_here;
+use segment_manager::{AnonymousInstance, Destination, Object, Segment, UniqueInstance};
 
 /// Why building stops.
 #[derive(Clone, Copy, Debug, PartialEq, Eq)]
@@ -89,7 +91,21 @@ fn build_object(
     ensures { BuildsObject segment.old segment.new words.old lines.old lines.new (length room.old) result }
 {
     let (handle, shape) = start_next(segment, words, scratch)?;
-    fill(segment, handle, shape, lines, room, scratch)
+    let object = object_here(segment, handle);
+    fill(segment, object, shape, lines, room, scratch)
+}
+
+/// The object of a handle, so that no line that fills it looks it up.
+fn object_here(segment: &Segment, handle: Handle) -> Object
+    requires { IsHere segment.now handle }
+    ensures { result.handle ≡ handle }
+{
+    let said = instance_here(segment, handle);
+    Object {
+        handle,
+        kind: said.kind,
+        count: said.count,
+    }
 }
 
 /// Makes the object of a line, with room for its elements and none of them yet, or zeros.
@@ -98,7 +114,8 @@ fn start_next(
     words: &mut Words<'_>,
     scratch: &mut Text,
 ) -> Result<(Handle, Shape), Stop>
-    ensures { StartsNext segment.old segment.new words.old result }
+    ensures starts { StartsNext segment.old segment.new words.old result }
+    ensures here { IfOk result (λ made. IsHere segment.new made.0) }
 {
     match next_class(words)? {
         Class::Named => start_named(segment, words, scratch),
@@ -145,7 +162,8 @@ fn start_named(
     words: &mut Words<'_>,
     scratch: &mut Text,
 ) -> Result<(Handle, Shape), Stop>
-    ensures { StartsNamed segment.old segment.new words.old result }
+    ensures starts { StartsNamed segment.old segment.new words.old result }
+    ensures here { IfOk result (λ made. IsHere segment.new made.0) }
 {
     texts_are_spelled();
     let at = words.at();
@@ -173,9 +191,12 @@ fn start_under<D: Destination>(
     under: &D,
 ) -> Result<(Handle, Shape), Stop>
     requires { (kind : AnyKind) → D.suits under.now kind }
-    ensures { StartsUnder segment.old segment.new (D.key under.now) words.old result }
+    ensures starts { StartsUnder segment.old segment.new (D.key under.now) words.old result }
+    ensures here { IfOk result (λ made. IsHere segment.new made.0) }
 {
     let shape = next_shape(words)?;
+    // The bytes are those of a segment, and so what is made in it is there.
+    let _ = segment.as_bytes();
     match construct(segment, under, shape) {
         Ok(handle) => Ok((handle, shape)),
         Err(why) => Err(stop_of(why, shape.at)),
@@ -209,8 +230,10 @@ fn construct<D: Destination>(
     under: &D,
     shape: Shape,
 ) -> Result<Handle, Refusal>
-    requires { (kind : AnyKind) → D.suits under.now kind }
-    ensures { IsCountOf shape.kind shape.count → IsStep segment.old segment.new (Construct (D.key under.now shape.kind) (first_content shape.kind shape.count)) (handle_answer result) }
+    requires suits { (kind : AnyKind) → D.suits under.now kind }
+    requires segment { IsSegment segment.old.cut.bytes }
+    ensures step { IsCountOf shape.kind shape.count → IsStep segment.old segment.new (Construct (D.key under.now shape.kind) (first_content shape.kind shape.count)) (handle_answer result) }
+    ensures here { IfOk result (IsHere segment.new) }
 {
     match shape.kind {
         Kind::Scalar(kind) => construct_scalars(segment, under, kind, shape.count),
@@ -228,8 +251,10 @@ fn construct_scalars<D: Destination>(
     kind: ScalarKind,
     count: u64,
 ) -> Result<Handle, Refusal>
-    requires { (kind : AnyKind) → D.suits under.now kind }
-    ensures { IsCountOf (ScalarOf kind) count → IsStep segment.old segment.new (Construct (D.key under.now (ScalarOf kind)) (first_content (ScalarOf kind) count)) (handle_answer result) }
+    requires suits { (kind : AnyKind) → D.suits under.now kind }
+    requires segment { IsSegment segment.old.cut.bytes }
+    ensures step { IsCountOf (ScalarOf kind) count → IsStep segment.old segment.new (Construct (D.key under.now (ScalarOf kind)) (first_content (ScalarOf kind) count)) (handle_answer result) }
+    ensures here { IfOk result (IsHere segment.new) }
 {
     if count < 1 || count > MAX_ARRAY_LEN {
         return Err(Refusal::OutOfRange);
@@ -237,7 +262,7 @@ fn construct_scalars<D: Destination>(
     let count = count as u32;
     macro_rules! construct {
         ($type:ty, $kind:ident) => {
-            segment.construct(under, count, <$type>::default())
+            make_numbers(segment, under, count, <$type>::default())
         };
     }
     by_kind!(kind, construct)
@@ -249,13 +274,45 @@ fn construct_vector<D: Destination>(
     under: &D,
     kind: ScalarKind,
 ) -> Result<Handle, Refusal>
-    requires { (kind : AnyKind) → D.suits under.now kind }
-    ensures { IsStep segment.old segment.new (Construct (D.key under.now (VectorOf kind)) (first_content (VectorOf kind) 0)) (handle_answer result) }
+    requires suits { (kind : AnyKind) → D.suits under.now kind }
+    requires segment { IsSegment segment.old.cut.bytes }
+    ensures step { IsStep segment.old segment.new (Construct (D.key under.now (VectorOf kind)) (first_content (VectorOf kind) 0)) (handle_answer result) }
+    ensures here { IfOk result (IsHere segment.new) }
 {
     macro_rules! construct {
         ($type:ty, $kind:ident) => {
-            segment.construct_vec::<$type, D>(under, &[])
+            make_vector::<$type, D>(segment, under)
         };
     }
     by_kind!(kind, construct)
+}
+
+/// Makes as many times a number.
+fn make_numbers<T: Scalar, D: Destination>(
+    segment: &mut Segment,
+    under: &D,
+    count: u32,
+    value: T,
+) -> Result<Handle, Refusal>
+    requires kind { D.suits under.now (ScalarOf T.kind) }
+    requires some { 1 ≤ count }
+    requires few { count ≤ 1048576 }
+    requires segment { IsSegment segment.old.cut.bytes }
+    ensures step { Makes segment.old segment.new (D.key under.now (ScalarOf T.kind)) (alike T.kind count (T.whole value)) result }
+    ensures here { IfOk result (IsHere segment.new) }
+{
+    segment.construct(under, count, value)
+}
+
+/// Makes a vector without elements.
+fn make_vector<T: Scalar, D: Destination>(
+    segment: &mut Segment,
+    under: &D,
+) -> Result<Handle, Refusal>
+    requires kind { D.suits under.now (VectorOf T.kind) }
+    requires segment { IsSegment segment.old.cut.bytes }
+    ensures step { Makes segment.old segment.new (D.key under.now (VectorOf T.kind)) (Elements T.kind []) result }
+    ensures here { IfOk result (IsHere segment.new) }
+{
+    segment.construct_vec::<T, D>(under, &[])
 }

@@ -4,7 +4,8 @@ ghost use Rattle.std.specs.Bool.{OnTrue};
 ghost use Rattle.segment_dump.specs.Counting.{AreTexts, CountsDump, CountsObjects, IsContent, IsCountable, IsCounted, IsFront, fronted};
 ghost use Rattle.segment_dump.specs.Leads.{IsSmall};
 ghost use Rattle.segment_dump.specs.Need.{all_needs, block_room, item_needs, nothing, only_room, text_needs, texts_needs};
-ghost use Rattle.segment_dump.specs.Reads.{Any, AreLines, Reads, itself, lines_text, seen};
+ghost use Rattle.segment_dump.specs.Reads.{Any, AreLines, Reads, Skips, itself, lines_text, seen, seen_rest};
+ghost use Rattle.segment_dump.specs.Succeeding.{IsNumber, LeavesThird, size_said};
 ghost use Rattle.segment_dump.specs.Texts.{content_text, end_text, item_text, text_lines};
 
 use crate::front_reading::{
@@ -153,6 +154,27 @@ fn read_front(text: &[u8]) -> Option<(Front, &[u8])>
     ))
 }
 
+/// How many bytes are left from the first of the three lines on that cannot be read.
+fn front_left(text: &[u8]) -> usize
+    ensures { LeavesThird text.now result }
+{
+    let Some(sized) = behind(text, b"segment dump 1\n") else {
+        return text.len();
+    };
+    match behind_size(sized) {
+        Some(indexed) => indexed.len(),
+        None => sized.len(),
+    }
+}
+
+/// What is behind the line of the size.
+fn behind_size(text: &[u8]) -> Option<&[u8]>
+    ensures { Skips size_said IsNumber text.now (seen_rest result) }
+{
+    let (_, rest) = next_number(behind(text, b"size ")?)?;
+    behind(rest, b"\n")
+}
+
 /// What the objects of a dump need, and the size that it says: in a segment of fewer bytes than `needs.room`, or with
 /// less room than `needs.longest`, [`load`](crate::load) makes none of it.
 ///
@@ -164,7 +186,7 @@ pub fn count_dump(text: &[u8]) -> Result<Count, usize>
     ensures counted { IfOk result (IsCounted text.now) }
 {
     let Some((front, rest)) = read_front(text) else {
-        return Err(text.len());
+        return Err(front_left(text));
     };
     let indexes = only_room(front_room(front.named, front.unique));
     let objects = count_objects(rest)?;

@@ -7,6 +7,7 @@ ghost use Rattle.segment_dump.specs.Owed.{WritesOf, text_at};
 ghost use Rattle.segment_dump.specs.Texts.{head_line};
 
 use crate::contents::{count_of, put_content};
+use crate::layouts::InLines;
 use crate::objects::Telling;
 use raw_region::{DeviceFault, Sink};
 use seg_types::Class;
@@ -44,7 +45,7 @@ fn put_entry<W: Sink>(segment: &Segment, said: Instance<'_>, out: &mut W) -> Res
     };
     let count = count_of(segment, object);
     put_head(said, count, out)?;
-    put_content(segment, object, count, out)
+    put_content(&InLines, segment, object, count, out)
 }
 
 /// Writes the line of an object: its class, its name where it has one, its kind, and how many elements there are.

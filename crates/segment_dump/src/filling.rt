@@ -5,48 +5,51 @@ ghost use Rattle.seg_types.specs.Commands.{Push, Set, literal_of};
 ghost use Rattle.seg_types.specs.Names.{ByHandle};
 ghost use Rattle.seg_types.specs.Values.{kind_of_scalar, value_of_scalar};
 ghost use Rattle.segment_manager.specs.State.{IsStepOfKind, done_answer};
-ghost use Rattle.segment_dump.specs.Builders.{AddsElement, FillsElements, FillsNew, IsVectorKind};
+ghost use Rattle.segment_manager.specs.objects.Located.{IsObject};
+ghost use Rattle.segment_dump.specs.Builders.{AddsElement, FillsElements, FillsNew, IsHere, IsVectorKind};
 
 use crate::building::{Shape, Stop, misfit, stop_of};
 use crate::faults::DumpFault;
 use crate::filling_texts::{fill_string, push_text};
 use crate::reading::{Lines, next_pair, next_value};
-use seg_types::{Handle, Key, Kind, Refusal, ScalarKind, ScalarValue, by_value};
+use seg_types::{Kind, Refusal, ScalarKind, ScalarValue, by_value};
 use segment_lang::Text;
-use segment_manager::Segment;
+use segment_manager::{Object, Segment};
 
 /// Fills an object with what the next lines say.
 pub fn fill(
     segment: &mut Segment,
-    handle: Handle,
+    object: Object,
     shape: Shape,
     lines: &mut Lines<'_>,
     room: &mut [u8],
     scratch: &mut Text,
 ) -> Result<(), Stop>
-    ensures { FillsNew segment.old segment.new handle shape.kind shape.count lines.old lines.new (length room.old) result }
+    requires { IsHere segment.old object.handle }
+    ensures { FillsNew segment.old segment.new object.handle shape.kind shape.count lines.old lines.new (length room.old) result }
 {
     match shape.kind {
-        Kind::String => fill_string(segment, handle, lines, scratch),
-        Kind::Vector(_) => fill_reserved(segment, handle, shape, lines, room, scratch),
-        Kind::Strings => fill_reserved(segment, handle, shape, lines, room, scratch),
-        _ => fill_elements(segment, handle, shape, lines, room, scratch),
+        Kind::String => fill_string(segment, object, lines, scratch),
+        Kind::Vector(_) => fill_reserved(segment, object, shape, lines, room, scratch),
+        Kind::Strings => fill_reserved(segment, object, shape, lines, room, scratch),
+        _ => fill_elements(segment, object, shape, lines, room, scratch),
     }
 }
 
 /// Fills a vector, with places for just as many elements.
 fn fill_reserved(
     segment: &mut Segment,
-    handle: Handle,
+    object: Object,
     shape: Shape,
     lines: &mut Lines<'_>,
     room: &mut [u8],
     scratch: &mut Text,
 ) -> Result<(), Stop>
-    ensures { IsVectorKind shape.kind → FillsNew segment.old segment.new handle shape.kind shape.count lines.old lines.new (length room.old) result }
+    requires { IsHere segment.old object.handle }
+    ensures { IsVectorKind shape.kind → FillsNew segment.old segment.new object.handle shape.kind shape.count lines.old lines.new (length room.old) result }
 {
-    match segment.reserve(&Key::Handle(handle), shape.count) {
-        Ok(()) => fill_elements(segment, handle, shape, lines, room, scratch),
+    match segment.reserve(&object, shape.count) {
+        Ok(()) => fill_elements(segment, object, shape, lines, room, scratch),
         Err(why) => Err(stop_of(why, shape.at)),
     }
 }
@@ -54,17 +57,18 @@ fn fill_reserved(
 /// Adds so many elements to an object.
 fn fill_elements(
     segment: &mut Segment,
-    handle: Handle,
+    object: Object,
     shape: Shape,
     lines: &mut Lines<'_>,
     room: &mut [u8],
     scratch: &mut Text,
 ) -> Result<(), Stop>
-    ensures { FillsElements segment.old segment.new handle shape.kind shape.count lines.old lines.new
+    requires { IsHere segment.old object.handle }
+    ensures { FillsElements segment.old segment.new object.handle shape.kind shape.count lines.old lines.new
         (length room.old) result }
 {
     'elements: for index in 0..shape.count {
-        add_element(segment, handle, shape.kind, index, lines, room, scratch)?;
+        add_element(segment, object, shape.kind, index, lines, room, scratch)?;
     }
     Ok(())
 }
@@ -72,20 +76,22 @@ fn fill_elements(
 /// Adds the element of the next lines behind those before it.
 fn add_element(
     segment: &mut Segment,
-    handle: Handle,
+    object: Object,
     kind: Kind,
     index: u64,
     lines: &mut Lines<'_>,
     room: &mut [u8],
     scratch: &mut Text,
 ) -> Result<(), Stop>
-    ensures { AddsElement segment.old segment.new handle kind index lines.old lines.new (length room.old) result }
+    requires { IsHere segment.old object.handle }
+    ensures adds { AddsElement segment.old segment.new object.handle kind index lines.old lines.new (length room.old) result }
+    ensures here { IsHere segment.new object.handle }
 {
     match kind {
-        Kind::Scalar(kind) => set_next(segment, handle, kind, index, lines),
-        Kind::Vector(kind) => push_next(segment, handle, kind, lines),
-        Kind::Map(keys, values) => put_next(segment, handle, keys, values, lines),
-        Kind::Strings => push_text(segment, handle, lines, room, scratch),
+        Kind::Scalar(kind) => set_next(segment, object, kind, index, lines),
+        Kind::Vector(kind) => push_next(segment, object, kind, lines),
+        Kind::Map(keys, values) => put_next(segment, object, keys, values, lines),
+        Kind::Strings => push_text(segment, object, lines, room, scratch),
         Kind::String => Err(misfit(lines.at(), DumpFault::BadCount)),
     }
 }
@@ -93,66 +99,72 @@ fn add_element(
 /// Makes the value of the next line the element at an index of an array.
 fn set_next(
     segment: &mut Segment,
-    handle: Handle,
+    object: Object,
     kind: ScalarKind,
     index: u64,
     lines: &mut Lines<'_>,
 ) -> Result<(), Stop>
-    ensures { (room : ℕ) → AddsElement segment.old segment.new handle (ScalarOf kind) index lines.old lines.new room result }
+    requires { IsHere segment.old object.handle }
+    ensures adds { (room : ℕ) → AddsElement segment.old segment.new object.handle (ScalarOf kind) index lines.old lines.new room result }
+    ensures here { IsHere segment.new object.handle }
 {
     let at = lines.at();
     let value = next_value(lines, kind)?;
-    ended(set_value(segment, handle, index, value), at)
+    ended(set_value(segment, object, index, value), at)
 }
 
 /// Makes a value the element at an index of an array.
 fn set_value(
     segment: &mut Segment,
-    handle: Handle,
+    object: Object,
     index: u64,
     value: ScalarValue,
 ) -> Result<(), Refusal>
-    ensures { IsStepOfKind segment.old segment.new (ByHandle handle) (ScalarOf (kind_of_scalar value)) (Set (ByHandle handle) index (literal_of (kind_of_scalar value) (value_of_scalar value))) (done_answer result) }
+    requires { IsObject object segment.old }
+    ensures { IsStepOfKind segment.old segment.new (ByHandle object.handle) (ScalarOf (kind_of_scalar value)) (Set (ByHandle object.handle) index (literal_of (kind_of_scalar value) (value_of_scalar value))) (done_answer result) }
 {
-    let key = Key::Handle(handle);
-    by_value!(value, it => segment.set(&key, index, it))
+    by_value!(value, it => segment.set(&object, index, it))
 }
 
 /// Puts the value of the next line behind the elements of a vector.
 fn push_next(
     segment: &mut Segment,
-    handle: Handle,
+    object: Object,
     kind: ScalarKind,
     lines: &mut Lines<'_>,
 ) -> Result<(), Stop>
-    ensures { (index room : ℕ) → AddsElement segment.old segment.new handle (VectorOf kind) index lines.old lines.new room result }
+    requires { IsHere segment.old object.handle }
+    ensures adds { (index room : ℕ) → AddsElement segment.old segment.new object.handle (VectorOf kind) index lines.old lines.new room result }
+    ensures here { IsHere segment.new object.handle }
 {
     let at = lines.at();
     let value = next_value(lines, kind)?;
-    ended(push_value(segment, handle, value), at)
+    ended(push_value(segment, object, value), at)
 }
 
 /// Puts a value behind the elements of a vector.
-fn push_value(segment: &mut Segment, handle: Handle, value: ScalarValue) -> Result<(), Refusal>
-    ensures { IsStepOfKind segment.old segment.new (ByHandle handle) (VectorOf (kind_of_scalar value)) (Push (ByHandle handle) (literal_of (kind_of_scalar value) (value_of_scalar value))) (done_answer result) }
+fn push_value(segment: &mut Segment, object: Object, value: ScalarValue) -> Result<(), Refusal>
+    requires { IsObject object segment.old }
+    ensures { IsStepOfKind segment.old segment.new (ByHandle object.handle) (VectorOf (kind_of_scalar value)) (Push (ByHandle object.handle) (literal_of (kind_of_scalar value) (value_of_scalar value))) (done_answer result) }
 {
-    let key = Key::Handle(handle);
-    by_value!(value, it => segment.vec_push(&key, it))
+    by_value!(value, it => segment.vec_push(&object, it))
 }
 
 /// Puts the pair of the next line into a map.
 fn put_next(
     segment: &mut Segment,
-    handle: Handle,
+    object: Object,
     keys: ScalarKind,
     values: ScalarKind,
     lines: &mut Lines<'_>,
 ) -> Result<(), Stop>
-    ensures { (index room : ℕ) → AddsElement segment.old segment.new handle (MapOf keys values) index lines.old lines.new room result }
+    requires { IsHere segment.old object.handle }
+    ensures adds { (index room : ℕ) → AddsElement segment.old segment.new object.handle (MapOf keys values) index lines.old lines.new room result }
+    ensures here { IsHere segment.new object.handle }
 {
     let at = lines.at();
     let (key, value) = next_pair(lines, keys, values)?;
-    match segment.map_put_any(&Key::Handle(handle), key, value) {
+    match segment.map_put_any(&object, key, value) {
         Ok(_) => Ok(()),
         Err(why) => Err(stop_of(why, at)),
     }

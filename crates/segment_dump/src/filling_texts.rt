@@ -1,35 +1,35 @@
 //! Texts made of the lines of a dump.
 ghost use Rattle.std.specs.Prelude.{◌≡◌, ◌+◌, ◌-◌, ◌/◌, ◌≤◌, ◌++◌, ℕ, length, take, IfOk};
 ghost use Rattle.seg_types.specs.declared.kinds.Kind.TheVariants.{String as StringKind, Strings as StringsKind};
-ghost use Rattle.segment_dump.specs.Builders.{AddsElement, AppendsPiece, Collects, CopiesPiece, FillsNew, ReadsLength, ReadsPiece};
+ghost use Rattle.segment_dump.specs.Builders.{AddsElement, AppendsPiece, Collects, CopiesPiece, FillsNew, IsHere, ReadsLength, ReadsPiece};
 
 use crate::building::{Stop, stop_of};
 use crate::faults::Misfit;
 use crate::filling::ended;
 use crate::reading::{Lines, Words};
 use crate::texts::PIECE;
-use seg_types::{Handle, Key};
 use segment_lang::{Quoted, Text, numbers_are_decimals, texts_are_spelled};
-use segment_manager::Segment;
+use segment_manager::{Object, Segment};
 
 /// Makes the text of the next lines that of a string, with places for just as many bytes.
 pub fn fill_string(
     segment: &mut Segment,
-    handle: Handle,
+    object: Object,
     lines: &mut Lines<'_>,
     scratch: &mut Text,
 ) -> Result<(), Stop>
-    ensures { (room : ℕ) → FillsNew segment.old segment.new handle StringKind 1 lines.old lines.new room result }
+    requires { IsHere segment.old object.handle }
+    ensures { (room : ℕ) → FillsNew segment.old segment.new object.handle StringKind 1 lines.old lines.new room result }
 {
     let at = lines.at();
     let (mut words, len) = first_line(lines)?;
-    if let Err(why) = segment.reserve(&Key::Handle(handle), len) {
+    if let Err(why) = segment.reserve(&object, len) {
         return Err(stop_of(why, at));
     }
-    append_piece(segment, handle, &mut words, scratch)?;
+    append_piece(segment, object, &mut words, scratch)?;
     'pieces: for _ in 0..pieces_behind(len) {
         let mut words = lines.next_line()?;
-        append_piece(segment, handle, &mut words, scratch)?;
+        append_piece(segment, object, &mut words, scratch)?;
     }
     Ok(())
 }
@@ -65,33 +65,34 @@ fn last_text<'a>(words: &mut Words<'a>) -> Result<Quoted<'a>, Misfit>
 /// Adds the piece of a text that is alone in a line to a string.
 fn append_piece(
     segment: &mut Segment,
-    handle: Handle,
+    object: Object,
     words: &mut Words<'_>,
     scratch: &mut Text,
 ) -> Result<(), Stop>
-    ensures { AppendsPiece segment.old segment.new handle words.old result }
+    requires { IsHere segment.old object.handle }
+    ensures appends { AppendsPiece segment.old segment.new object.handle words.old result }
+    ensures here { IsHere segment.new object.handle }
 {
     let at = words.at();
     let piece = last_text(words)?;
-    ended(
-        segment.string_append(&Key::Handle(handle), piece.bytes(scratch)),
-        at,
-    )
+    ended(segment.string_append(&object, piece.bytes(scratch)), at)
 }
 
 /// Puts the text of the next lines behind those of a vector of strings.
 pub fn push_text(
     segment: &mut Segment,
-    handle: Handle,
+    object: Object,
     lines: &mut Lines<'_>,
     room: &mut [u8],
     scratch: &mut Text,
 ) -> Result<(), Stop>
-    ensures { (index : ℕ) → AddsElement segment.old segment.new handle StringsKind index lines.old lines.new (length room.old) result }
+    requires { IsHere segment.old object.handle }
+    ensures adds { (index : ℕ) → AddsElement segment.old segment.new object.handle StringsKind index lines.old lines.new (length room.old) result }
+    ensures here { IsHere segment.new object.handle }
 {
     let at = lines.at();
     let len = collect(lines, room, scratch)?;
-    ended(segment.texts_push(&Key::Handle(handle), &room[..len]), at)
+    ended(segment.texts_push(&object, &room[..len]), at)
 }
 
 /// Collects the text of the next lines in the front of the room, and answers how many bytes it has.

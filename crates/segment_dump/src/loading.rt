@@ -68,10 +68,8 @@ fn load_lines(
 {
     let counted = count_dump(text);
     if let Some(cause) = refusal_of(counted, &region, base, size, room.len()) {
-        return Err(LoadRefused {
-            region: Some(region),
-            cause,
-        });
+        let region = Some(region);
+        return Err(LoadRefused { region, cause });
     }
     make(text, counted, room, region, base, size)
 }

@@ -1,24 +1,24 @@
-//! The pairs of a map in a dump: a line for each, by rising keys.
+//! The pairs of a map, by rising keys.
 ghost use Rattle.std.specs.Prelude.{◌≡◌, ◌-◌, ◌^◌, ◌<◌, option_map, true};
-ghost use Rattle.raw_region.specs.Device.{Writes};
 ghost use Rattle.seg_types.specs.Names.{ByHandle};
 ghost use Rattle.seg_types.specs.Values.{kind_of_scalar, value_of_scalar};
 ghost use Rattle.segment_manager.specs.objects.Located.{IsObject};
 ghost use Rattle.segment_manager.specs.containers.Maps.{pair_above};
 ghost use Rattle.segment_manager.specs.State.{Answers};
 ghost use Rattle.segment_manager.specs.containers.Walks.{IsMap, item_of_kinds, item_seen, pairs_at};
-ghost use Rattle.segment_dump.specs.Asked.{pair_part, walked_line};
+ghost use Rattle.segment_dump.specs.Asked.{pair_part};
 ghost use Rattle.segment_dump.specs.Owed.{WritesOf};
 ghost use Rattle.segment_dump.specs.Parts.{parts_until};
 
+use crate::layouts::Layout;
 use raw_region::{DeviceFault, Sink};
 use seg_types::{ScalarKind, ScalarValue};
-use segment_lang::{Piece, put_pieces};
 use segment_manager::conditioned::{first_pair, next_pair};
 use segment_manager::{Object, Segment};
 
 /// Writes as many pairs of a map by rising keys.
-pub fn put_pairs<W: Sink>(
+pub(crate) fn put_pairs<L: Layout, W: Sink>(
+    layout: &L,
     segment: &Segment,
     object: Object,
     keys: ScalarKind,
@@ -29,12 +29,12 @@ pub fn put_pairs<W: Sink>(
     requires writer { (W.history out.old).failures < 2 ^ 64 - 1 }
     requires object { IsObject object segment.now }
     requires map { IsMap segment.now (ByHandle object.handle) keys values }
-    ensures { WritesOf segment.now (W.history out.old) (W.history out.new) result (λ d. parts_until (pair_part keys values d (ByHandle object.handle)) count) }
+    ensures { WritesOf segment.now (W.history out.old) (W.history out.new) result (λ d. parts_until (pair_part (L.spelling layout.now) keys values d (ByHandle object.handle)) count) }
 {
     let mut next = first_pair(segment, &object, keys, values);
     'pairs: for index in 0..count {
         if let Some((key, value)) = next {
-            put_pair(key, value, out)?;
+            layout.put_pair(index, key, value, out)?;
             next = pair_behind(segment, object, key, values, index + 1 < count);
         }
     }
@@ -58,21 +58,4 @@ fn pair_behind(
     } else {
         None
     }
-}
-
-/// Writes the line of a key and its value.
-fn put_pair<W: Sink>(key: ScalarValue, value: ScalarValue, out: &mut W) -> Result<(), DeviceFault>
-    requires { (W.history out.old).failures < 2 ^ 64 - 1 }
-    ensures { Writes (W.history out.old) (W.history out.new) result (walked_line (item_seen (key, value))) }
-{
-    put_pieces(
-        out,
-        &[
-            Piece::Bytes(b"  "),
-            Piece::Value(key),
-            Piece::Bytes(b" "),
-            Piece::Value(value),
-            Piece::Bytes(b"\n"),
-        ],
-    )
 }

@@ -36,7 +36,7 @@ pub use commands::{Command, Content, Lead, Reading};
 pub use errors::{put_line_error, put_refusal};
 pub use forms::{CommandForm, read_command};
 pub use kinds::kind_of_word;
-pub use line::{LONGEST_LINE, lead_of, parse_line};
+pub use line::{LONGEST_LINE, lead_of, parse_line, without_return};
 pub use lists::{Literals, Texts};
 pub use literals::{Literal, literal_of, scalar_of, value_of};
 pub use numbers::{WholeNumber, number_of, whole_of};
@@ -45,7 +45,8 @@ pub use pieces::{Piece, put_pieces};
 pub use readers::{is_alone, key_and_literal, key_and_number};
 pub use seg_types::LineError;
 pub use texts::{
-    put_kind, put_name, put_number, put_number_line, put_text, put_value, put_value_line,
+    digit_text, put_kind, put_name, put_number, put_number_line, put_text, put_value,
+    put_value_line,
 };
 pub use theorems::{
     long_lines_are_cut, numbers_are_decimals, printed_kinds_are_read, printed_names_are_read,

@@ -17,7 +17,7 @@ use seg_types::LineError;
 pub const LONGEST_LINE: usize = 4096;
 
 /// The line without the carriage return at its end, if there is one.
-fn without_return(line: &[u8]) -> &[u8]
+pub fn without_return(line: &[u8]) -> &[u8]
     ensures { result.now ≡ without_return line.now }
 {
     match line {

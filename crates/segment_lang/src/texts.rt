@@ -104,7 +104,7 @@ pub fn put_value_line<S: Sink>(out: &mut S, value: ScalarValue) -> Result<(), De
 }
 
 /// The hexadecimal digit of a number below 16, in lower case.
-fn digit_text(digit: u8) -> u8
+pub fn digit_text(digit: u8) -> u8
     requires { digit < 16 }
     ensures { result ≡ digit_text digit }
 {

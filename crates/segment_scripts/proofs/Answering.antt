@@ -1,5 +1,9 @@
 -- A call of the segment is the step of its command.
-use Rattle.std.proofs.Common.{◌≡◌, refl, sym, ap, subst, ◌∙◌, ℕ, true, false, Result, Ok, Err, Option, Some, None, length}
+use Rattle.std.proofs.lemmas.Bool.{false≢true, leb-true}
+use Rattle.std.specs.Prelude.{◌||◌, not, is_some}
+use Rattle.segment_manager.specs.Keeping.{HasKey, HasPlaces, KeepsWhere, LacksKey}
+use Rattle.segment_manager.specs.containers.Contents.{sizes_at}
+use Rattle.std.proofs.Common.{◌≡◌, ◌≤◌, Bool, refl, sym, ap, subst, ◌∙◌, ℕ, true, false, Result, Ok, Err, Option, Some, None, length}
 use Rattle.std.specs.Prelude.{OnOk, OnErr}
 use Rattle.best_fit.specs.Extents.{LiveSet}
 use Rattle.seg_types.specs.declared.refusals.Refusal.{Refusal}
@@ -22,7 +26,7 @@ use Rattle.segment_lang.specs.Seen.{command_of}
 use Rattle.segment_scripts.specs.declared.replies.Answer.{Answer as Reply}
 use Rattle.segment_scripts.specs.declared.replies.Answer.TheVariants as said
 use Rattle.segment_scripts.specs.Replies.{Replies, answer_seen, shown_at, shown_of, told_at, told_of}
-use Rattle.segment_scripts.specs.ZeroGaps.{is_zero_free}
+use Rattle.segment_scripts.specs.ZeroGaps.{finds_nothing, has_places, is_zero_free}
 
 -- ---- what only reads
 
@@ -69,7 +73,7 @@ module _ (s : State) where
         answers = λ d h. ap (λ (x : Directory). answer_seen x reply) (same d) ∙ says d h;
         denotes = λ d h. subst (StandsFor s.cut.bytes) (sym (same d)) h;
         reads = λ _. refl;
-        refused = λ _ _ _. refl;
+        kept = λ _ _ _. refl;
         zeros = λ _ _ is _. absurd (cc (ap is_changing is));
       }
 
@@ -108,25 +112,45 @@ done-zeros : {A : Type 0} (f : A → Answer) (result : Result A Refusal) (new : 
 done-zeros f (Ok a) new h e = h
 done-zeros f (Err r) new h e = absurd (cc)
 
--- a call that is a step, and where it is refused before it asks for a block changes nothing
+-- one of two holds
+either-kept : {P : Type 0} (a b : Bool) → (a ≡ true → P) → (b ≡ true → P) → (a || b) ≡ true → P
+either-kept true b h k e = h refl
+either-kept false b h k e = k e
+
+-- what a call finds to have nothing to do for it changes nothing
+abbrev pub KeepsFound : State → State → Command → Type 0
+KeepsFound old new c = (d : Directory) → StandsFor old.cut.bytes d → finds_nothing d c ≡ true → new ≡ old
+
+pub finds-none : (old new : State) (c : Command) → ((d : Directory) → finds_nothing d c ≡ false) → KeepsFound old new c
+finds-none old new c none d s e = absurd (false≢true (sym (none d) ∙ e))
+
+-- a call that is a step, and where it finds nothing to do or is refused before it asks for a block changes nothing
 pub replies-step : {A : Type 0} (f : A → Answer) → ((a : A) → is_untouched (f a) ≡ false) → (old new : State) (c : Command) (result : Result A Refusal) (reply : Reply)
     → is_changing c ≡ true → ((d : Directory) → answer_seen d reply ≡ answer_of f result) → IsStep old new c (answer_of f result) → KeepsRefused old new result
-    → (c ≡ asked.ZeroFree → OnOk result (HasZeroGaps new)) → Replies old new c reply
-replies-step f plain old new c result reply e same h refused zeros = record {
+    → KeepsFound old new c → (c ≡ asked.ZeroFree → OnOk result (HasZeroGaps new)) → Replies old new c reply
+replies-step f plain old new c result reply e same h refused found zeros = record {
   stays = h.stays;
   answers = λ d s. same (step old.mode d c).1 ∙ h.answers d s;
   denotes = h.denotes;
   reads = λ n. absurd (cc);
-  refused = λ d s r. kept-refused f plain result old new refused (ap is_untouched (h.answers d s) ∙ r);
+  kept = λ d s. either-kept (is_untouched (step old.mode d c).0) (finds_nothing d c)
+      (λ r. kept-refused f plain result old new refused (ap is_untouched (h.answers d s) ∙ r)) (found d s);
   zeros = λ d s is done. done-zeros f result new (zeros is) (h.answers d s ∙ done);
 }
 
 -- the same of any command but the one that clears gaps
 pub replies-call : {A : Type 0} (f : A → Answer) → ((a : A) → is_untouched (f a) ≡ false) → {old new : State} {c : Command} {reply : Reply} (result : Result A Refusal)
     → is_changing c ≡ true → is_zero_free c ≡ false → ((d : Directory) → answer_seen d reply ≡ answer_of f result) → IsStep old new c (answer_of f result) → KeepsRefused old new result
-    → Replies old new c reply
-replies-call f plain {old} {new} {c} {reply} result e other same h refused =
-    replies-step f plain old new c result reply e same h refused (λ is. absurd (let clears : is_zero_free c ≡ true = ap is_zero_free is in cc))
+    → KeepsFound old new c → Replies old new c reply
+replies-call f plain {old} {new} {c} {reply} result e other same h refused found =
+    replies-step f plain old new c result reply e same h refused found (λ is. absurd (let clears : is_zero_free c ≡ true = ap is_zero_free is in cc))
+
+-- and of one that always finds something to do
+pub replies-plain : {A : Type 0} (f : A → Answer) → ((a : A) → is_untouched (f a) ≡ false) → {old new : State} {c : Command} {reply : Reply} (result : Result A Refusal)
+    → is_changing c ≡ true → is_zero_free c ≡ false → ((d : Directory) → answer_seen d reply ≡ answer_of f result) → IsStep old new c (answer_of f result) → KeepsRefused old new result
+    → ((d : Directory) → finds_nothing d c ≡ false) → Replies old new c reply
+replies-plain f plain {old} {new} {c} {reply} result e other same h refused none =
+    replies-call f plain result e other same h refused (finds-none old new c none)
 
 -- ---- a command as the line that was read has it
 
@@ -136,5 +160,47 @@ module _ {old new : State} {command x : CodeCommand} {reply : Reply} (is : comma
 
   pub replies-command : {A : Type 0} (f : A → Answer) → ((a : A) → is_untouched (f a) ≡ false) → (result : Result A Refusal)
       → is_changing (command_of x) ≡ true → is_zero_free (command_of x) ≡ false → ((d : Directory) → answer_seen d reply ≡ answer_of f result)
-      → IsStep old new (command_of x) (answer_of f result) → KeepsRefused old new result → Replies old new (command_of command) reply
-  replies-command f plain result e other same h refused = replies-as (replies-call f plain result e other same h refused)
+      → IsStep old new (command_of x) (answer_of f result) → KeepsRefused old new result
+      → ((d : Directory) → finds_nothing d (command_of x) ≡ false) → Replies old new (command_of command) reply
+  replies-command f plain result e other same h refused none =
+      replies-as (replies-plain f plain result e other same h refused none)
+
+  -- one that may find nothing to do
+  pub replies-found : {A : Type 0} (f : A → Answer) → ((a : A) → is_untouched (f a) ≡ false) → (result : Result A Refusal)
+      → is_changing (command_of x) ≡ true → is_zero_free (command_of x) ≡ false → ((d : Directory) → answer_seen d reply ≡ answer_of f result)
+      → IsStep old new (command_of x) (answer_of f result) → KeepsRefused old new result
+      → KeepsFound old new (command_of x) → Replies old new (command_of command) reply
+  replies-found f plain result e other same h refused found = replies-as (replies-call f plain result e other same h refused found)
+
+-- ---- what is found
+
+not-some : (o : Option Object) → not (is_some o) ≡ true → o ≡ None
+not-some None e = refl
+not-some (Some o) e = absurd (cc)
+
+is-some : (o : Option Object) → is_some o ≡ true → (p : Object) × (o ≡ Some p)
+is-some None e = absurd (cc)
+is-some (Some o) e = (o, refl)
+
+has-places : (key : Key) (n : ℕ) (d : Directory) (r : Result (ℕ × ℕ) Refusal) → sizes_at d key ≡ r
+    → has_places r n ≡ true → HasPlaces key n d
+has-places key n d (Ok (len, capacity)) e h =
+    record { len = len; capacity = capacity; says = e; enough = leb-true n capacity h }
+has-places key n d (Err why) e h = absurd (false≢true h)
+
+module _ {old new : State} (key : Key) where
+  pub lacks-found : KeepsWhere old new (LacksKey key) → KeepsFound old new (asked.Destroy key)
+  lacks-found k d s e = k d s (not-some (object_at d key) e)
+
+  pub has-found : (c : asked.Content) → KeepsWhere old new (HasKey key) → KeepsFound old new (asked.FindOrConstruct key c)
+  has-found c k d s e = k d s (is-some (object_at d key) e)
+
+  pub places-found : (n : ℕ) → KeepsWhere old new (HasPlaces key n) → KeepsFound old new (asked.Reserve key n)
+  places-found n k d s e = k d s (has-places key n d (sizes_at d key) refl e)
+
+module _ {old new : State} (n : ℕ) where
+  pub named-found : KeepsWhere old new (λ d. n ≤ d.named.capacity) → KeepsFound old new (asked.ReserveNamed n)
+  named-found k d s e = k d s (leb-true n d.named.capacity e)
+
+  pub unique-found : KeepsWhere old new (λ d. n ≤ d.unique.capacity) → KeepsFound old new (asked.ReserveUnique n)
+  unique-found k d s e = k d s (leb-true n d.unique.capacity e)

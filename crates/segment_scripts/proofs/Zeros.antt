@@ -15,7 +15,8 @@ use Rattle.segment_manager.specs.State.{IsReply, State, StandsFor}
 use Rattle.segment_manager.specs.Step.{step}
 use Rattle.segment_manager.specs.Calls.{HasZeroGaps}
 use Rattle.segment_manager.proofs.Laws.{step-reads}
-use Rattle.segment_scripts.specs.ZeroGaps.{is_zero_free}
+use Rattle.std.specs.Prelude.{◌||◌}
+use Rattle.segment_scripts.specs.ZeroGaps.{changes_nothing, is_zero_free}
 use Rattle.segment_scripts.specs.declared.replies.Answer.{Answer as Reply}
 use Rattle.segment_scripts.specs.Answer.{answer_text}
 use Rattle.segment_scripts.specs.Changes.{Executes}
@@ -37,6 +38,19 @@ zero_free-done Write d e = refl
 zero_free-done ReadOnly d e = absurd (cc)
 zero_free-done CopyOnWrite d e = refl
 
+-- tests of which one holds
+either-first : (a b : Bool) → a ≡ true → (a || b) ≡ true
+either-first true b e = refl
+either-first false b e = absurd (cc)
+
+first-of : (a : Bool) → (a || false) ≡ true → a ≡ true
+first-of true e = refl
+first-of false e = e
+
+neither : (a b : Bool) → (a || b) ≡ false → a ≡ false
+neither true b e = e
+neither false b e = refl
+
 -- what a command leaves, by what holds of it
 zeros_held : (refused changing zero_free known : Bool) (old new : State) → (refused ≡ true → new ≡ old) → (changing ≡ false → new ≡ old)
     → (zero_free ≡ true → refused ≡ false → HasZeroGaps new) → (known ≡ true → HasZeroGaps old)
@@ -46,7 +60,9 @@ zeros_held false true zero_free known old new same stays zeros was e = zeros e r
 zeros_held false false zero_free known old new same stays zeros was e = subst HasZeroGaps (sym (stays refl)) (was e)
 
 -- what is asked leads to the place behind it
-module _ (old new : State) (c : Command) (asked : Reading) (e : Asked c ≡ asked) (done : Executes old new c) (reads : is_changing c ≡ false → new ≡ old) where
+module _ (old new : State) (c : Command) (asked : Reading) (e : Asked c ≡ asked) (done : Executes old new c)
+    (kept : (d : Directory) → StandsFor old.cut.bytes d → changes_nothing old.mode d c ≡ true → new ≡ old)
+    (reads : is_changing c ≡ false → new ≡ old) where
   led : ((d : Directory) → StandsFor old.cut.bytes d → c ≡ ZeroFree → (step old.mode d c).0 ≡ Done → HasZeroGaps new) → (at : Place) → IsAt old at → IsAt new (place_after at asked)
   led zeros at h =
       let d = at.directory in
@@ -54,22 +70,26 @@ module _ (old new : State) (c : Command) (asked : Reading) (e : Asked c ≡ aske
       let place : IsAt new (place_after at (Asked c)) = record {
         mode = done.stays.mode ∙ m;
         denotes = subst (λ (n : Mode). StandsFor new.cut.bytes (step n d c).1) m (done.denotes d h.denotes);
-        zeros = zeros_held (is_untouched (step at.mode d c).0) (is_changing c) (is_zero_free c) at.zeros old new
-            (λ r. done.refused d h.denotes (ap (λ (n : Mode). is_untouched (step n d c).0) m ∙ r)) reads
+        zeros = zeros_held (changes_nothing at.mode d c) (is_changing c) (is_zero_free c) at.zeros old new
+            (λ r. kept d h.denotes (ap (λ (n : Mode). changes_nothing n d c) m ∙ r)) reads
             (λ z r. let is = zero_free-is c z in
             zeros d h.denotes is
             (ap (λ (x : Command). (step old.mode d x).0) is
-            ∙ zero_free-done old.mode d (ap (λ (x : Command). is_untouched (step old.mode d x).0) (sym is) ∙ ap (λ (n : Mode). is_untouched (step n d c).0) m ∙ r)))
+            ∙ zero_free-done old.mode d (neither (is_untouched (step old.mode d ZeroFree).0) false
+            (ap (λ (x : Command). changes_nothing old.mode d x) (sym is) ∙ ap (λ (n : Mode). changes_nothing n d c) m ∙ r))))
             h.zeros;
       } in
       subst (λ (r : Reading). IsAt new (place_after at r)) e place
 
 executed : (old new : State) (c : Command) (reply : Reply) (asked : Reading) → Asked c ≡ asked → Replies old new c reply → (at : Place) → IsAt old at → IsAt new (place_after at asked)
-executed old new c reply asked e done = led old new c asked e (record { stays = done.stays; denotes = done.denotes; refused = done.refused }) done.reads done.zeros
+executed old new c reply asked e done = led old new c asked e
+    (record { stays = done.stays; denotes = done.denotes; refused = λ d st r. done.kept d st (either-first _ _ r) })
+    done.kept done.reads done.zeros
 
 -- one that takes out an element too
 popped : (old new : State) (key : Key) (asked : Reading) → Asked (Pop key) ≡ asked → Executes old new (Pop key) → (at : Place) → IsAt old at → IsAt new (place_after at asked)
-popped old new key asked e done = led old new (Pop key) asked e done (λ n. absurd (cc)) (λ d st is. absurd (let other : is_zero_free (Pop key) ≡ true = ap is_zero_free is in cc))
+popped old new key asked e done = led old new (Pop key) asked e done
+    (λ d st r. done.refused d st (first-of (is_untouched (step old.mode d (Pop key)).0) r)) (λ n. absurd (cc)) (λ d st is. absurd (let other : is_zero_free (Pop key) ≡ true = ap is_zero_free is in cc))
 
 -- one that only reads
 answered : (s : State) (c : Command) (asked : Reading) → is_changing c ≡ false → Asked c ≡ asked → (at : Place) → IsAt s at → IsAt s (place_after at asked)
@@ -80,7 +100,7 @@ answered s c asked r e =
       denotes = λ d st. subst (StandsFor s.cut.bytes) (sym (step-reads s.mode d c r)) st;
       refused = λ _ _ _. refl;
     })
-    (λ _. refl) (λ d st is _. absurd (let other : is_changing ZeroFree ≡ false = ap is_changing (sym is) ∙ r in cc))
+    (λ _ _ _. refl) (λ _. refl) (λ d st is _. absurd (let other : is_changing ZeroFree ≡ false = ap is_changing (sym is) ∙ r in cc))
 
 asked-owed : (old : State) (c : Command) (asked : Reading) → Asked c ≡ asked → (at : Place) → IsAt old at → answer_text (step old.mode at.directory c).0 ≡ (respond at.mode at.directory asked).0
 asked-owed old c asked e at h = ap (λ (n : Mode). answer_text (step n at.directory c).0) h.mode ∙ ap (λ (r : Reading). (respond at.mode at.directory r).0) e

@@ -9,11 +9,12 @@ use Rattle.seg_types.specs.Commands.{Command, Content, Literal, ZeroFree, is_cha
 use Rattle.seg_types.specs.Keys.{key_seen}
 use Rattle.seg_types.specs.Values.{kind_of_scalar, value_of_scalar}
 use Rattle.segment_lang.specs.Reading.{agrees}
-use Rattle.segment_manager.specs.Answers.{Answer, Done, Absent, Truth, Number, Made, Found, Element, TextElement, Shown, Told, Names, Kinds, Blocks, Refused, is_untouched}
+use Rattle.segment_manager.specs.Answers.{Answer, Done, Absent, Truth, Number, Made, Found, Element, TextElement, Shown, Told, Names, Kinds, Blocks, Refused}
 use Rattle.segment_manager.specs.Directory.{Value, Texts, Directory, Object, live, named_objects, object_at, unique_objects}
 use Rattle.segment_manager.specs.State.{State, StandsFor, Stays}
 use Rattle.segment_manager.specs.Step.{step}
 use Rattle.segment_manager.specs.Calls.{HasZeroGaps}
+use Rattle.segment_scripts.specs.ZeroGaps.{changes_nothing}
 use Rattle.segment_scripts.specs.declared.replies.Answer.{Answer as Reply}
 use Rattle.segment_scripts.specs.declared.replies.Answer.TheVariants as said
 
@@ -101,12 +102,12 @@ has_element (asked.Pop key) = true
 has_element c = false
 
 -- The call is one step of the directory machine, and the reply stands for its answer in the directory behind it.
--- Nothing changes where the command only reads or is refused before it asks for a block, and gaps that were made zero
--- are.
+-- Nothing changes where the command only reads, finds that there is nothing to do or is refused before it asks for a
+-- block, and gaps that were made zero are.
 pub record Replies (old new : State) (c : Command) (reply : Reply) : Type 0 where
   pub stays : Stays old new
   pub answers : (d : Directory) → StandsFor old.cut.bytes d → answer_seen (step old.mode d c).1 reply ≡ (step old.mode d c).0
   pub denotes : (d : Directory) → StandsFor old.cut.bytes d → StandsFor new.cut.bytes (step old.mode d c).1
   pub reads : is_changing c ≡ false → new ≡ old
-  pub refused : (d : Directory) → StandsFor old.cut.bytes d → is_untouched (step old.mode d c).0 ≡ true → new ≡ old
+  pub kept : (d : Directory) → StandsFor old.cut.bytes d → changes_nothing old.mode d c ≡ true → new ≡ old
   pub zeros : (d : Directory) → StandsFor old.cut.bytes d → c ≡ ZeroFree → (step old.mode d c).0 ≡ Done → HasZeroGaps new

@@ -1,10 +1,14 @@
 -- Whether the gaps of a segment are known to be zero behind the lines of a script.
-use Rattle.std.specs.Prelude.{ℕ, Bool, true, false, List, [], ◌∷◌, if◌then◌else◌}
+use Rattle.std.specs.Prelude.{ℕ, Bool, true, false, not, ◌||◌, List, [], ◌∷◌, if◌then◌else◌, is_some, nat_le, Result}
+use Rattle.std.specs.Prelude.{Ok, Err}
+use Rattle.seg_types.specs.Commands as asked
+use Rattle.seg_types.specs.declared.refusals.Refusal.{Refusal}
 use Rattle.seg_types.specs.Commands.{Command, ZeroFree, Reading, Nothing, Asked, UnknownCommand, LineTooLong, BadSyntax, is_changing}
 use Rattle.segment_lang.specs.Language.{Language}
 use Rattle.segment_lang.specs.Reading.{reading}
 use Rattle.segment_manager.specs.declared.modes.Mode.{Mode}
-use Rattle.segment_manager.specs.Directory.{Directory}
+use Rattle.segment_manager.specs.containers.Contents.{sizes_at}
+use Rattle.segment_manager.specs.Directory.{Directory, object_at}
 use Rattle.segment_manager.specs.Answers.{is_untouched}
 use Rattle.segment_manager.specs.Step.{step}
 use Rattle.segment_scripts.specs.Run.{lines, respond}
@@ -13,10 +17,27 @@ abbrev pub is_zero_free : Command → Bool
 is_zero_free ZeroFree = true
 is_zero_free c = false
 
--- A command that changes nothing, or is refused before it asks for a block, keeps what was known. Of the others one
--- leaves zeros.
+-- so many places are among those of a container
+abbrev pub has_places : Result (ℕ × ℕ) Refusal → ℕ → Bool
+has_places (Ok (len, capacity)) n = nat_le n capacity
+has_places (Err why) n = false
+
+-- a command that may change a segment finds that there is nothing to do
+abbrev pub finds_nothing : Directory → Command → Bool
+finds_nothing d (asked.Destroy key) = not (is_some (object_at d key))
+finds_nothing d (asked.FindOrConstruct key content) = is_some (object_at d key)
+finds_nothing d (asked.Reserve key n) = has_places (sizes_at d key) n
+finds_nothing d (asked.ReserveNamed n) = nat_le n d.named.capacity
+finds_nothing d (asked.ReserveUnique n) = nat_le n d.unique.capacity
+finds_nothing d c = false
+
+-- no byte changes: so it is, or the command is refused before it asks for a block
+abbrev pub changes_nothing : Mode → Directory → Command → Bool
+changes_nothing mode d c = is_untouched (step mode d c).0 || finds_nothing d c
+
+-- A command that changes nothing keeps what was known. Of the others one leaves zeros.
 abbrev pub zeros_after : Mode → Directory → Reading → Bool → Bool
-zeros_after mode d (Asked c) known = if is_untouched (step mode d c).0 then known else if is_changing c then is_zero_free c else known
+zeros_after mode d (Asked c) known = if changes_nothing mode d c then known else if is_changing c then is_zero_free c else known
 zeros_after mode d Nothing known = known
 zeros_after mode d UnknownCommand known = known
 zeros_after mode d LineTooLong known = known

@@ -9,6 +9,7 @@ ghost use Rattle.seg_types.specs.Names.{ByHandle};
 ghost use Rattle.seg_types.specs.Values.{kind_of_scalar, value_of_scalar};
 ghost use Rattle.segment_lang.specs.Seen.{literal_of};
 ghost use Rattle.segment_manager.specs.objects.Located.{IsObject};
+ghost use Rattle.segment_manager.specs.Keeping.{HasPlaces, KeepsWhere};
 ghost use Rattle.segment_manager.specs.State.{IsStep, IsStepOfKind, KeepsRefused, done_answer};
 ghost use Rattle.segment_scripts.specs.Changes.{IsChangeable, IsNew, IsNoElement, IsToChange, IsUnchangeable};
 ghost use Rattle.segment_scripts.specs.Replies.{bytes_taken};
@@ -333,6 +334,7 @@ pub fn append(
 pub fn reserve(segment: &mut Segment, key: &Key, count: u64) -> Result<(), Refusal>
     ensures step { IsStep segment.old segment.new (Reserve (key_seen key.now) count) (done_answer result) }
     ensures refused { OnErr result (segment.new ≡ segment.old) }
+    ensures enough { KeepsWhere segment.old segment.new (HasPlaces (key_seen key.now) count) }
 {
     segment.reserve(key, count)
 }

@@ -7,6 +7,7 @@ ghost use Rattle.seg_types.specs.Keys.{index_key_seen, new_key_seen};
 ghost use Rattle.seg_types.specs.Kinds.{is_value};
 ghost use Rattle.segment_lang.specs.Seen.{content_of};
 ghost use Rattle.segment_manager.specs.objects.Found.{pair_answer};
+ghost use Rattle.segment_manager.specs.Keeping.{HasKey, KeepsWhere};
 ghost use Rattle.segment_manager.specs.State.{IsStep, KeepsRefused, handle_answer};
 ghost use Rattle.segment_scripts.specs.Replies.{IsContent, IsMeant};
 
@@ -143,6 +144,7 @@ pub fn find_or_construct(
     requires { IsContent (index_key_seen key.now) (content_of content) }
     ensures step { IsStep segment.old segment.new (FindOrConstruct (index_key_seen key.now) (content_of content.entry)) (pair_answer result) }
     ensures refused { KeepsRefused segment.old segment.new result }
+    ensures found { KeepsWhere segment.old segment.new (HasKey (index_key_seen key.now)) }
 {
     match content {
         Content::Scalars { value, count } => segment.find_or_construct_value(key, count, value),
@@ -170,6 +172,7 @@ fn find_or_construct_vector(
     requires { IsContent (index_key_seen key.now) (Elements values.kind values.numbers) }
     ensures step { IsStep segment.old segment.new (FindOrConstruct (index_key_seen key.now) (Elements values.entry.kind values.entry.numbers)) (pair_answer result) }
     ensures refused { KeepsRefused segment.old segment.new result }
+    ensures found { KeepsWhere segment.old segment.new (HasKey (index_key_seen key.now)) }
 {
     on_row!(
         values.kind(),
@@ -191,6 +194,7 @@ fn find_or_construct_row<T: Scalar>(
     requires few { length values.numbers ≤ 2048 }
     ensures step { IsStep segment.old segment.new (FindOrConstruct (index_key_seen key.now) (Elements values.entry.kind values.entry.numbers)) (pair_answer result) }
     ensures refused { KeepsRefused segment.old segment.new result }
+    ensures found { KeepsWhere segment.old segment.new (HasKey (index_key_seen key.now)) }
 {
     value_row(values, row);
     segment.find_or_construct_vec(key, row.as_slice())
@@ -207,6 +211,7 @@ fn find_or_construct_texts(
     requires { IsContent (index_key_seen key.now) (Strings texts) }
     ensures step { IsStep segment.old segment.new (FindOrConstruct (index_key_seen key.now) (Strings texts.entry)) (pair_answer result) }
     ensures refused { KeepsRefused segment.old segment.new result }
+    ensures found { KeepsWhere segment.old segment.new (HasKey (index_key_seen key.now)) }
 {
     text_row(texts, row);
     if FEW < row.len() {
@@ -225,6 +230,7 @@ fn find_or_construct_many(
     requires { IsContent (index_key_seen key.now) (Strings row.now) }
     ensures step { IsStep segment.old segment.new (FindOrConstruct (index_key_seen key.now) (Strings row.now)) (pair_answer result) }
     ensures refused { KeepsRefused segment.old segment.new result }
+    ensures found { KeepsWhere segment.old segment.new (HasKey (index_key_seen key.now)) }
 {
     segment.find_or_construct_texts(key, row.all().as_slice())
 }

@@ -1,7 +1,9 @@
 //! The commands of a script in short.
-ghost use Rattle.std.specs.Prelude.{◌-◌, ◌^◌, ◌<◌, flat_map};
+ghost use Rattle.std.specs.Prelude.{◌≡◌, ◌-◌, ◌^◌, ◌<◌, flat_map, map};
+ghost use Rattle.std.specs.List.{AllByRecursion};
 ghost use Rattle.raw_region.specs.Device.{Writes};
-ghost use Rattle.segment_scripts.specs.CommandRows.{row_text};
+ghost use Rattle.segment_lang.specs.Reading.{forms};
+ghost use Rattle.segment_scripts.specs.CommandRows.{IsUsage, row_text};
 
 use raw_region::{DeviceFault, Sink};
 use segment_lang::{Piece, put_pieces};
@@ -48,8 +50,16 @@ fn put_row<W: Sink>(out: &mut W, row: &CommandRow) -> Result<(), DeviceFault>
     )
 }
 
-/// The commands of the language, in the order of that table.
-pub const LANGUAGE: [CommandRow; 35] = [
+/// The commands of the language, in the order of that table: each word that a line may begin with, and behind it what is
+/// read there.
+pub fn command_rows() -> &'static [CommandRow]
+    ensures words { map (λ row. row.word.now) result.now ≡ map (λ form. form.0) forms }
+    ensures usages { AllByRecursion IsUsage result.now }
+{
+    &LANGUAGE
+}
+
+const LANGUAGE: [CommandRow; 35] = [
     CommandRow {
         word: "construct",
         usage: "construct KIND[k] NEWKEY ARGS",
@@ -90,13 +100,13 @@ pub const LANGUAGE: [CommandRow; 35] = [
         word: "show",
         usage: "show KEY",
         answer: "kind and value",
-        does: "section 9",
+        does: "of the whole object (LANGUAGE.md section 9)",
     },
     CommandRow {
         word: "info",
         usage: "info KEY",
-        answer: "see section 9",
-        does: "class, name, kind, count, handle, measures",
+        answer: "class, name, kind, count, handle, measures",
+        does: "all but the value (LANGUAGE.md section 9)",
     },
     CommandRow {
         word: "get",

@@ -25,7 +25,7 @@ mod text_rows;
 
 pub use faults::RunFault;
 pub use followers::{Follower, Nobody};
-pub use language::{CommandRow, LANGUAGE, put_language};
+pub use language::{CommandRow, command_rows, put_language};
 pub use linting::Lint;
 pub use machine::{Machine, Scratch};
 pub use scripts::{run, run_followed};

@@ -1,7 +1,6 @@
 //! A machine that tells which lines of a script are no commands, and executes none.
 ghost use Rattle.std.specs.Prelude.{◌≡◌, ◌≤◌, ◌-◌, ◌^◌, ◌<◌, ◌+◌, length};
 ghost use Rattle.raw_region.specs.Device.{Writes};
-ghost use Rattle.segment_lang.specs.Reading.{without_return};
 ghost use Rattle.segment_scripts.specs.CommandRows.{usage_of};
 ghost use Rattle.segment_scripts.specs.LintLaws.{lint_line-long};
 ghost use Rattle.segment_scripts.specs.Linting.{Place, behind, column_of, expected, finding_text, first_word, is_at, lint_line, same, start};
@@ -9,7 +8,9 @@ ghost use Rattle.segment_scripts.specs.Linting.{Place, behind, column_of, expect
 use crate::language::CommandRow;
 use crate::machine::{Machine, Scratch};
 use raw_region::{DeviceFault, Sink};
-use segment_lang::{LONGEST_LINE, LineError, Piece, Reading, parse_line, put_pieces};
+use segment_lang::{
+    LONGEST_LINE, LineError, Piece, Reading, parse_line, put_pieces, without_return,
+};
 
 /// Reads the lines of a script, and tells which are no commands: their number, the column, the error, and what is
 /// expected.
@@ -65,16 +66,6 @@ impl<'a> Machine for Lint<'a> {
     }
 
     ghost long_lines = { lint_line-long };
-}
-
-/// The line without the carriage return at its end, if there is one.
-fn without_return(line: &[u8]) -> &[u8]
-    ensures { result.now ≡ without_return line.now }
-{
-    match line {
-        [front @ .., b'\r'] => front,
-        _ => line,
-    }
 }
 
 /// Writes what is wrong with a line.

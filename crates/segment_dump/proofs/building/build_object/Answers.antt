@@ -1,10 +1,25 @@
-use Rattle.segment_dump.proofs.Common.{length}
+use Rattle.segment_dump.proofs.Common.{length, subst, sym, FillsNew}
+use Rattle.segment_dump.specs.Builders.{IsHere}
 use Rattle.segment_dump.proofs.BuildLines.{object-built, object-unstarted}
 use Rattle.segment_dump.proofs.building.build_object.Goals as goal
 
 pub returns-in_err-handle : goal.returns-in_err-handle
-returns-in_err-handle c = object-unstarted c.args.segment.now c.start_next.new.segment c.args.words.now c.start_next.new.segment c.args.lines.now c.args.lines.now (length c.args.room.now) _ c.from_residual.result c.in_err-handle.ensures
+returns-in_err-handle c = object-unstarted c.args.segment.now c.start_next.new.segment c.args.words.now c.start_next.new.segment c.args.lines.now c.args.lines.now (length c.args.room.now) _ c.from_residual.result c.in_err-handle.ensures.starts
+
+pub object_here-object-requires : goal.object_here-object-requires
+object_here-object-requires c = c.in_ok-handle.ensures.here
+
+pub fill-requires : goal.fill-requires
+fill-requires c = subst (IsHere c.start_next.new.segment) (sym c.object_here-object.ensures) c.in_ok-handle.ensures.here
 
 pub returns : goal.returns
 returns c =
-    object-built c.args.segment.now c.start_next.new.segment c.args.words.now c.fill.new.segment c.args.lines.now c.fill.new.lines (length c.args.room.now) c.in_ok-handle.handle c.in_ok-handle.shape c.fill.result c.in_ok-handle.ensures c.fill.ensures
+    let old = c.args.segment.now in
+    let begun = c.start_next.new.segment in
+    let new = c.fill.new.segment in
+    let shape = c.in_ok-handle.shape in
+    let room = length c.args.room.now in
+    object-built old begun c.args.words.now new c.args.lines.now c.fill.new.lines room c.in_ok-handle.handle shape
+    c.fill.result c.in_ok-handle.ensures.starts
+    (subst (λ h. FillsNew begun new h shape.kind shape.count c.args.lines.now c.fill.new.lines room c.fill.result)
+    c.object_here-object.ensures c.fill.ensures)

@@ -1,4 +1,4 @@
-use Rattle.segment_dump.proofs.Common.{sym, ap, ByHandle, kind_of_scalar, value_of_scalar, element_text, element_line}
+use Rattle.segment_dump.proofs.Common.{sym, ap, ByHandle, kind_of_scalar, value_of_scalar, element_text}
 use Rattle.seg_types.specs.Commands.{Get}
 use Rattle.segment_manager.proofs.Laws.{any-replies}
 use Rattle.segment_dump.proofs.Owed.{of-none, of-one}
@@ -8,11 +8,15 @@ pub returns-in-Ok : goal.returns-in-Ok
 returns-in-Ok g c =
     let s = c.args.segment.now in
     let v = c.in-Ok.value in
-    of-one {text = element_line (kind_of_scalar v) (value_of_scalar v)} c.put_pieces.ensures
-    (λ d k. ap element_text ((any-replies s (ByHandle c.args.object.handle) c.requires.elements.0 (Get (ByHandle c.args.object.handle) c.args.index) _ c.requires.elements.1 c.in-Ok.ensures).answers d k))
+    let i = c.args.index in
+    let sp = g.L.Layout.spelling c.args.layout.now in
+    of-one {text = sp.scalar i (kind_of_scalar v) (value_of_scalar v)} c.put_scalar.ensures
+    (λ d k. ap (element_text sp i) ((any-replies s (ByHandle c.args.object.handle) c.requires.elements.0 (Get (ByHandle c.args.object.handle) i) _ c.requires.elements.1 c.in-Ok.ensures).answers d k))
 
 pub returns-in-Err : goal.returns-in-Err
 returns-in-Err g c =
     let s = c.args.segment.now in
+    let i = c.args.index in
+    let sp = g.L.Layout.spelling c.args.layout.now in
     of-none
-    (λ d k. sym (ap element_text ((any-replies s (ByHandle c.args.object.handle) c.requires.elements.0 (Get (ByHandle c.args.object.handle) c.args.index) _ c.requires.elements.1 c.in-Err.ensures).answers d k)))
+    (λ d k. sym (ap (element_text sp i) ((any-replies s (ByHandle c.args.object.handle) c.requires.elements.0 (Get (ByHandle c.args.object.handle) i) _ c.requires.elements.1 c.in-Err.ensures).answers d k)))

@@ -1,9 +1,9 @@
-use Rattle.segment_dump.proofs.Common.{length, refl, ap, ◌∙◌, only_room}
+use Rattle.segment_dump.proofs.Common.{refl, ap, ◌∙◌, only_room}
 use Rattle.segment_dump.proofs.DumpCounts.{dump-no_front, dump-no_objects, dump-some}
 use Rattle.segment_dump.proofs.counting.count_dump.Goals as goal
 
 pub returns-in_default-clause-counts : goal.returns-in_default-clause-counts
-returns-in_default-clause-counts c = dump-no_front c.args.text.now (length c.args.text.now) c.in_default.ensures.value
+returns-in_default-clause-counts c = dump-no_front c.args.text.now c.front_left.result c.in_default.ensures.value
 
 pub returns-in_err-objects-clause-counts : goal.returns-in_err-objects-clause-counts
 returns-in_err-objects-clause-counts c =

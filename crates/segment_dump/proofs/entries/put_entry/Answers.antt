@@ -1,4 +1,4 @@
-use Rattle.segment_dump.proofs.Common.{refl, ByHandle, lines_at, head_line}
+use Rattle.segment_dump.proofs.Common.{refl, ByHandle, head_line, in_lines, laid_at}
 use Rattle.segment_dump.proofs.Elements.{said-located}
 use Rattle.segment_dump.proofs.Owed.{of-cut, of-one, of-same, of-then}
 use Rattle.segment_dump.proofs.Sections.{entry-text}
@@ -15,7 +15,7 @@ returns-in_err-put_head g c =
     let said = c.args.said in
     let n = c.count_of-count.result in
     of-same
-    (of-cut (λ d. lines_at d (ByHandle said.handle)) c.from_residual.ensures.0
+    (of-cut (λ d. laid_at in_lines d (ByHandle said.handle)) c.from_residual.ensures.0
     (of-one {owed = λ d. head_line said.class said.name.now said.kind n} c.in_err-put_head.ensures (λ d st. refl)))
     (entry-text c.args.segment.now said n c.requires.said c.count_of-count.ensures)
 

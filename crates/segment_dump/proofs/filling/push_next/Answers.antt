@@ -1,8 +1,16 @@
+use Rattle.segment_dump.proofs.Common.{refl}
+use Rattle.segment_dump.proofs.HereObjects.{still_of_kind-here}
 use Rattle.segment_dump.proofs.Adds.{push-adds, push-unread}
 use Rattle.segment_dump.proofs.filling.push_next.Goals as goal
 
-pub returns-in_err-value : goal.returns-in_err-value
-returns-in_err-value c = λ index room. push-unread c.args.segment.now c.args.segment.now c.args.handle index room c.args.kind c.args.lines.now c.next_value.new.lines _ c.from_residual.result c.in_err-value.ensures
+pub returns-in_err-value-clause-adds : goal.returns-in_err-value-clause-adds
+returns-in_err-value-clause-adds c = λ index room. push-unread c.args.segment.now c.args.segment.now c.args.object.handle index room c.args.kind c.args.lines.now c.next_value.new.lines _ c.from_residual.result c.in_err-value.ensures
 
-pub returns : goal.returns
-returns c = λ index room. push-adds c.args.segment.now c.push_value.new.segment c.args.handle index room c.args.kind c.args.lines.now c.next_value.new.lines c.in_ok-value.value c.push_value.result c.ended.result c.in_ok-value.ensures c.push_value.ensures c.ended.ensures
+pub returns-clause-adds : goal.returns-clause-adds
+returns-clause-adds c = λ index room. push-adds c.args.segment.now c.push_value.new.segment c.args.object.handle index room c.args.kind c.args.lines.now c.next_value.new.lines c.in_ok-value.value c.push_value.result c.ended.result c.in_ok-value.ensures c.push_value.ensures c.ended.ensures
+
+pub push_value-requires : goal.push_value-requires
+push_value-requires c = c.requires.object
+
+pub returns-clause-here : goal.returns-clause-here
+returns-clause-here c = still_of_kind-here c.requires _ _ _ _ c.push_value.ensures refl

@@ -1,5 +1,5 @@
-use Rattle.segment_dump.proofs.Common.{length, refl, cause_in}
-use Rattle.segment_dump.proofs.Judged.{exact-done, exact-refused, lacking-made, lacking-refused, lacks}
+use Rattle.segment_dump.proofs.Common.{length, cause_in}
+use Rattle.segment_dump.proofs.Judged.{back-some, exact-done, exact-refused, lacking-made, lacking-refused, lacks}
 use Rattle.segment_dump.proofs.Succeeds.{succeeds-lacking, succeeds-made}
 use Rattle.segment_dump.proofs.loading.load_lines.Goals as goal
 
@@ -8,7 +8,7 @@ returns-in-Some-clause-done c = record {
   why = lacks c.args.text.now c.args.region c.args.base c.args.size (length c.args.room.now)
       c.count_dump-counted.result c.refusal_of.result c.in-Some.cause c.count_dump-counted.ensures.counts
       c.refusal_of.ensures c.in-Some.is;
-  back = refl;
+  back = back-some c.args.region c.in-Some.cause;
 }
 
 pub returns-in-Some-clause-exact : goal.returns-in-Some-clause-exact

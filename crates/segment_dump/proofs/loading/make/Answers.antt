@@ -1,10 +1,10 @@
 use Rattle.segment_dump.proofs.Common.{length, refl}
-use Rattle.segment_dump.proofs.Judged.{judged, wrong-why}
+use Rattle.segment_dump.proofs.Judged.{back-some, judged, wrong-why}
 use Rattle.segment_dump.proofs.Succeeds.{good-judged, good-no_front, good-unbuilt, good-uncreated}
 use Rattle.segment_dump.proofs.loading.make.Goals as goal
 
 pub returns-in-Err-clause-done : goal.returns-in-Err-clause-done
-returns-in-Err-clause-done c = record { why = wrong-why c.args.text.now c.args.region c.args.base c.args.size (length c.args.room.now) _ c.bad_dump.ensures; back = refl }
+returns-in-Err-clause-done c = record { why = wrong-why c.args.text.now c.args.region c.args.base c.args.size (length c.args.room.now) _ c.bad_dump.ensures; back = back-some c.args.region c.bad_dump.result }
 
 pub returns-in-Err-clause-succeeds : goal.returns-in-Err-clause-succeeds
 returns-in-Err-clause-succeeds c =

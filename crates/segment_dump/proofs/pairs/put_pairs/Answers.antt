@@ -1,7 +1,7 @@
 -- Each pair is that of the place at which the walk has come.
 use Rattle.segment_dump.proofs.Common.{◌≡◌, ◌+◌, sym, ap, subst, ◌∙◌, Some, None, arith, option_map, lt-ltb, ByHandle}
 use Rattle.segment_dump.proofs.Common.{item_seen, pair_part, WritesOf, parts_until}
-use Rattle.segment_dump.specs.Asked.{walked_line}
+use Rattle.segment_dump.specs.Asked.{walked_text}
 use Rattle.segment_manager.proofs.NextPairs.{IsNext, map-of-key, next-behind, next-first, next-none, no-pair, none-text}
 use Rattle.segment_manager.proofs.NextPairs.{pair-said}
 use Rattle.segment_dump.proofs.PartLines.{well}
@@ -21,16 +21,16 @@ returns-in_err-put_pair g c =
     let was = c.pairs.invariant in
     let i = c.pairs.index in
     let n : IsNext s c.args.object.handle c.args.keys c.args.values (Some (c.in-Some.key, c.in-Some.value)) i = λ d l. ap (option_map item_seen) (sym c.in-Some.is) ∙ was.next d l (omega (arith, c.pairs-test.true)) in
-    of-cut_in (λ d. pair_part c.args.keys c.args.values d (ByHandle c.args.object.handle)) (λ d. c.args.count) was.told
+    of-cut_in (λ d. pair_part (g.L.Layout.spelling c.args.layout.now) c.args.keys c.args.values d (ByHandle c.args.object.handle)) (λ d. c.args.count) was.told
     (λ d l. omega (arith, c.pairs-test.true))
-    (of-one {owed = λ d. pair_part c.args.keys c.args.values d (ByHandle c.args.object.handle) i}
+    (of-one {owed = λ d. pair_part (g.L.Layout.spelling c.args.layout.now) c.args.keys c.args.values d (ByHandle c.args.object.handle) i}
     c.in_err-put_pair.ensures
-    (pair-said s c.args.object.handle c.args.keys c.args.values i c.in-Some.key c.in-Some.value n walked_line))
+    (pair-said s c.args.object.handle c.args.keys c.args.values i c.in-Some.key c.in-Some.value n (walked_text (g.L.Layout.spelling c.args.layout.now) i)))
     c.from_residual.ensures.0
 
 pub pairs-init : goal.pairs-init
 pairs-init g c = record {
-  told = of-start (λ d. pair_part c.args.keys c.args.values d (ByHandle c.args.object.handle));
+  told = of-start (λ d. pair_part (g.L.Layout.spelling c.args.layout.now) c.args.keys c.args.values d (ByHandle c.args.object.handle));
   next = λ d l less. next-first c.args.segment.now c.args.object.handle c.args.keys c.args.values c.first_pair-next.result c.first_pair-next.ensures d l;
 }
 
@@ -46,11 +46,11 @@ pairs-preserved g c =
           let n : IsNext s c.args.object.handle c.args.keys c.args.values (Some (w.in-Some.key, w.in-Some.value)) i = λ d l. ap (option_map item_seen) (sym w.in-Some.is) ∙ was.next d l (omega (arith, c.pairs-test.true)) in
           record {
             told =
-                subst (λ o. WritesOf s old (g.W.Sink.history o) well (λ d. parts_until (pair_part c.args.keys c.args.values d (ByHandle c.args.object.handle)) (i + 1))) (sym w.out-is)
-                (of-more (λ d. pair_part c.args.keys c.args.values d (ByHandle c.args.object.handle)) was.told
-                (of-one {owed = λ d. pair_part c.args.keys c.args.values d (ByHandle c.args.object.handle) i}
+                subst (λ o. WritesOf s old (g.W.Sink.history o) well (λ d. parts_until (pair_part (g.L.Layout.spelling c.args.layout.now) c.args.keys c.args.values d (ByHandle c.args.object.handle)) (i + 1))) (sym w.out-is)
+                (of-more (λ d. pair_part (g.L.Layout.spelling c.args.layout.now) c.args.keys c.args.values d (ByHandle c.args.object.handle)) was.told
+                (of-one {owed = λ d. pair_part (g.L.Layout.spelling c.args.layout.now) c.args.keys c.args.values d (ByHandle c.args.object.handle) i}
                 w.in_ok-put_pair.ensures
-                (pair-said s c.args.object.handle c.args.keys c.args.values i w.in-Some.key w.in-Some.value n walked_line)));
+                (pair-said s c.args.object.handle c.args.keys c.args.values i w.in-Some.key w.in-Some.value n (walked_text (g.L.Layout.spelling c.args.layout.now) i))));
             next = λ d l less.
                 ap (option_map item_seen) w.next-is
                 ∙ next-behind s c.args.object.handle c.args.keys c.args.values i w.in-Some.key w.in-Some.value n w.pair_behind-next.result (w.pair_behind-next.ensures (lt-ltb (i + 1) c.args.count less)) d l;
@@ -60,14 +60,14 @@ pairs-preserved g c =
           let n : IsNext s c.args.object.handle c.args.keys c.args.values None i = λ d l. ap (option_map item_seen) (sym none) ∙ was.next d l (omega (arith, c.pairs-test.true)) in
           record {
             told =
-                let nothing : WritesOf s mid mid well (λ d. pair_part c.args.keys c.args.values d (ByHandle c.args.object.handle) i) =
-                of-none (λ d l. sym (none-text s c.args.object.handle c.args.keys c.args.values i n walked_line d l)) in
-                subst (λ o. WritesOf s old (g.W.Sink.history o) well (λ d. parts_until (pair_part c.args.keys c.args.values d (ByHandle c.args.object.handle)) (i + 1))) (sym w.out-is)
-                (of-more (λ d. pair_part c.args.keys c.args.values d (ByHandle c.args.object.handle)) was.told nothing);
+                let nothing : WritesOf s mid mid well (λ d. pair_part (g.L.Layout.spelling c.args.layout.now) c.args.keys c.args.values d (ByHandle c.args.object.handle) i) =
+                of-none (λ d l. sym (none-text s c.args.object.handle c.args.keys c.args.values i n (walked_text (g.L.Layout.spelling c.args.layout.now) i) d l)) in
+                subst (λ o. WritesOf s old (g.W.Sink.history o) well (λ d. parts_until (pair_part (g.L.Layout.spelling c.args.layout.now) c.args.keys c.args.values d (ByHandle c.args.object.handle)) (i + 1))) (sym w.out-is)
+                (of-more (λ d. pair_part (g.L.Layout.spelling c.args.layout.now) c.args.keys c.args.values d (ByHandle c.args.object.handle)) was.told nothing);
             next = λ d l less. ap (option_map item_seen) (w.next-is ∙ none) ∙ next-none s c.args.object.handle c.args.keys c.args.values i n d l;
           }
     ]
 
 pub returns : goal.returns
-returns g c = of-all (λ d. pair_part c.args.keys c.args.values d (ByHandle c.args.object.handle)) c.pairs.index
+returns g c = of-all (λ d. pair_part (g.L.Layout.spelling c.args.layout.now) c.args.keys c.args.values d (ByHandle c.args.object.handle)) c.pairs.index
     c.args.count c.pairs.invariant.told (omega (arith, c.pairs-test.false, c.pairs.auto.index-end))

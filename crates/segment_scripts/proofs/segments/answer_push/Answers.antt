@@ -6,7 +6,7 @@ use Rattle.segment_lang.specs.Reading.{as_reading}
 use Rattle.segment_lang.specs.Seen.{literal_of}
 use Rattle.segment_lang.proofs.Laws.{of_key_literal}
 use Rattle.segment_manager.specs.Answers.{Done}
-use Rattle.segment_scripts.proofs.Answering.{replies-call}
+use Rattle.segment_scripts.proofs.Answering.{replies-plain}
 use Rattle.segment_scripts.proofs.WrongLines.{responds-wrong}
 use Rattle.segment_scripts.proofs.Zeros.{responds-replied}
 use Rattle.segment_scripts.proofs.segments.answer_push.Goals as goal
@@ -18,7 +18,7 @@ push-requires g c =
 pub returns-in-Some : goal.returns-in-Some
 returns-in-Some g c =
     responds-replied (ap as_reading (c.in-Some.ensures Push ∙ sym (of_key_literal Push c.args.rest.now)))
-    (replies-call (λ _. Done) (λ _. refl) c.push.result refl refl c.done-answer.ensures c.push.ensures.step c.push.ensures.refused)
+    (replies-plain (λ _. Done) (λ _. refl) c.push.result refl refl c.done-answer.ensures c.push.ensures.step c.push.ensures.refused (λ _. refl))
     c.put_answer.ensures
 
 pub returns-in-None : goal.returns-in-None

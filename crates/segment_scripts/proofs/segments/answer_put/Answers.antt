@@ -3,7 +3,7 @@ use Rattle.seg_types.specs.declared.refusals.LineError.TheVariants.{BadSyntax}
 use Rattle.segment_lang.specs.Reading.{as_reading}
 use Rattle.segment_lang.proofs.Laws.{of_putting}
 use Rattle.segment_manager.specs.Answers.{Truth}
-use Rattle.segment_scripts.proofs.Answering.{keeps-refused, replies-call}
+use Rattle.segment_scripts.proofs.Answering.{keeps-refused, replies-plain}
 use Rattle.segment_scripts.proofs.WrongLines.{responds-wrong}
 use Rattle.segment_scripts.proofs.Zeros.{responds-replied}
 use Rattle.segment_scripts.proofs.segments.answer_put.Goals as goal
@@ -11,7 +11,7 @@ use Rattle.segment_scripts.proofs.segments.answer_put.Goals as goal
 pub returns-in-Some : goal.returns-in-Some
 returns-in-Some g c =
     responds-replied (ap as_reading (c.in-Some.ensures ∙ sym (of_putting c.args.rest.now)))
-    (replies-call Truth (λ _. refl) c.put.result refl refl c.truth-answer.ensures c.put.ensures.step (keeps-refused c.args.segment.now c.put.new.segment c.put.result c.put.ensures.refused))
+    (replies-plain Truth (λ _. refl) c.put.result refl refl c.truth-answer.ensures c.put.ensures.step (keeps-refused c.args.segment.now c.put.new.segment c.put.result c.put.ensures.refused) (λ _. refl))
     c.put_answer.ensures
 
 pub returns-in-None : goal.returns-in-None

@@ -1,0 +1,49 @@
+-- The parts of a line of JSON, one behind another, are the line of the object.
+use Rattle.segment_dump.proofs.Common.{◌≡◌, ℕ, List, [], ◌∷◌, ◌++◌, refl, sym, ap, ◌∙◌, append_assoc, codes, map}
+use Rattle.segment_dump.proofs.Common.{ByHandle, Instance, Directory, Object, named_objects, unique_objects, SaysOf}
+use Rattle.segment_dump.proofs.Common.{State, StandsFor, anonymous_objects, content_of, item_of_object, kind_of_content}
+use Rattle.segment_dump.proofs.Common.{portable, part_of, Content, Scalars, Vector, String, Map, Strings, flat_map}
+use Rattle.segment_dump.proofs.Common.{laid_at, laid_from, laid_object, laid_out}
+use Rattle.segment_dump.specs.Json.{closing, comma_before, in_json, json_at, json_bytes, json_dump, json_key}
+use Rattle.segment_dump.specs.Json.{json_kind, json_line, json_list, json_object, json_pair, json_value, opening}
+use Rattle.segment_lang.specs.Texts.{value_text}
+use Rattle.segment_dump.proofs.Elements.{flat_map-made}
+use Rattle.segment_dump.proofs.Orders.{kind-made}
+
+-- what stands around the elements of a list
+list-around : {X : Type 0} (f : X → List ℕ) (xs : List X)
+    → 0x5B ∷ (laid_from (λ i x. comma_before i ++ f x) 0 xs ++ codes "]}\n") ≡ json_list f xs ++ codes "}\n"
+list-around f xs =
+    sym (ap (λ l. 0x5B ∷ l) (append_assoc (laid_from (λ i x. comma_before i ++ f x) 0 xs) (0x5D ∷ []) (codes "}\n")))
+
+pub value-around : (c : Content)
+    → opening (kind_of_content c) ++ (laid_out in_json c ++ closing (kind_of_content c)) ≡ json_value c ++ codes "}\n"
+value-around (Scalars k zs) = list-around (value_text k) zs
+value-around (Vector k zs) = list-around (value_text k) zs
+value-around (String bs) = refl
+value-around (Map k v ps) = list-around (json_pair k v) ps
+value-around (Strings ts) = list-around json_bytes ts
+
+-- the line of what said this of itself
+pub line-said : (s : State) (said : Instance) → SaysOf s (ByHandle said.handle) said → (d : Directory)
+    → StandsFor s.cut.bytes d
+    → json_key said.class said.name.now
+    ++ (json_kind said.kind ++ (opening said.kind ++ (laid_at in_json d (ByHandle said.handle) ++ closing said.kind)))
+    ≡ json_at d (ByHandle said.handle)
+line-said s said h d st =
+    let f = h.says d st in
+    let kind : said.kind ≡ kind_of_content (content_of f.0.value) = f.2.kind ∙ sym (kind-made f.0.value) in
+    (λ i. json_key (f.2.class i) (f.2.name i) ++ (json_kind (kind i) ++ (opening (kind i)
+    ++ (part_of (laid_object in_json) (f.1 i) ++ closing (kind i)))))
+    ∙ ap (λ l. json_key f.0.class f.0.name ++ (json_kind (kind_of_content (content_of f.0.value)) ++ l))
+    (value-around (content_of f.0.value))
+    ∙ sym (ap (part_of json_object) f.1)
+
+lines-made : (os : List Object) → flat_map json_object os ≡ flat_map json_line (map item_of_object os)
+lines-made os = sym (flat_map-made json_line item_of_object os)
+
+pub json-parts : (d : Directory)
+    → flat_map json_object (named_objects d) ++ (flat_map json_object (unique_objects d)
+    ++ flat_map json_object (anonymous_objects d)) ≡ json_dump (portable d)
+json-parts d = λ i. lines-made (named_objects d) i ++ (lines-made (unique_objects d) i
+    ++ lines-made (anonymous_objects d) i)

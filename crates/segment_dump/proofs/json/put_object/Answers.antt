@@ -1,0 +1,39 @@
+use Rattle.segment_dump.proofs.Common.{◌++◌, refl, ByHandle, laid_at}
+use Rattle.segment_dump.specs.Json.{closing, in_json, json_key, json_kind, opening}
+use Rattle.segment_dump.proofs.Elements.{said-located}
+use Rattle.segment_dump.proofs.JsonLines.{line-said}
+use Rattle.segment_dump.proofs.Owed.{of-cut, of-one, of-same, of-then}
+use Rattle.segment_dump.proofs.json.put_object.Goals as goal
+
+pub count_of-count-requires : goal.count_of-count-requires
+count_of-count-requires g c = said-located c.args.segment.now c.args.said c.requires.said
+
+pub put_value-requires-clause-object : goal.put_value-requires-clause-object
+put_value-requires-clause-object g c = said-located c.args.segment.now c.args.said c.requires.said
+
+pub returns-in_err-put_key : goal.returns-in_err-put_key
+returns-in_err-put_key g c =
+    let said = c.args.said in
+    of-same
+    (of-cut (λ d. json_kind said.kind ++ (opening said.kind ++ (laid_at in_json d (ByHandle said.handle) ++ closing said.kind)))
+    c.from_residual.ensures.0
+    (of-one {owed = λ d. json_key said.class said.name.now} c.in_err-put_key.ensures (λ d st. refl)))
+    (line-said c.args.segment.now said c.requires.said)
+
+pub returns-in_err-put_kind : goal.returns-in_err-put_kind
+returns-in_err-put_kind g c =
+    let said = c.args.said in
+    of-same
+    (of-then (of-one {owed = λ d. json_key said.class said.name.now} c.in_ok-put_key.ensures (λ d st. refl))
+    (of-cut (λ d. opening said.kind ++ (laid_at in_json d (ByHandle said.handle) ++ closing said.kind))
+    c.from_residual-in_err-put_kind.ensures.0
+    (of-one {owed = λ d. json_kind said.kind} c.in_err-put_kind.ensures (λ d st. refl))))
+    (line-said c.args.segment.now said c.requires.said)
+
+pub returns : goal.returns
+returns g c =
+    let said = c.args.said in
+    of-same
+    (of-then (of-one {owed = λ d. json_key said.class said.name.now} c.in_ok-put_key.ensures (λ d st. refl))
+    (of-then (of-one {owed = λ d. json_kind said.kind} c.in_ok-put_kind.ensures (λ d st. refl)) c.put_value.ensures))
+    (line-said c.args.segment.now said c.requires.said)

@@ -46,11 +46,15 @@ page_end =
 
 -- ---- the objects
 
--- a row of the table: class, name, kind, number of elements, handle
-abbrev pub row_text : Class → List ℕ → Kind → ℕ → ℕ → List ℕ
-row_text class name kind count handle =
-    codes "<tr><td>" ++ (class_text class ++ (codes "</td><td>" ++ (xml_text name ++ (codes "</td><td>" ++ (xml_text (kind_text kind) ++ (
+-- a row of the table, of these cells
+abbrev pub cells_text : List ℕ → List ℕ → Kind → ℕ → ℕ → List ℕ
+cells_text class name kind count handle =
+    codes "<tr><td>" ++ (class ++ (codes "</td><td>" ++ (xml_text name ++ (codes "</td><td>" ++ (xml_text (kind_text kind) ++ (
     codes "</td><td>" ++ (decimal count ++ (codes "</td><td>" ++ (decimal handle ++ codes "</td></tr>\n")))))))))
+
+-- class, name, kind, number of elements, handle
+abbrev pub row_text : Class → List ℕ → Kind → ℕ → ℕ → List ℕ
+row_text class name kind count handle = cells_text (class_text class) name kind count handle
 
 -- the row of an object, by what it says of itself
 abbrev pub instance_row : Instance → List ℕ

@@ -1,13 +1,14 @@
 //! A page that a browser shows of a segment: its picture, its figures, and its objects as a table.
 ghost use Rattle.std.specs.Prelude.{◌≡◌, ◌-◌, ◌^◌, ◌<◌};
 ghost use Rattle.raw_region.specs.Device.{Writes};
-ghost use Rattle.segment_report.specs.Page.{figures_head, figures_part, instance_row, objects_part, page_end, page_head, page_of, picture_part, rows_text, table_head};
+ghost use Rattle.segment_report.specs.Page.{cells_text, figures_head, figures_part, instance_row, objects_part, page_end, page_head, page_of, picture_part, rows_text, table_head};
 ghost use Rattle.segment_report.specs.Telling.{Tells};
 
 use crate::figures::stat;
 use crate::parts::{Part, put_parts};
 use crate::picture::draw;
 use raw_region::{DeviceFault, Sink};
+use seg_types::{Handle, Kind};
 use segment_manager::{Instance, Segment};
 
 /// Writes a page of HTML that shows a segment: its picture, its figures, and its objects as a table that can be sorted
@@ -68,19 +69,35 @@ fn put_row<W: Sink>(out: &mut W, said: Instance<'_>) -> Result<(), DeviceFault>
     requires { (W.history out.old).failures < 2 ^ 64 - 1 }
     ensures { Writes (W.history out.old) (W.history out.new) result (instance_row said.entry) }
 {
+    let class = said.class.as_str().as_bytes();
+    put_cells(out, class, said.name, said.kind, said.count, said.handle)
+}
+
+/// Writes a row of the table.
+fn put_cells<'a, W: Sink>(
+    out: &mut W,
+    class: &'a [u8],
+    name: &'a [u8],
+    kind: Kind,
+    count: u32,
+    handle: Handle,
+) -> Result<(), DeviceFault>
+    requires { (W.history out.old).failures < 2 ^ 64 - 1 }
+    ensures { Writes (W.history out.old) (W.history out.new) result (cells_text class.now name.now kind count handle) }
+{
     put_parts(
         out,
         &[
             Part::Bytes(b"<tr><td>"),
-            Part::Bytes(said.class.as_str().as_bytes()),
+            Part::Bytes(class),
             Part::Bytes(b"</td><td>"),
-            Part::Escaped(said.name),
+            Part::Escaped(name),
             Part::Bytes(b"</td><td>"),
-            Part::Kind(said.kind),
+            Part::Kind(kind),
             Part::Bytes(b"</td><td>"),
-            Part::Number(u64::from(said.count)),
+            Part::Number(u64::from(count)),
             Part::Bytes(b"</td><td>"),
-            Part::Number(said.handle),
+            Part::Number(handle),
             Part::Bytes(b"</td></tr>\n"),
         ],
     )

@@ -1,10 +1,10 @@
-use Rattle.std.proofs.Common.{◌≡◌, ◌≤◌, length, sym, ap, subst, ◌∙◌, rules}
+use Rattle.std.proofs.Common.{◌≡◌, ◌≤◌, length, refl, sym, ap, subst, ◌∙◌, rules}
 use Rattle.segment_manager.specs.Directory.{Directory}
 use Rattle.segment_manager.specs.objects.Instances.{SaysAt}
 use Rattle.segment_manager.specs.State.{State, StandsFor}
 use Rattle.segment_report.specs.Page.{instance_row, object_row}
 use Rattle.segment_report.proofs.Rows.{row-next}
-use Rattle.segment_report.proofs.Telling.{IsTold, none_told, told-all, told-cut, told-more}
+use Rattle.segment_report.proofs.Telling.{IsTold, none_told, told-all, told-cut, told-more, tells-text}
 use Rattle.segment_report.proofs.page.put_rows.Goals as goal
 
 pub objects-init : goal.objects-init
@@ -33,7 +33,9 @@ returns-in_err-put_row g c =
     told-cut s (λ (d : Directory). d.objects) (λ (d : Directory). object_row) (g.W.Sink.history c.args.out.now)
     (g.W.Sink.history c.objects.out) (g.W.Sink.history c.put_row.new.out) walk.at c.objects.invariant.told
     (λ (d : Directory). instance_row said) (row-next s walk.at said at) _ c.from_residual.result
-    c.from_residual.ensures.0 c.in_err-put_row.ensures
+    c.from_residual.ensures.0
+    (tells-text s (g.W.Sink.history c.objects.out) (g.W.Sink.history c.put_row.new.out) _ (instance_row said)
+    (λ (d : Directory). instance_row said) c.in_err-put_row.ensures (λ d k. refl))
 
 pub objects-preserved : goal.objects-preserved
 objects-preserved g c =
@@ -55,7 +57,9 @@ objects-preserved g c =
           (sym steps.place)
           (told-more s (λ (d : Directory). d.objects) (λ (d : Directory). object_row) old
           (g.W.Sink.history c.objects.out) new walk.at c.objects.invariant.told (λ (d : Directory). instance_row said)
-          (row-next s walk.at said at) _ c.in_ok-put_row.ensures);
+          (row-next s walk.at said at) _
+          (tells-text s (g.W.Sink.history c.objects.out) new _ (instance_row said) (λ (d : Directory). instance_row said)
+          c.in_ok-put_row.ensures (λ d k. refl)));
     }
 
 pub returns : goal.returns

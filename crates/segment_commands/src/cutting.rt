@@ -7,10 +7,10 @@ ghost use Rattle.segment_commands.specs.Migrating.{BeginsAny};
 ghost use Rattle.segment_commands.specs.Opening.{BeginsIn, EndsWithin, GoesBeyond, IsToldByLength, VerifiesIn};
 
 use crate::counting::Counted;
+use grow_shrink::region_for;
 use image_check::{ImageClass, OpenError, open_any, verify};
 use raw_region::{Source, Steps};
 use segment_cli::{SessionFault, Start, begin};
-use segment_file::region_for;
 use segment_manager::{Mode, Segment};
 use std::alloc::Global;
 

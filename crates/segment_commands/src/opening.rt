@@ -6,10 +6,11 @@ ghost use Rattle.segment_cli.specs.Session.{IsTooSmall};
 ghost use Rattle.segment_commands.specs.Opening.{BeginsIn, OpensFile, VerifiesFile};
 
 use crate::cutting::{begin_from, verify_from};
+use grow_shrink::region_for;
 use raw_region::Source;
 use segment_cli::{SessionFault, Start, begin};
 use segment_disk::{Disk, Opened};
-use segment_file::{region_for, room_needed};
+use segment_file::room_needed;
 use segment_manager::{Mode, Segment};
 use std::alloc::Global;
 

@@ -4,9 +4,10 @@ ghost use Rattle.raw_region.specs.Device.{given_since};
 ghost use Rattle.segment_file.specs.SegmentFiles.{ChecksFile, IsEmptySegment, IsWhyNoSegment, MakesSegmentFile, Migrates, OpensAnyIn, OpensIn, ReadsAnySegment, ReadsSegment, VerifiesIn, WritesHeld};
 
 use crate::file_errors::FileError;
-use crate::regions::{region_for, room_needed};
+use crate::regions::room_needed;
 use crate::writing::write_image;
 use block_tags::is_legal_size;
+use grow_shrink::region_for;
 use image_check::{open, open_any, verify};
 use raw_region::{Source, Steps};
 use segment_disk::{Disk, Making, Opened};

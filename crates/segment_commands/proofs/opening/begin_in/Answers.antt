@@ -10,4 +10,4 @@ returns-in_default-clause-begins g c = inl (record { unread = not_asked (g.S.Sou
 pub returns-clause-room : goal.returns-clause-room
 returns-clause-room g c =
     let image = given_since (g.S.Source.history c.args.reader.now) (g.S.Source.history c.begin.new.image) in
-    no_room c.args.start c.args.mode image c.args.bytes (length c.in-Ok.region) c.begin.result c.in-Ok.ensures c.begin.ensures.starts
+    no_room c.args.start c.args.mode image c.args.bytes (length c.in-Ok.region) c.begin.result c.in-Ok.ensures.room c.begin.ensures.starts

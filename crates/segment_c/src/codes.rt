@@ -1,5 +1,5 @@
 //! The codes that C is answered: those of refusals are their numbers in the language.
-ghost use Rattle.std.specs.Prelude.{◌≡◌, ◌≤◌, IsTrue};
+ghost use Rattle.std.specs.Prelude.{◌≡◌, ◌≤◌, IsTrue, MatchResult};
 ghost use Rattle.std.specs.declared.option.Option.TheVariants.{Some as Held};
 ghost use Rattle.seg_types.specs.Refusals.{refusal_number};
 ghost use Rattle.segment_c.specs.Codes.{answer_for, is_answer};
@@ -11,8 +11,10 @@ ghost use Rattle.segment_manager.specs.State.{done_answer, handle_answer, scalar
 
 use crate::handle::{Handle, put};
 use crate::values::Value;
+use image_check::MemoryFault;
 use seg_types::{Refusal, ScalarValue};
 use segment_manager::Segment;
+use std::alloc::Global;
 
 /// Done.
 pub const DONE: u32 = 0;
@@ -46,8 +48,8 @@ pub const BAD_MODE: u32 = 23;
 pub const SHORT_BUFFER: u32 = 24;
 /// A slice is null.
 pub const NULL_SLICE: u32 = 25;
-/// No memory.
-pub const NO_MEMORY: u32 = 26;
+/// No memory. [`no_memory`] tells it of a request that was refused, and [`boxed_or_not`] of its own.
+const NO_MEMORY: u32 = 26;
 /// The region has too little room.
 pub const SHORT_REGION: u32 = 27;
 /// A segment does not grow by so many bytes.
@@ -56,6 +58,23 @@ pub const BAD_GROWTH: u32 = 28;
 pub const TOO_LARGE: u32 = 29;
 /// The bytes are no image: to this the number of its class is added.
 pub const BAD_IMAGE: u32 = 100;
+
+/// A segment in a box, or the code of no memory for one.
+pub fn boxed_or_not(alloc: Global, segment: Segment) -> Result<Box<Segment>, u32>
+    ensures { MatchResult result (λ s. s.value ≡ segment) (λ code. code ≡ 26) }
+{
+    match Box::new(alloc, segment) {
+        Ok(segment) => Ok(segment),
+        Err(_) => Err(NO_MEMORY),
+    }
+}
+
+/// The code of a request for memory that was refused.
+pub fn no_memory(_refused: MemoryFault) -> u32
+    ensures { result ≡ 26 }
+{
+    NO_MEMORY
+}
 
 /// The code of a result, of which what is there goes out.
 macro_rules! code_for {

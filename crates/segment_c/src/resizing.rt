@@ -1,7 +1,8 @@
 //! Segments that become longer or shorter, and that move into other regions.
-ghost use Rattle.std.specs.Prelude.{◌≡◌, ◌<◌, ◌≤◌, ◌⊎◌, IfOk, Some, if◌then◌else◌, length, true};
+ghost use Rattle.std.specs.Prelude.{◌≡◌, ◌<◌, ◌≤◌, ◌⊎◌, IfErr, IfOk, Some, if◌then◌else◌, length, true};
 ghost use Rattle.std.specs.declared.option.Option.TheVariants.{Some as Held};
 ghost use Rattle.grow_shrink.specs.Resized.{shrink_refusal};
+ghost use Rattle.raw_region.specs.Refusals.{refusal_of};
 ghost use Rattle.raw_region.specs.Regions.{IsCapacity};
 ghost use Rattle.segment_c.specs.Calls.{IsClosed, IsStopped, Opened};
 ghost use Rattle.segment_c.specs.Growing.{IsGrowthCode, IsLonger, growing_code};
@@ -12,9 +13,10 @@ ghost use Rattle.segment_manager.specs.blocks.Resized.{Resizes, shrunk};
 ghost use Rattle.segment_manager.specs.State.{StandsFor, State};
 
 use crate::calls::passed;
-use crate::codes::{BAD_GROWTH, BAD_SIZE, DONE, NO_MEMORY, READ_ONLY, SHORT_REGION, TOO_LARGE};
+use crate::codes::{BAD_GROWTH, BAD_SIZE, DONE, READ_ONLY, SHORT_REGION, TOO_LARGE, no_memory};
 use crate::handle::{Handle, put, take};
 use grow_shrink::{GrowError, GrowOrMoveError, grow_or_move};
+use image_check::MemoryFault;
 use raw_region::{OutOfMemory, RawRegion, Window};
 use segment_manager::Segment;
 use segment_manager::conditioned::adopt;
@@ -94,11 +96,13 @@ fn relocate(alloc: Global, segment: &mut Segment, capacity: u64) -> u32
     if capacity < segment.as_bytes().len() as u64 {
         return SHORT_REGION;
     }
-    let Ok(copy) = copied(alloc, segment, capacity) else {
-        return NO_MEMORY;
-    };
-    *segment = copy;
-    DONE
+    match copied(alloc, segment, capacity) {
+        Ok(copy) => {
+            *segment = copy;
+            DONE
+        }
+        Err(refusal) => no_memory(MemoryFault::Bytes(refusal)),
+    }
 }
 
 /// The same segment at the front of a region of its own of `capacity` bytes, which has room for it.
@@ -106,6 +110,7 @@ fn copied(alloc: Global, segment: &Segment, capacity: u64) -> Result<Segment, Ou
     requires capacity { IsCapacity capacity }
     requires room { length segment.now.cut.bytes ≤ capacity }
     ensures moved { IfOk result (λ copy. IsMoved segment.now copy capacity) }
+    ensures refused { IfErr result (λ refusal. refusal ≡ refusal_of capacity) }
 {
     let region = RawRegion::new(alloc, capacity)?;
     let image = segment.as_bytes();
@@ -144,6 +149,6 @@ fn code_of_growing(why: GrowOrMoveError) -> u32
 {
     match why {
         GrowOrMoveError::Growth(reason) => code_of_growth(reason),
-        GrowOrMoveError::OutOfMemory(_) => NO_MEMORY,
+        GrowOrMoveError::OutOfMemory(refusal) => no_memory(MemoryFault::Bytes(refusal)),
     }
 }

@@ -20,3 +20,8 @@ pub returns-in_default-fault : goal.returns-in_default-fault
 returns-in_default-fault g c =
     let fresh = c.requires.fresh in
     inr (record { capacity = length c.in-Ok.region; starts = rw fresh at c.in-Err.ensures.starts })
+
+pub returns-in-Ok-begin : goal.returns-in-Ok-begin
+returns-in-Ok-begin g c =
+    let fresh = c.requires.fresh in
+    inr (record { capacity = length c.in-Ok.region; starts = rw fresh at c.in-Ok-begin.ensures.starts })

@@ -127,5 +127,8 @@ module _ (old new : Cut) (says : SaysHeap old (tiles_in old)) (said : SaysTiles 
   -- the free bytes of gaps stay
   pub free_bytes : AllByRecursion (λ (g : Gap). Same (bytes_of old.bytes) (bytes_of new.bytes) (g.offset + 32)
       (g.offset + g.len)) (gaps (live_of old.bytes))
-  free_bytes = subst (AllByRecursion (λ (g : Gap). Same (bytes_of old.bytes) (bytes_of new.bytes) (g.offset + 32)
-      (g.offset + g.len))) (sym gaps_old) (each_gap _ (tiles_in old) (λ t i f. regrown_gap old new says.said said r t i f))
+  free_bytes =
+      let P : Gap → Type 0 = λ (g : Gap). Same (bytes_of old.bytes) (bytes_of new.bytes) (g.offset + 32)
+      (g.offset + g.len) in
+      subst (AllByRecursion P) (sym gaps_old)
+      (each_gap P (tiles_in old) (λ t i f. regrown_gap old new says.said said r t i f))

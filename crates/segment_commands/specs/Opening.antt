@@ -1,5 +1,5 @@
 -- How the segment of a file is opened, or only its image checked.
-use Rattle.std.specs.Prelude.{◌≡◌, ◌⊎◌, ◌≤◌, ◌<◌, ℕ, true, List, Result, Ok, Err, MatchResult, length}
+use Rattle.std.specs.Prelude.{◌≡◌, ◌⊎◌, ◌≤◌, ◌<◌, ℕ, true, false, List, None, Result, Ok, Err, MatchResult, length}
 use Rattle.raw_region.specs.Device.{Gave, Given}
 use Rattle.segment_manager.specs.declared.modes.Mode.{Mode}
 use Rattle.segment_manager.specs.declared.modes.Mode.TheVariants.{ReadOnly}
@@ -10,6 +10,8 @@ use Rattle.image_check.specs.declared.classes.ImageClass.TheVariants.{Truncated}
 use Rattle.segment_cli.specs.declared.faults.Start.{Start}
 use Rattle.segment_cli.specs.declared.faults.Start.TheVariants.{Image}
 use Rattle.segment_cli.specs.Beginning.{Starts}
+use Rattle.raw_region.specs.Format.{current}
+use Rattle.image_check.specs.Deciding.{decided}
 use Rattle.image_check.specs.Opening.{IsUntouched}
 use Rattle.segment_disk.specs.Events.{Event, After}
 use Rattle.segment_file.specs.Files.{opens, does_not_open}
@@ -29,9 +31,15 @@ abbrev pub IsToldByLength : ℕ → Gave → SessionFault → Type 0
 IsToldByLength room gave fault =
     ((fault ≡ Refused Truncated) × EndsWithin room gave) ⊎ ((fault ≡ RegionTooSmall) × GoesBeyond room gave)
 
--- memory for a region was refused before the image was read
+-- what was read of an image decides no class of it, and no read failed
+pub record IsOpenYet (image : Given) : Type 0 where
+  pub sound : image.failed ≡ false
+  pub undecided : decided current image.bytes ≡ None
+
+-- memory for a region was refused before the image was read, or, of one that says more bytes than its file was told to
+-- have, memory for what was read
 pub record IsRegionless (image : Given) (result : Result State SessionFault) : Type 0 where
-  pub unread : IsUntouched image
+  pub unread : IsUntouched image ⊎ IsOpenYet image
   pub refused : result ≡ Err OutOfMemory
 
 -- a session began in a region of some capacity
@@ -61,6 +69,11 @@ OpensFile step old new path mode result = IsUnopened step old new path result �
 abbrev pub VerifiesIn : Given → Result (Unit {0}) SessionFault → Type 0
 VerifiesIn image result =
     MatchResult result (λ done. (s : State) × BeginsIn Image ReadOnly image (Ok s)) (λ fault. BeginsIn Image ReadOnly image (Err fault))
+
+-- of a segment that is let go of
+abbrev pub IsVerdictOf : Result State SessionFault → Result (Unit {0}) SessionFault → Type 0
+IsVerdictOf begun result =
+    MatchResult result (λ done. (s : State) × (begun ≡ Ok s)) (λ fault. begun ≡ Err fault)
 
 abbrev pub VerifiesFile : {D : Type 0} → (D → Event → D → Type 0) → D → D → List ℕ → Result (Unit {0}) SessionFault → Type 0
 VerifiesFile step old new path result =

@@ -1,16 +1,23 @@
-//! Files that end before the size that their first words say, and the segments of others, made or not.
-ghost use Rattle.std.specs.Prelude.{◌≡◌, ◌≤◌, true, false};
+//! The segments of images, made or not, whatever length their files were told to have.
+ghost use Rattle.std.specs.Prelude.{◌≡◌, ◌≤◌, Err, IfSome, None, true, false};
+ghost use Rattle.raw_region.specs.Format.{current};
+ghost use Rattle.image_check.specs.Deciding.{decided};
 ghost use Rattle.raw_region.specs.Device.{Grows, given_since};
+ghost use Rattle.segment_cli.specs.declared.faults.SessionFault.TheVariants.{RegionTooSmall};
 ghost use Rattle.segment_cli.specs.declared.faults.Start.TheVariants.{Image as OfImage};
 ghost use Rattle.segment_disk.specs.Events.{nothing_given};
 ghost use Rattle.segment_commands.specs.Migrating.{BeginsAny};
-ghost use Rattle.segment_commands.specs.Opening.{BeginsIn, EndsWithin, GoesBeyond, IsToldByLength, VerifiesIn};
+ghost use Rattle.segment_commands.specs.Opening.{BeginsIn, EndsWithin, GoesBeyond, IsToldByLength, IsVerdictOf, VerifiesIn};
+ghost use Rattle.image_check.specs.OpeningBytes.{as_given};
+ghost use Rattle.segment_commands.specs.ReadingOn.{IsFrontOf};
 
 use crate::counting::Counted;
-use image_check::{ImageClass, OpenError, open_any, verify};
+use crate::heading::Headed;
+use crate::reading_on::read_on;
+use image_check::{FRONT, ImageClass, OpenError, open_any, open_bytes, size_in, verify};
 use raw_region::{Source, Steps};
 use segment_cli::{SessionFault, Start, begin};
-use segment_file::region_for;
+use segment_file::{region_for, room_needed};
 use segment_manager::{Mode, Segment};
 use std::alloc::Global;
 
@@ -51,28 +58,20 @@ fn told_by_length<S: Source>(reader: &mut Counted<S>, room: u64) -> SessionFault
     }
 }
 
-/// The segment of the image of a reader, at the front of a region with room for so many bytes. Where the image ends
-/// within that room and before the size that it says, its class is told, whatever its size.
-fn begin_counted<S: Source>(
+/// The segment of the image of a reader, at the front of a region with room for so many bytes.
+fn begin_headed<S: Source>(
     alloc: Global,
     mode: Mode,
-    reader: &mut Counted<S>,
+    reader: &mut Headed<S>,
     room: u64,
 ) -> Result<Segment, SessionFault>
     requires fresh { S.history reader.old.inner ≡ nothing_given }
-    requires few { room ≤ 1073741824 }
     ensures { BeginsIn OfImage mode (given_since nothing_given (S.history reader.new.inner)) result }
 {
     let Ok(region) = region_for(alloc, room) else {
         return Err(SessionFault::OutOfMemory);
     };
-    match begin(alloc, Start::Image, mode, reader, region, 0) {
-        Ok(segment) => Ok(segment),
-        Err(fault) => match fault {
-            SessionFault::RegionTooSmall => Err(told_by_length(reader, room)),
-            _ => Err(fault),
-        },
-    }
+    begin(alloc, Start::Image, mode, reader, region, 0)
 }
 
 /// The same of an image of any of the three formats.
@@ -98,13 +97,12 @@ fn begin_any_counted<S: Source>(
 }
 
 /// The same of an image that is opened for reading, but that no segment is made.
-fn verify_counted<S: Source>(
+fn verify_headed<S: Source>(
     alloc: Global,
-    reader: &mut Counted<S>,
+    reader: &mut Headed<S>,
     room: u64,
 ) -> Result<(), SessionFault>
     requires fresh { S.history reader.old.inner ≡ nothing_given }
-    requires few { room ≤ 1073741824 }
     ensures { VerifiesIn (given_since nothing_given (S.history reader.new.inner)) result }
 {
     let Ok(region) = region_for(alloc, room) else {
@@ -112,27 +110,86 @@ fn verify_counted<S: Source>(
     };
     match verify(alloc, reader, region, 0, &mut Steps::new()) {
         Ok(_) => Ok(()),
-        Err(refused) => match refused.cause {
-            OpenError::RegionTooSmall => Err(told_by_length(reader, room)),
-            _ => Err(SessionFault::from(refused)),
-        },
+        Err(refused) => Err(SessionFault::from(refused)),
     }
 }
 
-/// The segment of the image of a reader, at the front of a region with room for so many bytes, and the reader.
+/// The segment of an image that was read whole, with room for so many bytes more.
+fn begin_text(alloc: Global, mode: Mode, text: &[u8], more: u64) -> Result<Segment, SessionFault>
+    requires { decided current text.now ≡ None }
+    ensures { BeginsIn OfImage mode (as_given text.now) result }
+{
+    let Ok(region) = region_for(alloc, room_needed(text.len() as u64, more)) else {
+        return Err(SessionFault::OutOfMemory);
+    };
+    match open_bytes(alloc, text, region, 0, mode, &mut Steps::new()) {
+        Ok(segment) => Ok(segment),
+        Err(refused) => Err(SessionFault::from(refused)),
+    }
+}
+
+/// The segment of an image that says more bytes than there was room for, of which the front was read.
+fn begin_behind<S: Source>(
+    alloc: Global,
+    mode: Mode,
+    front: &[u8; FRONT],
+    reader: &mut S,
+    more: u64,
+) -> Result<Segment, SessionFault>
+    requires begun { IsFrontOf (S.history reader.old) front.now }
+    requires small { BeginsIn OfImage mode (given_since nothing_given (S.history reader.old)) (Err RegionTooSmall) }
+    ensures { BeginsIn OfImage mode (given_since nothing_given (S.history reader.new)) result }
+{
+    let Ok(said) = size_in(front) else {
+        return Err(SessionFault::RegionTooSmall);
+    };
+    match read_on(alloc, front, said, reader) {
+        Ok(text) => begin_text(alloc, mode, text.as_slice(), more),
+        Err(fault) => Err(fault),
+    }
+}
+
+/// The same where the front was kept; else there is no room for the image.
+fn begin_anew<S: Source>(
+    alloc: Global,
+    mode: Mode,
+    front: Option<[u8; FRONT]>,
+    reader: &mut S,
+    more: u64,
+) -> Result<Segment, SessionFault>
+    requires begun { IfSome front (IsFrontOf (S.history reader.old)) }
+    requires small { BeginsIn OfImage mode (given_since nothing_given (S.history reader.old)) (Err RegionTooSmall) }
+    ensures { BeginsIn OfImage mode (given_since nothing_given (S.history reader.new)) result }
+{
+    match front {
+        Some(front) => begin_behind(alloc, mode, &front, reader, more),
+        None => Err(SessionFault::RegionTooSmall),
+    }
+}
+
+/// The segment of the image of a reader that was told to give `len` bytes, with room for so many bytes more, and the
+/// reader. An image that says more bytes than these is read first, and has as much room as it says.
 pub(crate) fn begin_from<S: Source>(
     alloc: Global,
     mode: Mode,
     reader: S,
-    room: u64,
+    len: u64,
+    more: u64,
 ) -> (Result<Segment, SessionFault>, S)
     requires fresh { S.history reader ≡ nothing_given }
-    requires few { room ≤ 1073741824 }
     ensures { BeginsIn OfImage mode (given_since nothing_given (S.history result.1)) result.0 }
 {
-    let mut counted = Counted::new(reader);
-    let begun = begin_counted(alloc, mode, &mut counted, room);
-    (begun, counted.into_inner())
+    let mut headed = Headed::new(reader);
+    let begun = begin_headed(alloc, mode, &mut headed, room_needed(len, more));
+    let front = headed.front();
+    let mut reader = headed.into_inner();
+    match begun {
+        Err(SessionFault::RegionTooSmall) => {
+            let begun = begin_anew(alloc, mode, front, &mut reader, more);
+            (begun, reader)
+        }
+        _ => (begun, reader),
+    }
 }
 
 /// The same of an image of any of the three formats.
@@ -150,18 +207,34 @@ pub(crate) fn begin_any_from<S: Source>(
     (begun, counted.into_inner())
 }
 
-/// Whether the image of a reader has a segment, read to the front of a region with room for so many bytes, and the
-/// reader.
+/// Whether the image of a reader that was told to give `len` bytes has a segment, and the reader.
 pub(crate) fn verify_from<S: Source>(
     alloc: Global,
     reader: S,
-    room: u64,
+    len: u64,
 ) -> (Result<(), SessionFault>, S)
     requires fresh { S.history reader ≡ nothing_given }
-    requires few { room ≤ 1073741824 }
     ensures { VerifiesIn (given_since nothing_given (S.history result.1)) result.0 }
 {
-    let mut counted = Counted::new(reader);
-    let verified = verify_counted(alloc, &mut counted, room);
-    (verified, counted.into_inner())
+    let mut headed = Headed::new(reader);
+    let verified = verify_headed(alloc, &mut headed, room_needed(len, 0));
+    let front = headed.front();
+    let mut reader = headed.into_inner();
+    match verified {
+        Err(SessionFault::RegionTooSmall) => {
+            let begun = begin_anew(alloc, Mode::ReadOnly, front, &mut reader, 0);
+            (as_verified(begun), reader)
+        }
+        _ => (verified, reader),
+    }
+}
+
+/// Whether a segment was opened for reading. It is let go of.
+fn as_verified(begun: Result<Segment, SessionFault>) -> Result<(), SessionFault>
+    ensures { IsVerdictOf begun result }
+{
+    match begun {
+        Ok(_) => Ok(()),
+        Err(fault) => Err(fault),
+    }
 }

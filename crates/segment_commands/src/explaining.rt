@@ -14,7 +14,6 @@ use image_explain::Explanation;
 use raw_region::{DeviceFault, Sink, Source};
 use segment_cli::SessionFault;
 use segment_disk::{Disk, Opened, Output};
-use segment_file::room_needed;
 use segment_lang::{Piece, put_pieces};
 use segment_manager::{Mode, Segment};
 use std::alloc::Global;
@@ -34,9 +33,8 @@ fn open_explained<D: Disk>(alloc: Global, disk: &mut D, path: &str) -> Result<Se
     let Ok(opened) = disk.open(path) else {
         return Err(Unfit::Fault(SessionFault::ReadFault));
     };
-    let Opened { reader, len, front } = opened;
-    let room = room_needed(len, &front, 0);
-    let (begun, kept) = begin_from(alloc, Mode::ReadOnly, Kept::new(alloc, reader), room);
+    let Opened { reader, len } = opened;
+    let (begun, kept) = begin_from(alloc, Mode::ReadOnly, Kept::new(alloc, reader), len, 0);
     let answer = explained_by(begun, &kept);
     disk.close(kept.into_inner());
     answer

@@ -24,8 +24,8 @@ fn open_any_segment<D: Disk>(
     let Ok(opened) = disk.open(path) else {
         return Err(SessionFault::ReadFault);
     };
-    let Opened { reader, len, front } = opened;
-    let (begun, reader) = begin_any_from(alloc, reader, room_needed(len, &front, 0));
+    let Opened { reader, len } = opened;
+    let (begun, reader) = begin_any_from(alloc, reader, room_needed(len, 0));
     disk.close(reader);
     begun
 }

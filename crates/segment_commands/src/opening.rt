@@ -9,7 +9,7 @@ use crate::cutting::{begin_from, verify_from};
 use raw_region::Source;
 use segment_cli::{SessionFault, Start, begin};
 use segment_disk::{Disk, Opened};
-use segment_file::{region_for, room_needed};
+use segment_file::region_for;
 use segment_manager::{Mode, Segment};
 use std::alloc::Global;
 
@@ -45,9 +45,8 @@ pub(crate) fn open_segment<D: Disk>(
     let Ok(opened) = disk.open(path) else {
         return Err(SessionFault::ReadFault);
     };
-    let Opened { reader, len, front } = opened;
-    let room = room_needed(len, &front, more);
-    let (begun, reader) = begin_from(alloc, mode, reader, room);
+    let Opened { reader, len } = opened;
+    let (begun, reader) = begin_from(alloc, mode, reader, len, more);
     disk.close(reader);
     begun
 }
@@ -63,8 +62,8 @@ pub(crate) fn verify_segment<D: Disk>(
     let Ok(opened) = disk.open(path) else {
         return Err(SessionFault::ReadFault);
     };
-    let Opened { reader, len, front } = opened;
-    let (verified, reader) = verify_from(alloc, reader, room_needed(len, &front, 0));
+    let Opened { reader, len } = opened;
+    let (verified, reader) = verify_from(alloc, reader, len);
     disk.close(reader);
     verified
 }

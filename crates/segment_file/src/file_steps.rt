@@ -75,9 +75,8 @@ pub(crate) fn read_segment<D: Disk>(
     let Opened {
         mut reader,
         len,
-        front,
     } = opened;
-    let read = open_in(alloc, mode, &mut reader, room_needed(len, &front, 0));
+    let read = open_in(alloc, mode, &mut reader, room_needed(len, 0));
     disk.close(reader);
     read
 }
@@ -96,9 +95,8 @@ pub(crate) fn read_any_segment<D: Disk>(
     let Opened {
         mut reader,
         len,
-        front,
     } = opened;
-    let read = open_any_in(alloc, &mut reader, room_needed(len, &front, 0));
+    let read = open_any_in(alloc, &mut reader, room_needed(len, 0));
     disk.close(reader);
     read
 }
@@ -113,9 +111,8 @@ pub(crate) fn verify_file<D: Disk>(alloc: Global, disk: &mut D, path: &str) -> R
     let Opened {
         mut reader,
         len,
-        front,
     } = opened;
-    let verified = verify_in(alloc, &mut reader, room_needed(len, &front, 0));
+    let verified = verify_in(alloc, &mut reader, room_needed(len, 0));
     disk.close(reader);
     verified
 }

@@ -26,6 +26,11 @@ _segment() {
                 COMPREPLY=($(compgen -W '--explain --verbose --help' -- "$word"))
                 return
             fi ;;
+        draw)
+            if [[ $word == -* ]]; then
+                COMPREPLY=($(compgen -W '--html --verbose --help' -- "$word"))
+                return
+            fi ;;
         dump)
             if [[ $word == -* ]]; then
                 COMPREPLY=($(compgen -W '--capacities --verbose --help' -- "$word"))

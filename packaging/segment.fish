@@ -11,4 +11,5 @@ complete -c segment -n '__fish_seen_subcommand_from run' -l replace -d 'keep the
 complete -c segment -n '__fish_seen_subcommand_from run' -l strict -d 'stop at the first error, and save nothing'
 complete -c segment -n '__fish_seen_subcommand_from run' -l numbered -d 'number the answers'
 complete -c segment -n '__fish_seen_subcommand_from check' -l explain -d 'tell where and why'
+complete -c segment -n '__fish_seen_subcommand_from draw' -l html -d 'show a page for a browser'
 complete -c segment -n '__fish_seen_subcommand_from dump' -l capacities -d 'tell capacities too'

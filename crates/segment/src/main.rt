@@ -8,8 +8,8 @@ use raw_region::DeviceFault;
 use raw_region::stream::{ReadOnce, Reading, Writing};
 use segment_cli::SessionFault;
 use segment_commands::{
-    ProgramFault, check, create, draw, dump, dump_capacities, explain, grow, lint, load, migrate,
-    print, print_language, report, report_file, run, run_strict, shrink, stat,
+    ProgramFault, check, create, draw, draw_page, dump, dump_capacities, explain, grow, lint, load,
+    migrate, print, print_language, report, report_file, run, run_strict, shrink, stat,
 };
 use segment_disk::{HostDisk, Numbered, Outlet, Output, StopsAtError};
 use segment_invocation::{
@@ -102,6 +102,7 @@ fn command<W: Write + Drop>(
         Invocation::Explain(file) => explain(alloc, disk, file, &mut out),
         Invocation::Stat(file) => stat(alloc, disk, file, &mut out),
         Invocation::Draw(file) => draw(alloc, disk, file, &mut out),
+        Invocation::DrawPage(file) => draw_page(alloc, disk, file, &mut out),
         Invocation::Dump(file) => dump(alloc, disk, file, &mut out),
         Invocation::DumpCapacities(file) => dump_capacities(alloc, disk, file, &mut out),
         Invocation::Load(file, size) => {
@@ -230,6 +231,7 @@ fn file_of<'a>(asked: Invocation<'a>) -> Option<&'a str> {
         | Invocation::Migrate(file)
         | Invocation::Stat(file)
         | Invocation::Draw(file)
+        | Invocation::DrawPage(file)
         | Invocation::Dump(file)
         | Invocation::DumpCapacities(file)
         | Invocation::Load(file, _) => Some(file),

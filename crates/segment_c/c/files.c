@@ -9,6 +9,7 @@
 #include <stdio.h>
 #include <stdlib.h>
 #include <sys/file.h>
+#include <sys/mman.h>
 #include <sys/stat.h>
 #include <unistd.h>
 
@@ -17,14 +18,19 @@ enum { LARGEST = 1 << 30, TRIES = 64, PAGE = 4096, PIECE = 8 * PAGE };
 /* The name meanwhile leads elsewhere: a code that no caller sees. */
 enum { AGAIN = 1 };
 
-/* A file that is open for writing. */
+/* A file that is open for writing, or mapped. */
 struct zx_held_file {
     struct zx_held_file *next; /* in the list of all of this process */
+    zx_segment *mapped;        /* the segment that lies in its mapping, or null */
+    uint8_t *at;               /* the mapping, of `len` bytes */
+    uint64_t len;
     pid_t owner;               /* the process that opened it */
     int folder;                /* where the name stands */
     int file;                  /* with its lock; -1 if none exists under the name */
+    bool is_read;              /* mapped and not changed: others may map it too */
     bool is_new;               /* created and never saved */
     bool is_unsynced;          /* saved, but the folder was not synced */
+    uint64_t saved;            /* the changes of the segment when the file had its image */
     char name[];               /* leads through no link */
 };
 
@@ -62,6 +68,14 @@ void zx_file_words(zx_code code, zx_text *words) {
     }
 }
 
+const char *zx_message(zx_code code) {
+    static _Thread_local char message[64];
+    zx_text words;
+    zx_file_words(code, &words);
+    snprintf(message, sizeof message, "%.*s", (int)words.len, (const char *)words.at);
+    return message;
+}
+
 /* ---- all files that are held: a forked process closes its copies, or it would keep its parent's locks */
 
 static pthread_mutex_t guard = PTHREAD_MUTEX_INITIALIZER;
@@ -77,8 +91,15 @@ static void close_all(struct zx_held_file *held) {
     held->file = held->folder = -1;
 }
 
+/* A child has no mapping either, so its segment is closed, and no view is current. The box of its handle stays
+   behind. */
 static void in_child(void) {
-    for (struct zx_held_file *each = all_held; each; each = each->next) close_all(each);
+    for (struct zx_held_file *each = all_held; each; each = each->next) {
+        close_all(each);
+        if (!each->mapped) continue;
+        each->mapped->at = NULL;
+        each->mapped->changes++;
+    }
     all_held = NULL;
     pthread_mutex_unlock(&guard);
 }
@@ -103,6 +124,24 @@ static void release(struct zx_held_file *held) {
     if (held->file >= 0 && held->owner == getpid()) flock(held->file, LOCK_UN);
     close_all(held);
     free(held);
+}
+
+static bool is_same(const struct stat *one, const struct stat *other) {
+    return one->st_dev == other->st_dev && one->st_ino == other->st_ino;
+}
+
+/* Whether a name leads to a file. */
+static bool leads_to(int folder, const char *name, const struct stat *file) {
+    struct stat named;
+    return fstatat(folder, name, &named, AT_SYMLINK_NOFOLLOW) == 0 && is_same(&named, file);
+}
+
+/* Removes the file if it was created and never saved, and releases it. */
+static void abandon(struct zx_held_file *held) {
+    struct stat own;
+    bool is_own = held->is_new && held->owner == getpid() && fstat(held->file, &own) == 0;
+    if (is_own && leads_to(held->folder, held->name, &own)) unlinkat(held->folder, held->name, 0);
+    release(held);
 }
 
 /* ---- bytes */
@@ -257,16 +296,6 @@ static void spare_name(char spare[40], const char *name) {
 
 /* ---- what exists at a path */
 
-static bool is_same(const struct stat *one, const struct stat *other) {
-    return one->st_dev == other->st_dev && one->st_ino == other->st_ino;
-}
-
-/* Whether a name leads to a file. */
-static bool leads_to(int folder, const char *name, const struct stat *file) {
-    struct stat named;
-    return fstatat(folder, name, &named, AT_SYMLINK_NOFOLLOW) == 0 && is_same(&named, file);
-}
-
 /* Whether it can be a segment's file. */
 static zx_code judge(zx_file *file, const struct stat *found) {
     if (S_ISDIR(found->st_mode)) return faulty(file, ZX_FILE_FOLDER, EISDIR);
@@ -316,18 +345,20 @@ static zx_code find(zx_file *file, const char *path, struct zx_held_file **found
 /* Opens and locks the file of a name that was found. AGAIN if the name meanwhile leads to another one. */
 static zx_code lock(zx_file *file, struct zx_held_file *held) {
     struct stat opened;
-    held->file = openat(held->folder, held->name, O_RDWR | O_NOFOLLOW | O_NONBLOCK | O_NOCTTY | O_CLOEXEC);
+    int how = held->is_read ? O_RDONLY : O_RDWR;
+    held->file = openat(held->folder, held->name, how | O_NOFOLLOW | O_NONBLOCK | O_NOCTTY | O_CLOEXEC);
     if (held->file < 0) return errno == ENOENT || errno == ELOOP ? (zx_code)AGAIN : fault(file);
     if (fstat(held->file, &opened) != 0) return fault(file);
     zx_code code = judge(file, &opened);
     if (code != ZX_DONE) return code;
     // a file system without locks refuses nobody
-    if (flock(held->file, LOCK_EX | LOCK_NB) != 0 && errno == EWOULDBLOCK) return faulty(file, ZX_FILE_IN_USE, errno);
+    how = held->is_read ? LOCK_SH : LOCK_EX;
+    if (flock(held->file, how | LOCK_NB) != 0 && errno == EWOULDBLOCK) return faulty(file, ZX_FILE_IN_USE, errno);
     if (!leads_to(held->folder, held->name, &opened)) return AGAIN;
     // what one that was killed left beside it
     char spare[40];
     spare_name(spare, held->name);
-    unlinkat(held->folder, spare, 0);
+    if (!held->is_read) unlinkat(held->folder, spare, 0);
     return ZX_DONE;
 }
 
@@ -336,7 +367,7 @@ static zx_code hold_once(zx_file *file, const char *path, uint32_t mode, struct 
     struct stat found;
     if (mode == ZX_CREATE_ONLY && lstat(path, &found) == 0) return faulty(file, ZX_FILE_EXISTS, EEXIST);
     zx_code code = look(file, path);
-    if (code == ZX_FILE_MISSING && mode != ZX_OPEN_ONLY) return find(file, path, held);
+    if (code == ZX_FILE_MISSING && mode != ZX_OPEN_ONLY && mode < ZX_OPEN_READ_ONLY) return find(file, path, held);
     if (code != ZX_DONE) return code;
     if (mode == ZX_CREATE_ONLY) return AGAIN;
     char *real = realpath(path, NULL);
@@ -345,6 +376,7 @@ static zx_code hold_once(zx_file *file, const char *path, uint32_t mode, struct 
     free(real);
     if (code == ZX_FILE_MISSING) return AGAIN;
     if (code != ZX_DONE) return code;
+    (*held)->is_read = mode >= ZX_OPEN_READ_ONLY;
     code = lock(file, *held);
     if (code != ZX_DONE) release(*held);
     return code;
@@ -381,6 +413,155 @@ static zx_code read_segment(zx_file *file, int from, uint32_t how) {
     return code;
 }
 
+/* Attaches the mapping, whose image has `size` bytes. */
+static zx_code attach(zx_file *file, struct zx_held_file *held, uint64_t size, uint32_t how) {
+    zx_memory memory = { held->at, held->len };
+    madvise(held->at, held->len, MADV_DONTFORK);
+    zx_code code = zx_attach(&file->segment, &memory, size, how);
+    // the image says more bytes than there are: its class is the answer
+    if (code == ZX_SHORT_REGION) code = zx_check(held->at, size);
+    return code;
+}
+
+/* Gives the file blocks up to a length, so that no page that is written finds the disk full. */
+static bool allot(int file, const struct stat *found, uint64_t len) {
+    if ((uint64_t)found->st_size >= len && (uint64_t)found->st_blocks * 512 >= len) return true;
+    return fallocate(file, 0, 0, (off_t)len) == 0 || (errno == EOPNOTSUPP && ftruncate(file, (off_t)len) == 0);
+}
+
+/* Makes the file just as long as its image. */
+static bool cut(int file, uint64_t size) {
+    struct stat found;
+    return fstat(file, &found) == 0 && ((uint64_t)found.st_size == size || ftruncate(file, (off_t)size) == 0);
+}
+
+/* The size that an image says (docs/FORMAT.md). */
+static uint64_t size_said(const uint8_t *image) {
+    uint64_t size = 0;
+    for (int i = 7; i >= 0; i--) size = size << 8 | image[16 + i];
+    return size;
+}
+
+/* Maps the file, and opens its segment where it stands. */
+static zx_code map(zx_file *file, struct zx_held_file *held, uint32_t how) {
+    struct stat found;
+    zx_close(&file->segment);
+    if (fstat(held->file, &found) != 0) return fault(file);
+    uint64_t len = (uint64_t)found.st_size;
+    // no segment has such a size, so the bytes are refused
+    if (len == 0 || len % 16 != 0) return read_segment(file, held->file, how);
+    if (how == ZX_WRITE && !allot(held->file, &found, len)) return fault(file);
+    int protection = how == ZX_READ ? PROT_READ : PROT_READ | PROT_WRITE;
+    void *at = mmap(NULL, len, protection, how == ZX_WRITE ? MAP_SHARED : MAP_PRIVATE, held->file, 0);
+    if (at == MAP_FAILED) return fault(file);
+    held->at = at;
+    held->len = len;
+    zx_code code = attach(file, held, len, how);
+    // a process that was killed while it changed the length leaves an image with more behind it
+    uint64_t said = code == ZX_BAD_IMAGE_SIZE ? size_said(at) : len;
+    bool is_longer = said < len && attach(file, held, said, how) == ZX_DONE;
+    if (is_longer) code = ZX_DONE;
+    bool is_cut = is_longer && how == ZX_WRITE;
+    if (is_cut) zx_close(&file->segment);
+    if (code != ZX_DONE || is_cut) munmap(at, len);
+    if (is_cut) return cut(held->file, said) ? map(file, held, how) : fault(file);
+    if (code != ZX_DONE) return code;
+    held->mapped = &file->segment;
+    // it stands under its name with all changes, also where it is never flushed
+    held->is_unsynced = held->is_new;
+    held->is_new = false;
+    return ZX_DONE;
+}
+
+/* Ends the mapping. A file that could not be cut before is tried once more. */
+static void unmap(zx_file *file, struct zx_held_file *held) {
+    uint64_t size;
+    bool is_written = !held->is_read && file->segment.lent && zx_size(&file->segment, &size) == ZX_DONE;
+    zx_close(&file->segment);
+    if (held->owner != getpid()) return;
+    munmap(held->at, held->len);
+    if (is_written && !cut(held->file, size)) cut(held->file, size);
+}
+
+/* Makes the mapping as long as is wanted, around an image that fits into it, and the file too. The segment stays
+   open, unless memory ends. */
+static zx_code remap(zx_file *file, struct zx_held_file *held, uint64_t size, uint64_t wanted) {
+    zx_memory memory;
+    struct stat found;
+    if (wanted > held->len && (fstat(held->file, &found) != 0 || !allot(held->file, &found, wanted))) {
+        zx_code code = fault(file);
+        cut(held->file, size);
+        return code;
+    }
+    zx_detach(&file->segment, &memory);
+    void *at = mremap(held->at, held->len, wanted, MREMAP_MAYMOVE);
+    bool is_done = at != MAP_FAILED;
+    int error = errno;
+    if (is_done) {
+        held->at = at;
+        held->len = wanted;
+    }
+    zx_code code = attach(file, held, size, ZX_WRITE);
+    if (code == ZX_DONE && !is_done) code = faulty(file, ZX_FILE_FAULT, error);
+    if ((code != ZX_DONE || wanted == size) && !cut(held->file, size) && code == ZX_DONE) code = fault(file);
+    return code;
+}
+
+/* Makes room for an image of so many bytes. */
+static zx_code make_room(zx_file *file, uint64_t wanted) {
+    struct zx_held_file *held = file->held;
+    uint64_t size;
+    if (!held || !held->mapped) return zx_relocate(&file->segment, (wanted + 15) / 16 * 16);
+    zx_code code = held->is_read ? (zx_code)ZX_SHORT_REGION : zx_size(&file->segment, &size);
+    return code == ZX_DONE ? remap(file, held, size, wanted) : code;
+}
+
+zx_code zx_file_grow(zx_file *file, uint64_t extra) {
+    uint64_t size;
+    file->error = 0;
+    zx_code code = zx_grow(&file->segment, extra);
+    if (code != ZX_SHORT_REGION) return code;
+    code = zx_size(&file->segment, &size);
+    if (code == ZX_DONE) code = make_room(file, size + extra);
+    return code == ZX_DONE ? zx_grow(&file->segment, extra) : code;
+}
+
+/* Makes a mapped file as short as its segment became by a call, which returned the code. */
+static zx_code fit(zx_file *file, zx_code code) {
+    struct zx_held_file *held = file->held;
+    uint64_t size;
+    if (code == ZX_DONE) code = zx_size(&file->segment, &size);
+    if (code != ZX_DONE || !held || !held->mapped || held->is_read || size == held->len) return code;
+    return remap(file, held, size, size);
+}
+
+zx_code zx_file_shrink(zx_file *file) {
+    file->error = 0;
+    return fit(file, zx_shrink(&file->segment));
+}
+
+zx_code zx_file_rollback(zx_file *file, zx_segment *before) {
+    uint64_t size;
+    file->error = 0;
+    zx_code code = zx_rollback(&file->segment, before);
+    if (code == ZX_SHORT_REGION) {
+        code = zx_size(before, &size);
+        if (code == ZX_DONE) code = make_room(file, size);
+        if (code == ZX_DONE) code = zx_rollback(&file->segment, before);
+    }
+    return fit(file, code);
+}
+
+zx_code zx_file_flush(zx_file *file) {
+    struct zx_held_file *held = file->held;
+    if (!held || !held->mapped) return zx_file_save(file);
+    file->error = 0;
+    if (held->is_read) return ZX_READ_ONLY;
+    if (held->owner != getpid()) return faulty(file, ZX_FILE_FORKED, EPERM);
+    if (msync(held->at, held->len, MS_SYNC) != 0) return fault(file);
+    return held->is_unsynced ? sync_name(file, held) : (zx_code)ZX_DONE;
+}
+
 static zx_code open_unheld(zx_file *file, const char *path, uint32_t how) {
     zx_code code = look(file, path);
     if (code != ZX_DONE) return code;
@@ -410,17 +591,23 @@ static zx_code make_empty(zx_file *file, struct zx_held_file *held, uint64_t siz
     return code;
 }
 
-static zx_code open_held(zx_file *file, const char *path, uint32_t mode, uint64_t size) {
+static zx_code open_held(zx_file *file, const char *path, uint32_t mode, uint64_t size, bool is_mapped) {
+    uint32_t how = mode == ZX_OPEN_READ_ONLY ? ZX_READ : mode == ZX_OPEN_COPY_ON_WRITE ? ZX_COPY_ON_WRITE : ZX_WRITE;
     for (int tries = 0; tries < TRIES; tries++) {
         struct zx_held_file *held;
         zx_code code = hold(file, path, mode, &held);
         if (code != ZX_DONE) return code;
-        code = held->file >= 0 ? read_segment(file, held->file, ZX_WRITE) : make_empty(file, held, size);
+        if (held->file < 0)
+            code = make_empty(file, held, size);
+        else if (!is_mapped)
+            code = read_segment(file, held->file, ZX_WRITE);
+        if (code == ZX_DONE && is_mapped) code = map(file, held, how);
         if (code == ZX_DONE) {
+            held->saved = file->segment.changes;
             file->held = held;
             return ZX_DONE;
         }
-        release(held);
+        abandon(held);
         zx_close(&file->segment);
         if (code != AGAIN) return code;
     }
@@ -430,11 +617,14 @@ static zx_code open_held(zx_file *file, const char *path, uint32_t mode, uint64_
 zx_code zx_file_open(zx_file *file, const char *path, uint32_t mode, uint64_t size) {
     file->error = 0;
     if (!path) return ZX_NULL_SLICE;
+    bool is_mapped = (mode & ZX_MAPPED) != 0;
+    mode &= ~(uint32_t)ZX_MAPPED;
     if (mode < ZX_CREATE_ONLY || mode > ZX_OPEN_COPY_ON_WRITE) return ZX_BAD_MODE;
     if (file->segment.at || file->held) return ZX_FILE_IS_OPEN;
-    return answered(file, mode == ZX_OPEN_READ_ONLY       ? open_unheld(file, path, ZX_READ)
-                          : mode == ZX_OPEN_COPY_ON_WRITE ? open_unheld(file, path, ZX_COPY_ON_WRITE)
-                                                          : open_held(file, path, mode, size));
+    bool is_held = is_mapped || mode < ZX_OPEN_READ_ONLY;
+    return answered(file, is_held                     ? open_held(file, path, mode, size, is_mapped)
+                          : mode == ZX_OPEN_READ_ONLY ? open_unheld(file, path, ZX_READ)
+                                                      : open_unheld(file, path, ZX_COPY_ON_WRITE));
 }
 
 /* ---- a file saved */
@@ -467,6 +657,11 @@ static zx_code replace(zx_file *file, struct zx_held_file *held, const struct im
     return sync_name(file, held);
 }
 
+/* Whether the file surely has the image of the segment: no call has changed that since, and no view may have. */
+static bool is_saved(const zx_segment *segment, const struct zx_held_file *held) {
+    return !held->is_new && !held->is_unsynced && segment->changes == held->saved && !segment->shared;
+}
+
 static zx_code save_held(zx_file *file, struct zx_held_file *held, const struct image *image) {
     if (!has_image(held->file, image)) return replace(file, held, image);
     return held->is_new || held->is_unsynced ? sync_name(file, held) : (zx_code)ZX_DONE;
@@ -481,10 +676,13 @@ zx_code zx_file_save(zx_file *file) {
     if (how != ZX_WRITE) return ZX_READ_ONLY;
     if (!file->held) return ZX_FILE_NONE;
     if (file->held->owner != getpid()) return faulty(file, ZX_FILE_FORKED, EPERM);
+    if (file->held->mapped) return zx_file_flush(file);
+    if (is_saved(&file->segment, file->held)) return ZX_DONE;
     code = image_of(&file->segment, &image);
     if (code != ZX_DONE) return code;
     code = save_held(file, file->held, &image);
     free(image.bytes);
+    if (code == ZX_DONE) file->held->saved = file->segment.changes;
     return answered(file, code);
 }
 
@@ -540,7 +738,8 @@ zx_code zx_file_save_as(zx_file *file, const char *path, uint32_t mode) {
 /* ---- a file closed */
 
 zx_code zx_file_close(zx_file *file) {
-    zx_code code = file->held && file->segment.at ? zx_file_save(file) : (zx_code)ZX_DONE;
+    bool saves = file->held && !file->held->mapped && file->segment.at;
+    zx_code code = saves ? zx_file_save(file) : (zx_code)ZX_DONE;
     if (code != ZX_DONE && code != ZX_FILE_UNSYNCED) return code;
     int32_t error = code == ZX_DONE ? 0 : file->error;
     zx_file_discard(file);
@@ -550,13 +749,9 @@ zx_code zx_file_close(zx_file *file) {
 
 void zx_file_discard(zx_file *file) {
     struct zx_held_file *held = file->held;
-    struct stat own;
     file->error = 0;
     file->held = NULL;
+    if (held && held->mapped) unmap(file, held);
     zx_close(&file->segment);
-    if (!held) return;
-    if (held->is_new && held->owner == getpid() && fstat(held->file, &own) == 0 &&
-        leads_to(held->folder, held->name, &own))
-        unlinkat(held->folder, held->name, 0);
-    release(held);
+    if (held) abandon(held);
 }

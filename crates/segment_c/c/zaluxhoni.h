@@ -6,7 +6,7 @@
    - A pointer to a handle, a key, a value or a result is not null, and what stands there may be read (and written, where it
      is no const). What is written through one pointer overlaps nothing else that the call is given.
    - A slice is a pointer and how many elements are there. A null one is answered by ZX_NULL_SLICE, also where it is empty,
-     and so is a null text among several: the names of calls that take a slice are macros for functions of this header that look.
+     and so is a null text among several: the calls that take a slice are inline functions of this header that look.
    - Names and texts are bytes: UTF-8 in names, and anything in texts. No byte 0 ends them.
 
    Each call answers a code. 0 is done. With any other code nothing has changed: neither the segment (but for bytes of gaps
@@ -19,9 +19,23 @@
 #include <stdint.h>
 #include <string.h>
 
+/* The name that the linker has for a function. */
+#define ZX_NAMED(name) __asm__(#name)
+
 #ifdef __cplusplus
 extern "C" {
 #endif
+
+/* ---- the version: 10000 for each major one, 100 for each minor one, and 1 for each patch */
+
+#define ZX_VERSION 900
+
+/* The one of the library, where ZX_VERSION is that of this header. */
+uint32_t zx_version(void);
+
+/* The state of the crates that was proved, and the logic of the prover, as `state S, logic L` with 16 hexadecimal digits each;
+ * dashes stand for both in a library that is not from a package. */
+const char *zx_state(void);
 
 /* ---- codes */
 
@@ -74,12 +88,26 @@ enum {
 
 /* ---- what is passed */
 
-/* A segment, or nothing. */
+/* A segment, or nothing, and what is noted of it. */
 typedef struct {
     void *at;
+    uint64_t changes; /* another one behind each call that may have changed the segment */
+    bool lent;        /* whether it lies in memory that was lent by zx_attach */
+    bool shared;      /* whether since the last change zx_view_mut told where elements stand */
 } zx_segment;
 
-#define ZX_CLOSED_HANDLE { 0 }
+/* None; in C a static one is that without an initializer. */
+#ifdef __cplusplus
+#define ZX_CLOSED_HANDLE (zx_segment{})
+#else
+#define ZX_CLOSED_HANDLE ((zx_segment){ 0, 0, false, false })
+#endif
+
+/* Memory that a segment may lie in: `len` bytes from `at` on. */
+typedef struct {
+    uint8_t *at;
+    uint64_t len;
+} zx_memory;
 
 /* How a segment is open. */
 enum { ZX_WRITE = 0, ZX_READ = 1, ZX_COPY_ON_WRITE = 2 };
@@ -132,6 +160,16 @@ typedef struct {
     size_t len;
 } zx_text;
 
+/* Elements where they stand, one after another, each the bytes that spell it: the lowest byte of a number first, a
+   truth 0 or 1. */
+typedef struct {
+    const void *at;   /* where the first one stands */
+    uint64_t offset;  /* from the front of the segment on: a multiple of 8 */
+    uint64_t count;
+    uint64_t changes; /* of the handle */
+    uint32_t kind;    /* of a scalar; the elements of a string are ZX_U8 */
+} zx_elements;
+
 /* What an object says of itself. */
 typedef struct {
     uint32_t found_by; /* ZX_IS_.. */
@@ -152,28 +190,34 @@ typedef struct {
 
 /* ---- making what is passed */
 
+/* Bytes where no bytes are, so that no slice is null. */
+static inline const uint8_t *zx_no_bytes(void) {
+    static const uint8_t none[1] = { 0 };
+    return none;
+}
+
+static inline zx_key zx_key_of(uint32_t how, uint32_t kind, uint64_t handle) {
+    zx_key key = { how, kind, handle, zx_no_bytes(), 0 };
+    return key;
+}
+
 static inline zx_key zx_name_of(const void *name, size_t len) {
-    zx_key key = { name ? (uint32_t)ZX_BY_NAME : (uint32_t)ZX_NULL_NAME, 0, 0, name ? (const uint8_t *)name : (const uint8_t *)"",
-                   name ? len : 0 };
+    zx_key key = zx_key_of(name ? ZX_BY_NAME : ZX_NULL_NAME, 0, 0);
+    if (!name) return key;
+#ifdef __cplusplus
+    key.name = static_cast<const uint8_t *>(name);
+#else
+    key.name = name;
+#endif
+    key.len = len;
     return key;
 }
 
 static inline zx_key zx_name(const char *name) { return zx_name_of(name, name ? strlen(name) : 0); }
 
-static inline zx_key zx_unique(uint32_t kind) {
-    zx_key key = { ZX_BY_KIND, kind, 0, (const uint8_t *)"", 0 };
-    return key;
-}
-
-static inline zx_key zx_handle(uint64_t handle) {
-    zx_key key = { ZX_BY_HANDLE, 0, handle, (const uint8_t *)"", 0 };
-    return key;
-}
-
-static inline zx_key zx_anonymous(void) {
-    zx_key key = { ZX_NO_KEY, 0, 0, (const uint8_t *)"", 0 };
-    return key;
-}
+static inline zx_key zx_unique(uint32_t kind) { return zx_key_of(ZX_BY_KIND, kind, 0); }
+static inline zx_key zx_handle(uint64_t handle) { return zx_key_of(ZX_BY_HANDLE, 0, handle); }
+static inline zx_key zx_anonymous(void) { return zx_key_of(ZX_NO_KEY, 0, 0); }
 
 static inline zx_value zx_natural(uint32_t kind, uint64_t natural) {
     zx_value value = { kind, 0, natural };
@@ -192,8 +236,11 @@ static inline zx_value zx_i64(int64_t number) { return zx_number(ZX_I64, number)
 static inline zx_value zx_u64(uint64_t number) { return zx_natural(ZX_U64, number); }
 
 static inline zx_values zx_no_values(void) {
-    static const uint64_t none[1] = { 0 };
-    zx_values values = { 0, (const bool *)none, 0, (const uint8_t *)none, 0, (const int32_t *)none, 0, (const int64_t *)none, 0, none, 0 };
+    static const bool truths[1] = { false };
+    static const int32_t i32s[1] = { 0 };
+    static const int64_t i64s[1] = { 0 };
+    static const uint64_t u64s[1] = { 0 };
+    zx_values values = { 0, truths, 0, zx_no_bytes(), 0, i32s, 0, i64s, 0, u64s, 0 };
     return values;
 }
 
@@ -235,28 +282,52 @@ zx_code zx_create(zx_segment *segment, uint64_t size);
 /* The segment whose image the bytes are, in a region of `capacity` bytes, a multiple of 16 from 16 to 1099511627776. What the
    handle had is closed. ZX_BAD_SIZE (the capacity), ZX_BAD_MODE, ZX_NO_MEMORY, ZX_SHORT_REGION, ZX_TRUNCATED to
    ZX_ORPHAN_BLOCK. */
-zx_code zx_open(zx_segment *segment, const uint8_t *image, size_t len, uint64_t capacity, uint32_t mode);
+static inline zx_code zx_open(zx_segment *segment, const uint8_t *image, size_t len, uint64_t capacity,
+                              uint32_t mode) ZX_NAMED(zx_open_or_null);
 
 /* Whether the bytes are the image of a segment: ZX_DONE, ZX_TRUNCATED to ZX_ORPHAN_BLOCK, ZX_NO_MEMORY. It takes a region
    for as many bytes as the first of them say, and none where there are fewer. */
-zx_code zx_check(const uint8_t *image, size_t len);
+static inline zx_code zx_check(const uint8_t *image, size_t len) ZX_NAMED(zx_check_or_null);
 
 /* Copies the image to the front of the buffer: as many bytes as zx_size says. ZX_CLOSED, ZX_SHORT_BUFFER. */
-zx_code zx_save(zx_segment *segment, uint8_t *image, size_t room);
+static inline zx_code zx_save(zx_segment *segment, uint8_t *image, size_t room) ZX_NAMED(zx_save_or_null);
 
-/* Makes the segment longer by `extra` bytes, which are free, in a larger region where its own has no room. ZX_CLOSED,
-   ZX_READ_ONLY, ZX_BAD_GROWTH, ZX_TOO_LARGE, ZX_NO_MEMORY. */
+/* Opens the image that stands at the front of the memory and has `len` bytes, where it stands: none is copied, and none
+   is written before the first call that changes (with ZX_READ none ever). The memory has a multiple of 16 bytes, as a
+   region of zx_open; those behind the image are room to grow into. What the handle had is closed. Until zx_detach gives
+   it back, the memory is the segment's: nobody else writes it, gives it up or makes a file that is mapped there
+   shorter, and only between calls is it read. Then `memory` has nothing; where the call is refused it is as it was.
+   ZX_NULL_SLICE; ZX_BAD_SIZE (also where `len` is more than the memory has), ZX_BAD_MODE; and as zx_open. */
+static inline zx_code zx_attach(zx_segment *segment, zx_memory *memory, uint64_t len,
+                                uint32_t mode) ZX_NAMED(zx_attach_or_null);
+
+/* Closes the segment, and gives the memory back that it lies in, with its bytes: what was lent, or what the library
+   took, which is the caller's to free() then. It is refused by ZX_CLOSED alone. (zx_close, or another segment in the
+   handle, frees no lent memory.) */
+zx_code zx_detach(zx_segment *segment, zx_memory *memory);
+
+/* Makes the segment longer by `extra` bytes, which are free, in a larger region where its own has no room; in lent
+   memory there alone, or else ZX_SHORT_REGION. ZX_CLOSED, ZX_READ_ONLY, ZX_BAD_GROWTH, ZX_TOO_LARGE, ZX_NO_MEMORY. */
 zx_code zx_grow(zx_segment *segment, uint64_t extra);
 
 /* Makes the segment as short as its last block lets it be. ZX_CLOSED, ZX_READ_ONLY. */
 zx_code zx_shrink(zx_segment *segment);
 
-/* Moves the segment into a region of `capacity` bytes, as for zx_open. Keys and handles stay good. ZX_BAD_SIZE, ZX_CLOSED,
-   ZX_NO_MEMORY, ZX_SHORT_REGION. */
+/* Moves the segment into a region of `capacity` bytes, as for zx_open. Keys and handles stay good. ZX_BAD_SIZE,
+   ZX_CLOSED, ZX_NO_MEMORY; ZX_SHORT_REGION, also where it lies in lent memory, which it does not leave. */
 zx_code zx_relocate(zx_segment *segment, uint64_t capacity);
 
 /* Frees the segment. A closed handle stays closed. */
 void zx_close(zx_segment *segment);
+
+/* Several calls as one. zx_begin copies the segment to a handle of its own, `before`; what that had is closed. Behind
+   the calls zx_commit closes the copy, or zx_rollback makes the segment again what it was, where it lies now, and
+   closes the copy. What lies in `before` may be read like any segment. ZX_CLOSED (zx_rollback: also a closed copy),
+   ZX_READ_ONLY, ZX_NO_MEMORY (zx_begin alone); ZX_SHORT_REGION (zx_rollback alone) if zx_relocate left too little room,
+   and another zx_relocate helps. */
+zx_code zx_begin(zx_segment *segment, zx_segment *before);
+zx_code zx_rollback(zx_segment *segment, zx_segment *before);
+static inline void zx_commit(zx_segment *before) { zx_close(before); }
 
 /* How it is open; its bytes; those of all gaps; those of its region behind it. ZX_CLOSED. */
 zx_code zx_mode(zx_segment *segment, uint32_t *mode);
@@ -276,8 +347,10 @@ zx_code zx_construct_array(zx_segment *segment, const zx_key *key, const zx_valu
 /* Makes a vector of values. ZX_NULL_SLICE, ZX_BAD_KIND; ZX_READ_ONLY, ZX_EXISTS, ZX_NO_SPACE. */
 zx_code zx_construct_vector(zx_segment *segment, const zx_key *key, const zx_values *values, uint64_t *handle);
 /* Makes a string; a vector of strings; an empty map from keys of one kind to values of another. */
-zx_code zx_construct_string(zx_segment *segment, const zx_key *key, const uint8_t *text, size_t len, uint64_t *handle);
-zx_code zx_construct_strings(zx_segment *segment, const zx_key *key, const zx_text *texts, size_t count, uint64_t *handle);
+static inline zx_code zx_construct_string(zx_segment *segment, const zx_key *key, const uint8_t *text, size_t len,
+                                          uint64_t *handle) ZX_NAMED(zx_construct_string_or_null);
+static inline zx_code zx_construct_strings(zx_segment *segment, const zx_key *key, const zx_text *texts, size_t count,
+                                           uint64_t *handle) ZX_NAMED(zx_construct_strings_or_null);
 zx_code zx_construct_map(zx_segment *segment, const zx_key *key, uint32_t keys, uint32_t values, uint64_t *handle);
 
 /* Finds the object of the key, which stays as it is, or makes it, and says how many scalars it has (1 where it is no object of
@@ -286,10 +359,12 @@ zx_code zx_find_or_construct(zx_segment *segment, const zx_key *key, uint32_t co
                              uint32_t *found);
 zx_code zx_find_or_construct_vector(zx_segment *segment, const zx_key *key, const zx_values *values, uint64_t *handle,
                                     uint32_t *found);
-zx_code zx_find_or_construct_string(zx_segment *segment, const zx_key *key, const uint8_t *text, size_t len, uint64_t *handle,
-                                    uint32_t *found);
-zx_code zx_find_or_construct_strings(zx_segment *segment, const zx_key *key, const zx_text *texts, size_t count,
-                                     uint64_t *handle, uint32_t *found);
+static inline zx_code zx_find_or_construct_string(zx_segment *segment, const zx_key *key, const uint8_t *text,
+                                                  size_t len, uint64_t *handle,
+                                                  uint32_t *found) ZX_NAMED(zx_find_or_construct_string_or_null);
+static inline zx_code zx_find_or_construct_strings(zx_segment *segment, const zx_key *key, const zx_text *texts,
+                                                   size_t count, uint64_t *handle,
+                                                   uint32_t *found) ZX_NAMED(zx_find_or_construct_strings_or_null);
 zx_code zx_find_or_construct_map(zx_segment *segment, const zx_key *key, uint32_t keys, uint32_t values, uint64_t *handle,
                                  uint32_t *found);
 
@@ -301,7 +376,8 @@ zx_code zx_find(zx_segment *segment, const zx_key *key, uint32_t kind, uint64_t 
 zx_code zx_destroy(zx_segment *segment, const zx_key *key, bool *was_there);
 /* What the object says of itself. Its name is copied to the front of `name`, which has room for it or else ZX_SHORT_BUFFER; 255
    bytes always do. ZX_NOT_FOUND. */
-zx_code zx_tell(zx_segment *segment, const zx_key *key, zx_info *info, uint8_t *name, size_t room);
+static inline zx_code zx_tell(zx_segment *segment, const zx_key *key, zx_info *info, uint8_t *name,
+                              size_t room) ZX_NAMED(zx_tell_or_null);
 
 /* ---- elements: of objects of scalars, of vectors, and of strings, which have bytes
 
@@ -325,31 +401,64 @@ zx_code zx_clear(zx_segment *segment, const zx_key *key);
 /* Of objects of scalars and of vectors, `count` elements at once, from `first` on, of the kind that the name says: all are copied
    to `row`, or none. What stands in a row of truths is truths before the call too. ZX_NULL_SLICE; ZX_NOT_FOUND, ZX_WRONG_KIND;
    ZX_OUT_OF_RANGE where there are not so many elements. */
-zx_code zx_read_bools(zx_segment *segment, const zx_key *key, uint64_t first, bool *row, size_t count);
-zx_code zx_read_u8s(zx_segment *segment, const zx_key *key, uint64_t first, uint8_t *row, size_t count);
-zx_code zx_read_i32s(zx_segment *segment, const zx_key *key, uint64_t first, int32_t *row, size_t count);
-zx_code zx_read_i64s(zx_segment *segment, const zx_key *key, uint64_t first, int64_t *row, size_t count);
-zx_code zx_read_u64s(zx_segment *segment, const zx_key *key, uint64_t first, uint64_t *row, size_t count);
+static inline zx_code zx_read_bools(zx_segment *segment, const zx_key *key, uint64_t first, bool *row,
+                                    size_t count) ZX_NAMED(zx_read_bools_or_null);
+static inline zx_code zx_read_u8s(zx_segment *segment, const zx_key *key, uint64_t first, uint8_t *row,
+                                  size_t count) ZX_NAMED(zx_read_u8s_or_null);
+static inline zx_code zx_read_i32s(zx_segment *segment, const zx_key *key, uint64_t first, int32_t *row,
+                                   size_t count) ZX_NAMED(zx_read_i32s_or_null);
+static inline zx_code zx_read_i64s(zx_segment *segment, const zx_key *key, uint64_t first, int64_t *row,
+                                   size_t count) ZX_NAMED(zx_read_i64s_or_null);
+static inline zx_code zx_read_u64s(zx_segment *segment, const zx_key *key, uint64_t first, uint64_t *row,
+                                   size_t count) ZX_NAMED(zx_read_u64s_or_null);
 /* The same the other way: the values, of the kind of the elements, are written from `first` on, all or none. ZX_NULL_SLICE,
    ZX_BAD_KIND; ZX_READ_ONLY, ZX_NOT_FOUND, ZX_WRONG_KIND, ZX_OUT_OF_RANGE. */
 zx_code zx_write_elements(zx_segment *segment, const zx_key *key, uint64_t first, const zx_values *values);
+
+/* Where the elements of an object of scalars, a vector of them or a string stand. There they may be read between calls,
+   as long as zx_is_current. ZX_NOT_FOUND, ZX_WRONG_KIND. */
+zx_code zx_view(zx_segment *segment, const zx_key *key, zx_elements *elements);
+/* The same of elements that may be written there too, each as the bytes of a value of their kind: nothing else is
+   written. Other views stay current. ZX_READ_ONLY, ZX_NOT_FOUND, ZX_WRONG_KIND. */
+zx_code zx_view_mut(zx_segment *segment, const zx_key *key, zx_elements *elements);
+/* Whether the elements still stand there: no call has changed the segment since. */
+static inline bool zx_is_current(const zx_segment *segment, const zx_elements *elements) {
+    return segment->at && segment->changes == elements->changes;
+}
+/* The first of elements that zx_view_mut told of; null if they may stand elsewhere now. */
+static inline void *zx_elements_mut(const zx_segment *segment, const zx_elements *elements) {
+    if (!zx_is_current(segment, elements) || !segment->shared) return NULL;
+#ifdef __cplusplus
+    return const_cast<void *>(elements->at);
+#else
+    return (void *)(uintptr_t)elements->at;
+#endif
+}
 
 /* ---- strings
 
    A read copies the bytes to the front of the buffer. With ZX_SHORT_BUFFER `len` says how much room is wanted. */
 
-zx_code zx_read_string(zx_segment *segment, const zx_key *key, uint8_t *text, size_t room, uint64_t *len);
-zx_code zx_assign_string(zx_segment *segment, const zx_key *key, const uint8_t *text, size_t len);
-zx_code zx_append(zx_segment *segment, const zx_key *key, const uint8_t *text, size_t len);
+static inline zx_code zx_read_string(zx_segment *segment, const zx_key *key, uint8_t *text, size_t room,
+                                     uint64_t *len) ZX_NAMED(zx_read_string_or_null);
+static inline zx_code zx_assign_string(zx_segment *segment, const zx_key *key, const uint8_t *text,
+                                       size_t len) ZX_NAMED(zx_assign_string_or_null);
+static inline zx_code zx_append(zx_segment *segment, const zx_key *key, const uint8_t *text,
+                                size_t len) ZX_NAMED(zx_append_or_null);
 
 /* ---- vectors of strings */
 
-zx_code zx_read_text(zx_segment *segment, const zx_key *key, uint64_t index, uint8_t *text, size_t room, uint64_t *len);
-zx_code zx_set_text(zx_segment *segment, const zx_key *key, uint64_t index, const uint8_t *text, size_t len);
-zx_code zx_push_text(zx_segment *segment, const zx_key *key, const uint8_t *text, size_t len);
+static inline zx_code zx_read_text(zx_segment *segment, const zx_key *key, uint64_t index, uint8_t *text, size_t room,
+                                   uint64_t *len) ZX_NAMED(zx_read_text_or_null);
+static inline zx_code zx_set_text(zx_segment *segment, const zx_key *key, uint64_t index, const uint8_t *text,
+                                  size_t len) ZX_NAMED(zx_set_text_or_null);
+static inline zx_code zx_push_text(zx_segment *segment, const zx_key *key, const uint8_t *text,
+                                   size_t len) ZX_NAMED(zx_push_text_or_null);
 zx_code zx_pop_text(zx_segment *segment, const zx_key *key);
-zx_code zx_insert_text(zx_segment *segment, const zx_key *key, uint64_t index, const uint8_t *text, size_t len);
-zx_code zx_assign_texts(zx_segment *segment, const zx_key *key, const zx_text *texts, size_t count);
+static inline zx_code zx_insert_text(zx_segment *segment, const zx_key *key, uint64_t index, const uint8_t *text,
+                                     size_t len) ZX_NAMED(zx_insert_text_or_null);
+static inline zx_code zx_assign_texts(zx_segment *segment, const zx_key *key, const zx_text *texts,
+                                      size_t count) ZX_NAMED(zx_assign_texts_or_null);
 
 /* ---- maps
 
@@ -369,7 +478,12 @@ zx_code zx_map_next(zx_segment *segment, const zx_key *key, const zx_value *afte
 zx_code zx_num_named(zx_segment *segment, uint64_t *count);
 zx_code zx_num_unique(zx_segment *segment, uint64_t *count);
 /* Objects with names, by the bytes of their names; the name as in zx_tell. */
-zx_code zx_named_at(zx_segment *segment, uint64_t index, zx_info *info, uint8_t *name, size_t room);
+static inline zx_code zx_named_at(zx_segment *segment, uint64_t index, zx_info *info, uint8_t *name,
+                                  size_t room) ZX_NAMED(zx_named_at_or_null);
+/* How many names stand before a text, which may be any bytes: the index for zx_named_at of the first name that does
+   not. ZX_NULL_SLICE. */
+static inline zx_code zx_named_from(zx_segment *segment, const uint8_t *text, size_t len,
+                                    uint64_t *index) ZX_NAMED(zx_named_from_or_null);
 /* Unique objects, by the codes of their kinds. */
 zx_code zx_unique_at(zx_segment *segment, uint64_t index, zx_info *info);
 /* Blocks and gaps, by offset. It is looked for from the first one on. */
@@ -389,7 +503,7 @@ zx_code zx_all_deallocated(zx_segment *segment, bool *is_empty);
 /* The words for a code, which are there as long as the program runs and end with no byte 0; empty where it is none of these. */
 void zx_words(zx_code code, zx_text *words);
 
-/* ---- null slices, which are looked for here: a call of such a name is a call of the function behind it */
+/* ---- null slices: the calls that take a slice are inline functions, which look, and then call what is proved */
 
 static inline bool zx_are_there(const zx_text *texts, size_t count) {
     if (!texts) return false;
@@ -398,113 +512,155 @@ static inline bool zx_are_there(const zx_text *texts, size_t count) {
     return true;
 }
 
-static inline zx_code zx_open_or_null(zx_segment *segment, const uint8_t *image, size_t len, uint64_t capacity,
-                                      uint32_t mode) {
-    return image ? zx_open(segment, image, len, capacity, mode) : (zx_code)ZX_NULL_SLICE;
+zx_code zx_open_proved(zx_segment *segment, const uint8_t *image, size_t len, uint64_t capacity,
+                       uint32_t mode) ZX_NAMED(zx_open);
+static inline zx_code zx_open(zx_segment *segment, const uint8_t *image, size_t len, uint64_t capacity, uint32_t mode) {
+    if (!image) return ZX_NULL_SLICE;
+    return zx_open_proved(segment, image, len, capacity, mode);
 }
-static inline zx_code zx_check_or_null(const uint8_t *image, size_t len) {
-    return image ? zx_check(image, len) : (zx_code)ZX_NULL_SLICE;
+zx_code zx_check_proved(const uint8_t *image, size_t len) ZX_NAMED(zx_check);
+static inline zx_code zx_check(const uint8_t *image, size_t len) {
+    if (!image) return ZX_NULL_SLICE;
+    return zx_check_proved(image, len);
 }
-static inline zx_code zx_save_or_null(zx_segment *segment, uint8_t *image, size_t room) {
-    return image ? zx_save(segment, image, room) : (zx_code)ZX_NULL_SLICE;
+zx_code zx_save_proved(zx_segment *segment, uint8_t *image, size_t room) ZX_NAMED(zx_save);
+static inline zx_code zx_save(zx_segment *segment, uint8_t *image, size_t room) {
+    if (!image) return ZX_NULL_SLICE;
+    return zx_save_proved(segment, image, room);
 }
-static inline zx_code zx_construct_string_or_null(zx_segment *segment, const zx_key *key, const uint8_t *text,
-                                                  size_t len, uint64_t *handle) {
-    return text ? zx_construct_string(segment, key, text, len, handle) : (zx_code)ZX_NULL_SLICE;
+zx_code zx_attach_proved(zx_segment *segment, zx_memory *memory, uint64_t len, uint32_t mode) ZX_NAMED(zx_attach);
+static inline zx_code zx_attach(zx_segment *segment, zx_memory *memory, uint64_t len, uint32_t mode) {
+    if (!memory->at) return ZX_NULL_SLICE;
+    return zx_attach_proved(segment, memory, len, mode);
 }
-static inline zx_code zx_construct_strings_or_null(zx_segment *segment, const zx_key *key, const zx_text *texts,
-                                                   size_t count, uint64_t *handle) {
-    return zx_are_there(texts, count) ? zx_construct_strings(segment, key, texts, count, handle) : (zx_code)ZX_NULL_SLICE;
+zx_code zx_construct_string_proved(zx_segment *segment, const zx_key *key, const uint8_t *text, size_t len,
+                                   uint64_t *handle) ZX_NAMED(zx_construct_string);
+static inline zx_code zx_construct_string(zx_segment *segment, const zx_key *key, const uint8_t *text, size_t len,
+                                          uint64_t *handle) {
+    if (!text) return ZX_NULL_SLICE;
+    return zx_construct_string_proved(segment, key, text, len, handle);
 }
-static inline zx_code zx_find_or_construct_string_or_null(zx_segment *segment, const zx_key *key, const uint8_t *text,
-                                                          size_t len, uint64_t *handle, uint32_t *found) {
-    return text ? zx_find_or_construct_string(segment, key, text, len, handle, found) : (zx_code)ZX_NULL_SLICE;
+zx_code zx_construct_strings_proved(zx_segment *segment, const zx_key *key, const zx_text *texts, size_t count,
+                                    uint64_t *handle) ZX_NAMED(zx_construct_strings);
+static inline zx_code zx_construct_strings(zx_segment *segment, const zx_key *key, const zx_text *texts, size_t count,
+                                           uint64_t *handle) {
+    if (!zx_are_there(texts, count)) return ZX_NULL_SLICE;
+    return zx_construct_strings_proved(segment, key, texts, count, handle);
 }
-static inline zx_code zx_find_or_construct_strings_or_null(zx_segment *segment, const zx_key *key, const zx_text *texts,
-                                                           size_t count, uint64_t *handle, uint32_t *found) {
-    return zx_are_there(texts, count) ? zx_find_or_construct_strings(segment, key, texts, count, handle, found) : (zx_code)ZX_NULL_SLICE;
+zx_code zx_find_or_construct_string_proved(zx_segment *segment, const zx_key *key, const uint8_t *text, size_t len,
+                                           uint64_t *handle, uint32_t *found) ZX_NAMED(zx_find_or_construct_string);
+static inline zx_code zx_find_or_construct_string(zx_segment *segment, const zx_key *key, const uint8_t *text,
+                                                  size_t len, uint64_t *handle, uint32_t *found) {
+    if (!text) return ZX_NULL_SLICE;
+    return zx_find_or_construct_string_proved(segment, key, text, len, handle, found);
 }
-static inline zx_code zx_tell_or_null(zx_segment *segment, const zx_key *key, zx_info *info, uint8_t *name,
-                                      size_t room) {
-    return name ? zx_tell(segment, key, info, name, room) : (zx_code)ZX_NULL_SLICE;
+zx_code zx_find_or_construct_strings_proved(zx_segment *segment, const zx_key *key, const zx_text *texts, size_t count,
+                                            uint64_t *handle, uint32_t *found) ZX_NAMED(zx_find_or_construct_strings);
+static inline zx_code zx_find_or_construct_strings(zx_segment *segment, const zx_key *key, const zx_text *texts,
+                                                   size_t count, uint64_t *handle, uint32_t *found) {
+    if (!zx_are_there(texts, count)) return ZX_NULL_SLICE;
+    return zx_find_or_construct_strings_proved(segment, key, texts, count, handle, found);
 }
-static inline zx_code zx_read_string_or_null(zx_segment *segment, const zx_key *key, uint8_t *text, size_t room,
-                                             uint64_t *len) {
-    return text ? zx_read_string(segment, key, text, room, len) : (zx_code)ZX_NULL_SLICE;
+zx_code zx_tell_proved(zx_segment *segment, const zx_key *key, zx_info *info, uint8_t *name,
+                       size_t room) ZX_NAMED(zx_tell);
+static inline zx_code zx_tell(zx_segment *segment, const zx_key *key, zx_info *info, uint8_t *name, size_t room) {
+    if (!name) return ZX_NULL_SLICE;
+    return zx_tell_proved(segment, key, info, name, room);
 }
-static inline zx_code zx_assign_string_or_null(zx_segment *segment, const zx_key *key, const uint8_t *text,
-                                               size_t len) {
-    return text ? zx_assign_string(segment, key, text, len) : (zx_code)ZX_NULL_SLICE;
+zx_code zx_read_string_proved(zx_segment *segment, const zx_key *key, uint8_t *text, size_t room,
+                              uint64_t *len) ZX_NAMED(zx_read_string);
+static inline zx_code zx_read_string(zx_segment *segment, const zx_key *key, uint8_t *text, size_t room,
+                                     uint64_t *len) {
+    if (!text) return ZX_NULL_SLICE;
+    return zx_read_string_proved(segment, key, text, room, len);
 }
-static inline zx_code zx_append_or_null(zx_segment *segment, const zx_key *key, const uint8_t *text, size_t len) {
-    return text ? zx_append(segment, key, text, len) : (zx_code)ZX_NULL_SLICE;
+zx_code zx_assign_string_proved(zx_segment *segment, const zx_key *key, const uint8_t *text,
+                                size_t len) ZX_NAMED(zx_assign_string);
+static inline zx_code zx_assign_string(zx_segment *segment, const zx_key *key, const uint8_t *text, size_t len) {
+    if (!text) return ZX_NULL_SLICE;
+    return zx_assign_string_proved(segment, key, text, len);
 }
-static inline zx_code zx_read_bools_or_null(zx_segment *segment, const zx_key *key, uint64_t first, bool *row,
-                                            size_t count) {
-    return row ? zx_read_bools(segment, key, first, row, count) : (zx_code)ZX_NULL_SLICE;
+zx_code zx_append_proved(zx_segment *segment, const zx_key *key, const uint8_t *text, size_t len) ZX_NAMED(zx_append);
+static inline zx_code zx_append(zx_segment *segment, const zx_key *key, const uint8_t *text, size_t len) {
+    if (!text) return ZX_NULL_SLICE;
+    return zx_append_proved(segment, key, text, len);
 }
-static inline zx_code zx_read_u8s_or_null(zx_segment *segment, const zx_key *key, uint64_t first, uint8_t *row,
-                                          size_t count) {
-    return row ? zx_read_u8s(segment, key, first, row, count) : (zx_code)ZX_NULL_SLICE;
+zx_code zx_read_bools_proved(zx_segment *segment, const zx_key *key, uint64_t first, bool *row,
+                             size_t count) ZX_NAMED(zx_read_bools);
+static inline zx_code zx_read_bools(zx_segment *segment, const zx_key *key, uint64_t first, bool *row, size_t count) {
+    if (!row) return ZX_NULL_SLICE;
+    return zx_read_bools_proved(segment, key, first, row, count);
 }
-static inline zx_code zx_read_i32s_or_null(zx_segment *segment, const zx_key *key, uint64_t first, int32_t *row,
-                                           size_t count) {
-    return row ? zx_read_i32s(segment, key, first, row, count) : (zx_code)ZX_NULL_SLICE;
+zx_code zx_read_u8s_proved(zx_segment *segment, const zx_key *key, uint64_t first, uint8_t *row,
+                           size_t count) ZX_NAMED(zx_read_u8s);
+static inline zx_code zx_read_u8s(zx_segment *segment, const zx_key *key, uint64_t first, uint8_t *row, size_t count) {
+    if (!row) return ZX_NULL_SLICE;
+    return zx_read_u8s_proved(segment, key, first, row, count);
 }
-static inline zx_code zx_read_i64s_or_null(zx_segment *segment, const zx_key *key, uint64_t first, int64_t *row,
-                                           size_t count) {
-    return row ? zx_read_i64s(segment, key, first, row, count) : (zx_code)ZX_NULL_SLICE;
+zx_code zx_read_i32s_proved(zx_segment *segment, const zx_key *key, uint64_t first, int32_t *row,
+                            size_t count) ZX_NAMED(zx_read_i32s);
+static inline zx_code zx_read_i32s(zx_segment *segment, const zx_key *key, uint64_t first, int32_t *row, size_t count) {
+    if (!row) return ZX_NULL_SLICE;
+    return zx_read_i32s_proved(segment, key, first, row, count);
 }
-static inline zx_code zx_read_u64s_or_null(zx_segment *segment, const zx_key *key, uint64_t first, uint64_t *row,
-                                           size_t count) {
-    return row ? zx_read_u64s(segment, key, first, row, count) : (zx_code)ZX_NULL_SLICE;
+zx_code zx_read_i64s_proved(zx_segment *segment, const zx_key *key, uint64_t first, int64_t *row,
+                            size_t count) ZX_NAMED(zx_read_i64s);
+static inline zx_code zx_read_i64s(zx_segment *segment, const zx_key *key, uint64_t first, int64_t *row, size_t count) {
+    if (!row) return ZX_NULL_SLICE;
+    return zx_read_i64s_proved(segment, key, first, row, count);
 }
-static inline zx_code zx_read_text_or_null(zx_segment *segment, const zx_key *key, uint64_t index, uint8_t *text,
-                                           size_t room, uint64_t *len) {
-    return text ? zx_read_text(segment, key, index, text, room, len) : (zx_code)ZX_NULL_SLICE;
+zx_code zx_read_u64s_proved(zx_segment *segment, const zx_key *key, uint64_t first, uint64_t *row,
+                            size_t count) ZX_NAMED(zx_read_u64s);
+static inline zx_code zx_read_u64s(zx_segment *segment, const zx_key *key, uint64_t first, uint64_t *row,
+                                   size_t count) {
+    if (!row) return ZX_NULL_SLICE;
+    return zx_read_u64s_proved(segment, key, first, row, count);
 }
-static inline zx_code zx_set_text_or_null(zx_segment *segment, const zx_key *key, uint64_t index, const uint8_t *text,
-                                          size_t len) {
-    return text ? zx_set_text(segment, key, index, text, len) : (zx_code)ZX_NULL_SLICE;
+zx_code zx_read_text_proved(zx_segment *segment, const zx_key *key, uint64_t index, uint8_t *text, size_t room,
+                            uint64_t *len) ZX_NAMED(zx_read_text);
+static inline zx_code zx_read_text(zx_segment *segment, const zx_key *key, uint64_t index, uint8_t *text, size_t room,
+                                   uint64_t *len) {
+    if (!text) return ZX_NULL_SLICE;
+    return zx_read_text_proved(segment, key, index, text, room, len);
 }
-static inline zx_code zx_push_text_or_null(zx_segment *segment, const zx_key *key, const uint8_t *text, size_t len) {
-    return text ? zx_push_text(segment, key, text, len) : (zx_code)ZX_NULL_SLICE;
+zx_code zx_set_text_proved(zx_segment *segment, const zx_key *key, uint64_t index, const uint8_t *text,
+                           size_t len) ZX_NAMED(zx_set_text);
+static inline zx_code zx_set_text(zx_segment *segment, const zx_key *key, uint64_t index, const uint8_t *text,
+                                  size_t len) {
+    if (!text) return ZX_NULL_SLICE;
+    return zx_set_text_proved(segment, key, index, text, len);
 }
-static inline zx_code zx_insert_text_or_null(zx_segment *segment, const zx_key *key, uint64_t index,
-                                             const uint8_t *text, size_t len) {
-    return text ? zx_insert_text(segment, key, index, text, len) : (zx_code)ZX_NULL_SLICE;
+zx_code zx_push_text_proved(zx_segment *segment, const zx_key *key, const uint8_t *text,
+                            size_t len) ZX_NAMED(zx_push_text);
+static inline zx_code zx_push_text(zx_segment *segment, const zx_key *key, const uint8_t *text, size_t len) {
+    if (!text) return ZX_NULL_SLICE;
+    return zx_push_text_proved(segment, key, text, len);
 }
-static inline zx_code zx_assign_texts_or_null(zx_segment *segment, const zx_key *key, const zx_text *texts,
-                                              size_t count) {
-    return zx_are_there(texts, count) ? zx_assign_texts(segment, key, texts, count) : (zx_code)ZX_NULL_SLICE;
+zx_code zx_insert_text_proved(zx_segment *segment, const zx_key *key, uint64_t index, const uint8_t *text,
+                              size_t len) ZX_NAMED(zx_insert_text);
+static inline zx_code zx_insert_text(zx_segment *segment, const zx_key *key, uint64_t index, const uint8_t *text,
+                                     size_t len) {
+    if (!text) return ZX_NULL_SLICE;
+    return zx_insert_text_proved(segment, key, index, text, len);
 }
-static inline zx_code zx_named_at_or_null(zx_segment *segment, uint64_t index, zx_info *info, uint8_t *name,
-                                          size_t room) {
-    return name ? zx_named_at(segment, index, info, name, room) : (zx_code)ZX_NULL_SLICE;
+zx_code zx_assign_texts_proved(zx_segment *segment, const zx_key *key, const zx_text *texts,
+                               size_t count) ZX_NAMED(zx_assign_texts);
+static inline zx_code zx_assign_texts(zx_segment *segment, const zx_key *key, const zx_text *texts, size_t count) {
+    if (!zx_are_there(texts, count)) return ZX_NULL_SLICE;
+    return zx_assign_texts_proved(segment, key, texts, count);
 }
-
-#define zx_open zx_open_or_null
-#define zx_check zx_check_or_null
-#define zx_save zx_save_or_null
-#define zx_construct_string zx_construct_string_or_null
-#define zx_construct_strings zx_construct_strings_or_null
-#define zx_find_or_construct_string zx_find_or_construct_string_or_null
-#define zx_find_or_construct_strings zx_find_or_construct_strings_or_null
-#define zx_tell zx_tell_or_null
-#define zx_read_string zx_read_string_or_null
-#define zx_assign_string zx_assign_string_or_null
-#define zx_append zx_append_or_null
-#define zx_read_bools zx_read_bools_or_null
-#define zx_read_u8s zx_read_u8s_or_null
-#define zx_read_i32s zx_read_i32s_or_null
-#define zx_read_i64s zx_read_i64s_or_null
-#define zx_read_u64s zx_read_u64s_or_null
-#define zx_read_text zx_read_text_or_null
-#define zx_set_text zx_set_text_or_null
-#define zx_push_text zx_push_text_or_null
-#define zx_insert_text zx_insert_text_or_null
-#define zx_assign_texts zx_assign_texts_or_null
-#define zx_named_at zx_named_at_or_null
+zx_code zx_named_at_proved(zx_segment *segment, uint64_t index, zx_info *info, uint8_t *name,
+                           size_t room) ZX_NAMED(zx_named_at);
+static inline zx_code zx_named_at(zx_segment *segment, uint64_t index, zx_info *info, uint8_t *name, size_t room) {
+    if (!name) return ZX_NULL_SLICE;
+    return zx_named_at_proved(segment, index, info, name, room);
+}
+zx_code zx_named_from_proved(zx_segment *segment, const uint8_t *text, size_t len,
+                             uint64_t *index) ZX_NAMED(zx_named_from);
+static inline zx_code zx_named_from(zx_segment *segment, const uint8_t *text, size_t len, uint64_t *index) {
+    if (!text) return ZX_NULL_SLICE;
+    return zx_named_from_proved(segment, text, len, index);
+}
 
 #ifdef __cplusplus
 }

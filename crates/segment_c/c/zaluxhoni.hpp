@@ -14,12 +14,15 @@
 #include "zaluxhoni.h"
 #include "zaluxhoni_files.h"
 
-#include <array>
+#include <algorithm>
 #include <cerrno>
 #include <cstddef>
 #include <cstdint>
+#include <functional>
 #include <initializer_list>
+#include <iosfwd>
 #include <iterator>
+#include <limits>
 #include <map>
 #include <memory>
 #include <optional>
@@ -32,7 +35,12 @@
 #include <vector>
 
 #if __cplusplus >= 202002L
+#include <ranges>
 #include <span>
+#include <version>
+#ifdef __cpp_lib_format
+#include <format>
+#endif
 #endif
 
 namespace zaluxhoni {
@@ -178,153 +186,246 @@ inline bool is_there(zx_code code) {
     return true;
 }
 
-// ---- kinds
+// ---- types
 
-/// Throws `wrong_kind` where a value that was read is of another kind.
-inline void check_kind(const zx_value &value, std::uint32_t kind) {
-    if (value.kind != kind) throw wrong_kind();
+namespace detail {
+
+template <class T>
+inline constexpr bool is_character = std::is_same_v<T, char> || std::is_same_v<T, wchar_t> ||
+#ifdef __cpp_char8_t
+                                     std::is_same_v<T, char8_t> ||
+#endif
+                                     std::is_same_v<T, char16_t> || std::is_same_v<T, char32_t>;
+
+/// The scalar of the library that T is, or 0.
+template <class T> constexpr std::uint32_t scalar_kind() {
+    if (std::is_same_v<T, bool>) return ZX_BOOL;
+    if (!std::is_integral_v<T> || is_character<T>) return 0;
+    if (sizeof(T) == 1 && std::is_unsigned_v<T>) return ZX_U8;
+    if (sizeof(T) == 4 && std::is_signed_v<T>) return ZX_I32;
+    if (sizeof(T) == 8) return std::is_signed_v<T> ? ZX_I64 : ZX_U64;
+    return 0;
 }
 
-/// A scalar of the library: `bool`, `std::uint8_t`, `std::int32_t`, `std::int64_t` or `std::uint64_t`.
-template <class T> struct scalar {
-    static constexpr bool is_one = false;
-};
+/// Whether values of T mean something only where what they lead to is.
+template <class T> inline constexpr bool leads_elsewhere =
+    std::is_pointer_v<T> || std::is_member_pointer_v<T> || std::is_null_pointer_v<T>;
+template <class C, class R> inline constexpr bool leads_elsewhere<std::basic_string_view<C, R>> = true;
+template <class T> inline constexpr bool leads_elsewhere<std::initializer_list<T>> = true;
+template <class T> inline constexpr bool leads_elsewhere<std::reference_wrapper<T>> = true;
+#if __cplusplus >= 202002L
+template <class T, std::size_t N> inline constexpr bool leads_elsewhere<std::span<T, N>> = true;
+#endif
 
-template <> struct scalar<bool> {
-    static constexpr bool is_one = true;
-    static constexpr std::uint32_t kind = ZX_BOOL;
-    static zx_value value(bool truth) { return zx_bool(truth); }
-    static bool from(const zx_value &value) {
-        check_kind(value, kind);
-        return value.natural != 0;
-    }
-    static zx_values values(const bool *at, std::size_t count) { return zx_bools(at, count); }
-    static zx_code read(zx_segment *of, const zx_key *at, std::uint64_t first, bool *row, std::size_t count) {
-        return zx_read_bools(of, at, first, row, count);
-    }
-};
+/// A product, or the largest number, which is no index of anything.
+constexpr std::uint64_t product(std::uint64_t a, std::uint64_t b) {
+    return b != 0 && a > UINT64_MAX / b ? UINT64_MAX : a * b;
+}
 
-template <> struct scalar<std::uint8_t> {
-    static constexpr bool is_one = true;
-    static constexpr std::uint32_t kind = ZX_U8;
-    static zx_value value(std::uint8_t number) { return zx_u8(number); }
-    static std::uint8_t from(const zx_value &value) {
-        check_kind(value, kind);
-        return static_cast<std::uint8_t>(value.natural);
-    }
-    static zx_values values(const std::uint8_t *at, std::size_t count) { return zx_u8s(at, count); }
-    static zx_code read(zx_segment *of, const zx_key *at, std::uint64_t first, std::uint8_t *row, std::size_t count) {
-        return zx_read_u8s(of, at, first, row, count);
-    }
-};
+} // namespace detail
 
-template <> struct scalar<std::int32_t> {
-    static constexpr bool is_one = true;
-    static constexpr std::uint32_t kind = ZX_I32;
-    static zx_value value(std::int32_t number) { return zx_i32(number); }
-    static std::int32_t from(const zx_value &value) {
-        check_kind(value, kind);
-        return static_cast<std::int32_t>(value.number);
-    }
-    static zx_values values(const std::int32_t *at, std::size_t count) { return zx_i32s(at, count); }
-    static zx_code read(zx_segment *of, const zx_key *at, std::uint64_t first, std::int32_t *row, std::size_t count) {
-        return zx_read_i32s(of, at, first, row, count);
-    }
-};
+/// Whether T is a scalar of the library: bool, or an integer of 8 bits without a sign, of 32 bits with one, or of 64.
+template <class T> inline constexpr bool is_scalar = detail::scalar_kind<T>() != 0;
 
-template <> struct scalar<std::int64_t> {
-    static constexpr bool is_one = true;
-    static constexpr std::uint32_t kind = ZX_I64;
-    static zx_value value(std::int64_t number) { return zx_i64(number); }
-    static std::int64_t from(const zx_value &value) {
-        check_kind(value, kind);
-        return value.number;
-    }
-    static zx_values values(const std::int64_t *at, std::size_t count) { return zx_i64s(at, count); }
-    static zx_code read(zx_segment *of, const zx_key *at, std::uint64_t first, std::int64_t *row, std::size_t count) {
-        return zx_read_i64s(of, at, first, row, count);
-    }
-};
+/// Whether T can be stored: a scalar, or what is copied byte by byte and leads nowhere else: a number of another width,
+/// `double`, an enum, a struct of such. No pointer, no view, no std::string.
+template <class T>
+inline constexpr bool is_storable = std::is_trivially_copyable_v<T> && std::is_default_constructible_v<T> &&
+                                    std::is_object_v<T> && !std::is_array_v<T> && !std::is_const_v<T> &&
+                                    !detail::leads_elsewhere<T>;
 
-template <> struct scalar<std::uint64_t> {
-    static constexpr bool is_one = true;
-    static constexpr std::uint32_t kind = ZX_U64;
-    static zx_value value(std::uint64_t number) { return zx_u64(number); }
-    static std::uint64_t from(const zx_value &value) {
-        check_kind(value, kind);
-        return value.natural;
+/// How values of T are stored: a scalar as what it is, any other as its bytes, each a std::uint8_t.
+template <class T> struct stored {
+    static_assert(is_storable<T>, "this type cannot be stored: it is not copied byte by byte, or it leads elsewhere");
+    static constexpr std::uint32_t kind = is_scalar<T> ? detail::scalar_kind<T>() : std::uint32_t{ZX_U8};
+    /// How many elements of the kind a value is.
+    static constexpr std::uint64_t width = is_scalar<T> ? 1 : sizeof(T);
+
+    static zx_value value(T of) {
+        if constexpr (kind == ZX_I32 || kind == ZX_I64) return zx_number(kind, of);
+        else return zx_natural(kind, of);
     }
-    static zx_values values(const std::uint64_t *at, std::size_t count) { return zx_u64s(at, count); }
-    static zx_code read(zx_segment *of, const zx_key *at, std::uint64_t first, std::uint64_t *row, std::size_t count) {
-        return zx_read_u64s(of, at, first, row, count);
+    /// Throws `wrong_kind` where the value is of another kind.
+    static T from(const zx_value &value) {
+        if (value.kind != kind) throw wrong_kind();
+        if constexpr (kind == ZX_I32 || kind == ZX_I64) return static_cast<T>(value.number);
+        else return static_cast<T>(value.natural);
+    }
+    static zx_values values(const T *at, std::size_t count) {
+        if constexpr (kind == ZX_BOOL) return zx_bools(at, count);
+        else if constexpr (kind == ZX_I32) return zx_i32s(at, count);
+        else if constexpr (kind == ZX_I64) return zx_i64s(reinterpret_cast<const std::int64_t *>(at), count);
+        else if constexpr (kind == ZX_U64) return zx_u64s(reinterpret_cast<const std::uint64_t *>(at), count);
+        else return zx_u8s(reinterpret_cast<const std::uint8_t *>(at), count * sizeof(T));
+    }
+    /// Copies elements, from one on.
+    static zx_code read(zx_segment *of, const zx_key *at, std::uint64_t first, T *row, std::size_t count) {
+        static T none{};
+        if (row == nullptr && count == 0) row = &none;
+        const std::uint64_t from = detail::product(first, width);
+        if constexpr (kind == ZX_BOOL) return zx_read_bools(of, at, from, row, count);
+        else if constexpr (kind == ZX_I32) return zx_read_i32s(of, at, from, row, count);
+        else if constexpr (kind == ZX_I64)
+            return zx_read_i64s(of, at, from, reinterpret_cast<std::int64_t *>(row), count);
+        else if constexpr (kind == ZX_U64)
+            return zx_read_u64s(of, at, from, reinterpret_cast<std::uint64_t *>(row), count);
+        else return zx_read_u8s(of, at, from, reinterpret_cast<std::uint8_t *>(row), count * sizeof(T));
     }
 };
 
-/// The kind of an object, for the type of C++ that says it: a scalar, `std::string`, `std::vector` of a scalar or of
-/// `std::string`, `std::map` from scalars to scalars.
+/// The kind of an object, for the type of C++ that says it: one that can be stored, `std::string`, `std::vector` of one
+/// that can be stored or of `std::string`, `std::map` from scalars to scalars.
 template <class T> struct object_kind {
-    static_assert(scalar<T>::is_one, "bool, std::uint8_t, std::int32_t, std::int64_t or std::uint64_t");
-    static constexpr std::uint32_t code = scalar<T>::kind;
+    static constexpr std::uint32_t code = stored<T>::kind;
 };
-
 template <> struct object_kind<std::string> {
     static constexpr std::uint32_t code = ZX_STRING;
 };
-
 template <> struct object_kind<std::vector<std::string>> {
     static constexpr std::uint32_t code = ZX_STRINGS;
 };
-
 template <class T> struct object_kind<std::vector<T>> {
-    static constexpr std::uint32_t code = ZX_VECTOR(object_kind<T>::code);
+    static constexpr std::uint32_t code = ZX_VECTOR(stored<T>::kind);
 };
-
 template <class K, class V> struct object_kind<std::map<K, V>> {
-    static constexpr std::uint32_t code = ZX_MAP(object_kind<K>::code, object_kind<V>::code);
+    static_assert(is_scalar<K> && is_scalar<V>,
+                  "keys and values of maps are bool, or integers of u8, i32, i64 and u64");
+    static constexpr std::uint32_t code = ZX_MAP(detail::scalar_kind<K>(), detail::scalar_kind<V>());
 };
 
 template <class T> inline constexpr std::uint32_t kind_of = object_kind<T>::code;
 
-/// A value of a scalar's type, where the type is said elsewhere.
-template <class T> struct plain_value {
-    static_assert(scalar<T>::is_one, "bool, std::uint8_t, std::int32_t, std::int64_t or std::uint64_t");
+// ---- numbers that are passed
+
+namespace detail {
+
+/// What a number is passed as: the number that an enum without a class is, and the value that an element stands for.
+template <class T, class = void> struct plain {
     using type = T;
 };
-template <class T> using value_of = typename plain_value<T>::type;
+template <class T> struct plain<T, std::enable_if_t<std::is_enum_v<T>>> {
+    using underlying = std::underlying_type_t<T>;
+    using type = std::conditional_t<std::is_convertible_v<T, underlying>, underlying, T>;
+};
+template <class T> struct plain<T, std::void_t<typename T::value_of_element>> {
+    using type = typename T::value_of_element;
+};
+template <class T> using plain_of = typename plain<T>::type;
 
-// ---- what is passed
+template <class T, class U, class = void> inline constexpr bool is_made_of = false;
+template <class T, class U>
+inline constexpr bool is_made_of<T, U, std::void_t<decltype(T{std::declval<const U &>()})>> = true;
 
-/// Elements that stand side by side: a pointer and how many. Made of an array, a `std::vector`, a list in braces, or a
-/// `std::span`.
-template <class T> class slice {
-  public:
-    slice() : at_(nullptr), count_(0) {}
-    slice(const T *at, std::size_t count) : at_(at), count_(count) {}
-    /// For as long as the list is there, which is the call that it is written in.
-    slice(std::initializer_list<T> list) : slice() {
-        at_ = list.begin();
-        count_ = list.size();
+/// Whether a U may be a number of T: a truth is one of truths alone, and a fraction none of whole numbers.
+template <class T, class U> constexpr bool may_be() {
+    if constexpr (std::is_same_v<T, U>) return true;
+    else if constexpr (std::is_class_v<U>) return std::is_convertible_v<const U &, T> && is_made_of<T, U>;
+    else if constexpr (!std::is_arithmetic_v<U> || std::is_same_v<T, bool> || std::is_same_v<U, bool>) return false;
+    else return std::is_floating_point_v<T> || std::is_integral_v<U>;
+}
+
+template <class T, class U> constexpr bool is_in_range(U value) {
+    using limits = std::numeric_limits<T>;
+    if constexpr (std::is_floating_point_v<U>) {
+        return !(value < limits::lowest() || value > limits::max()) || value - value != 0;
+    } else if constexpr (std::is_floating_point_v<T>) {
+        // as many bits as the fraction has, and zeros behind them
+        std::uintmax_t bits = value < 0 ? 0 - static_cast<std::uintmax_t>(value) : static_cast<std::uintmax_t>(value);
+        while (bits != 0 && bits % 2 == 0) bits /= 2;
+        return limits::digits >= 64 || bits >> (limits::digits % 64) == 0;
+    } else {
+        if constexpr (std::is_signed_v<U>) {
+            if (value < 0) return std::is_signed_v<T> && value >= static_cast<std::intmax_t>(limits::min());
+        }
+        return static_cast<std::uintmax_t>(value) <= static_cast<std::uintmax_t>(limits::max());
     }
-    template <std::size_t N> slice(const T (&array)[N]) : at_(array), count_(N) {}
-    template <std::size_t N> slice(const std::array<T, N> &array) : at_(array.data()), count_(N) {}
-    template <class U = T, class = std::enable_if_t<!std::is_same_v<U, bool>>>
-    slice(const std::vector<U> &list) : at_(list.data()), count_(list.size()) {}
-#if __cplusplus >= 202002L
-    slice(std::span<const T> list) : at_(list.data()), count_(list.size()) {}
-    slice(std::span<T> list) : at_(list.data()), count_(list.size()) {}
-#endif
+}
+
+} // namespace detail
+
+/// A number or a truth that is passed for a T. One of another type is taken where its value is in the range of T; else
+/// that throws `out_of_range`. A fraction for a whole number, a pointer for a truth and a truth for a number do not
+/// compile.
+template <class T> class number {
+  public:
+    template <class U, std::enable_if_t<detail::may_be<T, detail::plain_of<U>>(), int> = 0>
+    constexpr number(const U &value) : value_(checked(static_cast<detail::plain_of<U>>(value))) {}
+    constexpr operator T() const noexcept { return value_; }
+
+  private:
+    template <class U> static constexpr T checked(const U &value) {
+        if constexpr (std::is_arithmetic_v<U> && !std::is_same_v<T, U>) {
+            if (!detail::is_in_range<T>(value)) throw out_of_range();
+        }
+        return static_cast<T>(value);
+    }
+
+    T value_;
+};
+
+/// What is passed for a T: a `number`, or a T.
+template <class T> using value_of = std::conditional_t<std::is_arithmetic_v<T>, number<T>, const T &>;
+
+// ---- rows that are passed
+
+namespace detail {
+
+template <class T, class R, class = void> inline constexpr bool is_row = false;
+template <class T, class R>
+inline constexpr bool
+    is_row<T, R, std::void_t<decltype(std::data(std::declval<R &>())), decltype(std::size(std::declval<R &>()))>> =
+        std::is_convertible_v<decltype(std::data(std::declval<R &>())), const T *> &&
+        std::is_same_v<std::decay_t<decltype(*std::begin(std::declval<R &>()))>, T>;
+
+template <class T, class R, class = void> inline constexpr bool is_list = false;
+template <class T, class R> inline constexpr bool
+    is_list<T, R, std::void_t<decltype(std::begin(std::declval<R &>()) != std::end(std::declval<R &>()))>> =
+        std::is_convertible_v<decltype(*std::begin(std::declval<R &>())), T>;
+
+} // namespace detail
+
+/// Elements that are passed, for as long as the call takes: a pointer and how many, a list in braces, or a range. Those
+/// that stand side by side are not copied.
+template <class T> class slice {
+    using listed = std::conditional_t<std::is_arithmetic_v<T>, number<T>, T>;
+
+  public:
+    slice() = default;
+    slice(const T *at, std::size_t count) : at_(at), count_(count) {
+        if (at == nullptr && count != 0) throw null_slice();
+    }
+    slice(std::initializer_list<listed> list) { copy(list); }
+    template <class R, std::enable_if_t<detail::is_row<T, const R> || detail::is_list<listed, const R>, int> = 0>
+    slice(const R &range) {
+        if constexpr (detail::is_row<T, const R>) {
+            at_ = std::data(range);
+            count_ = std::size(range);
+        } else {
+            copy(range);
+        }
+    }
 
     /// Not null, where there is no element.
-    const T *data() const {
+    const T *data() const noexcept {
         static const T none{};
         return at_ == nullptr && count_ == 0 ? &none : at_;
     }
-    std::size_t size() const { return count_; }
-    const T &operator[](std::size_t index) const { return at_[index]; }
+    std::size_t size() const noexcept { return count_; }
+    const T *begin() const noexcept { return at_; }
+    const T *end() const noexcept { return at_ + count_; }
 
   private:
-    const T *at_;
-    std::size_t count_;
+    template <class R> void copy(const R &range) {
+        count_ = static_cast<std::size_t>(std::distance(std::begin(range), std::end(range)));
+        copy_ = std::make_unique<T[]>(count_);
+        at_ = copy_.get();
+        T *to = copy_.get();
+        for (auto &&each : range) *to++ = static_cast<T>(static_cast<const listed &>(each));
+    }
+
+    const T *at_ = nullptr;
+    std::size_t count_ = 0;
+    std::unique_ptr<T[]> copy_;
 };
 
 /// The bytes of a text, not null.
@@ -332,25 +433,78 @@ inline const std::uint8_t *bytes_of(std::string_view text) {
     return reinterpret_cast<const std::uint8_t *>(text.data() != nullptr ? text.data() : "");
 }
 
-/// Texts as the library takes them. They lead to the bytes of those that they are made of.
-inline std::vector<zx_text> texts_of(slice<std::string_view> texts) {
-    if (texts.data() == nullptr) throw null_slice();
-    std::vector<zx_text> passed;
-    passed.reserve(texts.size() + 1);
-    for (std::size_t i = 0; i < texts.size(); i++) passed.push_back({bytes_of(texts[i]), texts[i].size()});
-    // so that its data is not null
-    if (passed.empty()) {
-        passed.push_back({bytes_of({}), 0});
-        passed.pop_back();
+namespace detail {
+
+/// A text of a list, and no null pointer.
+class text {
+  public:
+    template <class T, std::enable_if_t<
+                           std::is_convertible_v<const T &, std::string_view> && !std::is_null_pointer_v<T>, int> = 0>
+    text(const T &of) : of_(there(of)) {}
+    operator std::string_view() const noexcept { return of_; }
+
+  private:
+    template <class T> static std::string_view there(const T &of) {
+        if constexpr (std::is_pointer_v<T>) {
+            if (of == nullptr) throw null_slice();
+        }
+        return of;
     }
-    return passed;
-}
+
+    std::string_view of_;
+};
+
+template <class R, class = void> inline constexpr bool is_texts = false;
+template <class R>
+inline constexpr bool is_texts<R, std::void_t<decltype(*std::begin(std::declval<R &>()))>> =
+    std::is_convertible_v<decltype(*std::begin(std::declval<R &>())), std::string_view> &&
+    (std::is_reference_v<decltype(*std::begin(std::declval<R &>()))> ||
+     std::is_trivially_copyable_v<decltype(*std::begin(std::declval<R &>()))>);
+
+} // namespace detail
+
+/// Texts that are passed, for as long as the call takes: a list in braces, or a range of strings, views of strings or
+/// literals, as `std::vector<std::string>`.
+class texts {
+  public:
+    texts() : texts(nullptr, 0) {}
+    texts(std::initializer_list<detail::text> list) { take(list.begin(), list.end()); }
+    texts(const std::string_view *at, std::size_t count) {
+        if (at == nullptr && count != 0) throw null_slice();
+        take(at, at + count);
+    }
+    template <class R, std::enable_if_t<detail::is_texts<const R>, int> = 0> texts(const R &range) {
+        take(std::begin(range), std::end(range));
+    }
+
+    /// As the library takes them, and not null. They lead to the bytes of those that they are made of.
+    const zx_text *data() const noexcept { return passed_.data(); }
+    std::size_t size() const noexcept { return passed_.size() - 1; }
+    std::vector<std::string> copies() const {
+        std::vector<std::string> all;
+        for (std::size_t i = 0; i < size(); i++)
+            all.emplace_back(reinterpret_cast<const char *>(passed_[i].at), passed_[i].len);
+        return all;
+    }
+
+  private:
+    template <class I, class S> void take(I first, S last) {
+        for (; first != last; ++first) {
+            const detail::text each(*first);
+            passed_.push_back({bytes_of(each), std::string_view(each).size()});
+        }
+        passed_.push_back({bytes_of({}), 0});
+    }
+
+    // one more than there are
+    std::vector<zx_text> passed_;
+};
 
 /// Which object: a name, which is kept in it, or what `unique`, `by_handle` and `anonymous` give.
 class key {
   public:
     key(std::string_view name) : how_(ZX_BY_NAME), name_(name) {}
-    key(const std::string &name) : how_(ZX_BY_NAME), name_(name) {}
+    key(std::string name) : how_(ZX_BY_NAME), name_(std::move(name)) {}
     key(const char *name) : how_(name != nullptr ? ZX_BY_NAME : ZX_NULL_NAME), name_(name != nullptr ? name : "") {}
 
     /// The unique object of a kind.
@@ -361,13 +515,18 @@ class key {
     /// A new object without a key.
     static key anonymous() { return key(ZX_NO_KEY, 0, 0); }
 
-    bool is_handle() const { return how_ == ZX_BY_HANDLE; }
+    [[nodiscard]] bool is_handle() const noexcept { return how_ == ZX_BY_HANDLE; }
     /// As the library takes it; it leads to the name that is kept here.
-    zx_key raw() const {
-        return {how_, kind_, handle_, reinterpret_cast<const std::uint8_t *>(name_.c_str()), name_.size()};
+    [[nodiscard]] zx_key raw() const noexcept { return {how_, kind_, handle_, bytes_of(name_), name_.size()}; }
+
+    friend bool operator==(const key &a, const key &b) {
+        return a.how_ == b.how_ && a.kind_ == b.kind_ && a.handle_ == b.handle_ && a.name_ == b.name_;
     }
+    friend bool operator!=(const key &a, const key &b) { return !(a == b); }
 
   private:
+    friend struct std::hash<key>;
+
     key(std::uint32_t how, std::uint32_t kind, std::uint64_t handle) : how_(how), kind_(kind), handle_(handle) {}
 
     std::uint32_t how_;
@@ -376,10 +535,15 @@ class key {
     std::string name_;
 };
 
-/// An object that was found or made: its handle, and how many scalars it has (1 where it is no object of scalars).
+// ---- what calls answer
+
+/// An object that was found or made: its handle, and how many values it has (1 where it is no object of such).
 struct found {
     std::uint64_t handle;
     std::uint32_t count;
+
+    friend bool operator==(const found &a, const found &b) { return a.handle == b.handle && a.count == b.count; }
+    friend bool operator!=(const found &a, const found &b) { return !(a == b); }
 };
 
 /// What an object says of itself. `name` is empty where it has none.
@@ -389,25 +553,117 @@ struct info {
     std::uint32_t count;
     std::uint64_t handle;
     std::string name;
+
+    friend bool operator==(const info &a, const info &b) {
+        return a.found_by == b.found_by && a.kind == b.kind && a.count == b.count && a.handle == b.handle &&
+               a.name == b.name;
+    }
+    friend bool operator!=(const info &a, const info &b) { return !(a == b); }
 };
 
 /// Elements, and places for elements.
 struct measures {
     std::uint64_t len;
     std::uint64_t places;
+
+    friend bool operator==(const measures &a, const measures &b) { return a.len == b.len && a.places == b.places; }
+    friend bool operator!=(const measures &a, const measures &b) { return !(a == b); }
 };
 
 enum class mode : std::uint32_t { write = ZX_WRITE, read = ZX_READ, copy_on_write = ZX_COPY_ON_WRITE };
 
 class segment;
-class object;
+class group;
+template <class T> class const_array;
 template <class T> class array;
+template <class T> class const_vector;
 template <class T> class vector;
+template <class K, class V> class const_map;
 template <class K, class V> class map;
+class const_string;
 class string;
+class const_strings;
 class strings;
 
 namespace detail {
+
+/// What a segment is, at a place that stays the same.
+struct state {
+    zx_file file{};
+    std::string path;
+    bool grows = false;
+
+    zx_segment *raw() noexcept { return &file.segment; }
+    /// Throws where the code is not ZX_DONE, as `file_error` where it is one of the file's.
+    void check(zx_code code) const {
+        if (code != ZX_DONE) throw_file_code(code, file.error, path);
+    }
+
+    /// A call that may need space: where there is none, and the segment grows by itself, it is made longer.
+    template <class Call> void change(Call call) {
+        const zx_code code = call(raw());
+        if (code == ZX_NO_SPACE && grows) check(in_more_space(call));
+        else check_code(code);
+    }
+    zx_code grow_by_half() {
+        const std::uint64_t largest = std::uint64_t{1} << 30;
+        std::uint64_t size = 0;
+        const zx_code code = zx_size(raw(), &size);
+        if (code != ZX_DONE) return code;
+        const std::uint64_t left = largest - size, wanted = (size / 2 + 4096) / 16 * 16;
+        return zx_file_grow(&file, left < wanted && left >= 32 ? left : wanted);
+    }
+
+  private:
+    /// Where it cannot be long enough, it becomes as long as it was.
+    template <class Call> zx_code in_more_space(Call call) {
+        std::uint64_t before = 0, size = 0;
+        zx_code code = ZX_NO_SPACE;
+        static_cast<void>(zx_size(raw(), &before));
+        do {
+            code = grow_by_half();
+            if (code == ZX_DONE) code = call(raw());
+        } while (code == ZX_NO_SPACE);
+        if (code != ZX_DONE && zx_file_shrink(&file) == ZX_DONE && zx_size(raw(), &size) == ZX_DONE && size < before)
+            static_cast<void>(zx_file_grow(&file, before - size));
+        return code;
+    }
+};
+
+/// What a segment was, to which it is put back at the end, unless that is given up.
+class snapshot {
+  public:
+    explicit snapshot(state &of) : of_(of) { check_code(zx_begin(of_.raw(), &before_)); }
+    snapshot(const snapshot &) = delete;
+    ~snapshot() {
+        if (before_.at == nullptr || zx_file_rollback(&of_.file, &before_) == ZX_DONE) return;
+        // a segment that cannot be put back is closed, so that nobody takes it for what it was
+        zx_commit(&before_);
+        zx_file_discard(&of_.file);
+    }
+    void commit() noexcept { zx_commit(&before_); }
+
+  private:
+    state &of_;
+    zx_segment before_{};
+};
+
+/// An object by its handle. It is good for as long as the segment is, or something that was asked of it.
+struct spot {
+    state *of = nullptr;
+    std::uint64_t handle = 0;
+
+    template <class Call, class... Args> zx_code code_of(Call call, Args... args) const {
+        const zx_key at = zx_handle(handle);
+        return call(of->raw(), &at, args...);
+    }
+    template <class Call, class... Args> void ask(Call call, Args... args) const { check_code(code_of(call, args...)); }
+    template <class Call, class... Args> void change(Call call, Args... args) const {
+        const zx_key at = zx_handle(handle);
+        of->change([&](zx_segment *raw) { return call(raw, &at, args...); });
+    }
+    friend bool operator==(const spot &a, const spot &b) { return a.of == b.of && a.handle == b.handle; }
+};
 
 /// Reads a text by a call that says how much room it wants.
 template <class Read> std::string text_by(Read read) {
@@ -415,18 +671,12 @@ template <class Read> std::string text_by(Read read) {
     std::uint64_t len = 0;
     zx_code code = read(reinterpret_cast<std::uint8_t *>(text.data()), text.size(), &len);
     if (code == ZX_SHORT_BUFFER) {
-        text.resize(static_cast<std::size_t>(len));
+        text.resize(len);
         code = read(reinterpret_cast<std::uint8_t *>(text.data()), text.size(), &len);
     }
     check_code(code);
-    text.resize(static_cast<std::size_t>(len));
+    text.resize(len);
     return text;
-}
-
-/// Where the elements of a row go: not null, where there is none of them.
-template <class T> T *row_at(T *row, std::size_t count) {
-    static T none{};
-    return row == nullptr && count == 0 ? &none : row;
 }
 
 /// The info that a call gives, with the name that it copies.
@@ -441,55 +691,347 @@ template <class Tell> zx_code info_by(Tell tell, info &told) {
     return code;
 }
 
-/// Goes over what has a `get` and places from 0 on.
-template <class Of, class T> class place_iterator {
-  public:
-    using iterator_category = std::input_iterator_tag;
-    using value_type = T;
-    using difference_type = std::ptrdiff_t;
-    using pointer = const T *;
-    using reference = T;
+/// What the object with so many names before its own says of itself; whether there is one.
+inline bool named_at(zx_segment *of, std::uint64_t index, info &told) {
+    const zx_code code = info_by(
+        [&](zx_info *said, std::uint8_t *name, std::size_t room) { return zx_named_at(of, index, said, name, room); },
+        told);
+    if (code != ZX_OUT_OF_RANGE) check_code(code);
+    return code == ZX_DONE;
+}
 
-    place_iterator(const Of *of, std::uint64_t index) : of_(of), index_(index) {}
-    T operator*() const { return of_->get(index_); }
-    place_iterator &operator++() {
-        index_++;
+/// How many names stand before a text.
+inline std::uint64_t named_from(zx_segment *of, std::string_view text) {
+    std::uint64_t index = 0;
+    check_code(zx_named_from(of, bytes_of(text), text.size(), &index));
+    return index;
+}
+
+/// So many values as the elements are, or `wrong_kind`: bytes of another type.
+template <class T> std::uint64_t whole(std::uint64_t elements) {
+    if (elements % stored<T>::width != 0) throw wrong_kind();
+    return elements / stored<T>::width;
+}
+
+// -- how the elements of each kind of object are read and set. `begun` is what `+=` and its like begin with
+
+/// The values of an array or a vector, and the bytes of a string.
+template <class T> struct values {
+    using index_type = std::uint64_t;
+    using value_type = T;
+    using passed_type = value_of<T>;
+
+    static T get(const spot &of, std::uint64_t index) {
+        if constexpr (is_scalar<T>) {
+            zx_value value{};
+            of.ask(zx_get, index, &value);
+            return stored<T>::from(value);
+        } else {
+            T value{};
+            of.ask(stored<T>::read, index, &value, std::size_t{1});
+            return value;
+        }
+    }
+    static T begun(const spot &of, std::uint64_t index) { return get(of, index); }
+    static void set(const spot &of, std::uint64_t index, const T &value) {
+        if constexpr (is_scalar<T>) {
+            const zx_value passed = stored<T>::value(value);
+            of.ask(zx_set, index, &passed);
+        } else {
+            const zx_values passed = stored<T>::values(&value, 1);
+            of.ask(zx_write_elements, product(index, stored<T>::width), &passed);
+        }
+    }
+};
+
+/// The texts of a vector of strings.
+struct lines {
+    using index_type = std::uint64_t;
+    using value_type = std::string;
+    using passed_type = std::string_view;
+
+    static std::string get(const spot &of, std::uint64_t index) {
+        return text_by([&](std::uint8_t *text, std::size_t room, std::uint64_t *len) {
+            return of.code_of(zx_read_text, index, text, room, len);
+        });
+    }
+    static void set(const spot &of, std::uint64_t index, std::string_view text) {
+        of.change(zx_set_text, index, bytes_of(text), text.size());
+    }
+};
+
+/// The values of a map, by their keys.
+template <class K, class V> struct pairs {
+    using index_type = K;
+    using value_type = V;
+    using passed_type = value_of<V>;
+
+    static std::optional<V> find(const spot &of, K wanted) {
+        const zx_value passed = stored<K>::value(wanted);
+        zx_value value{};
+        if (!is_there(of.code_of(zx_map_get, &passed, &value))) return std::nullopt;
+        return stored<V>::from(value);
+    }
+    static V get(const spot &of, K wanted) {
+        const std::optional<V> value = find(of, wanted);
+        if (!value) throw absent();
+        return *value;
+    }
+    static V begun(const spot &of, K wanted) { return find(of, wanted).value_or(V{}); }
+    static bool put(const spot &of, K at, V value) {
+        const zx_value passed_key = stored<K>::value(at), passed = stored<V>::value(value);
+        bool is_new = false;
+        of.change(zx_map_put, &passed_key, &passed, &is_new);
+        return is_new;
+    }
+    static void set(const spot &of, K at, V value) { put(of, at, value); }
+};
+
+/// A number that the type has, or `out_of_range`.
+template <class T> T in_range(bool is_too_large, T number) {
+    if (is_too_large) throw out_of_range();
+    return number;
+}
+template <class T> T sum(T a, T b) {
+    if constexpr (std::is_integral_v<T>) {
+        T c{};
+        const bool is_too_large = __builtin_add_overflow(a, b, &c);
+        return in_range(is_too_large, c);
+    } else {
+        return a + b;
+    }
+}
+template <class T> T difference(T a, T b) {
+    if constexpr (std::is_integral_v<T>) {
+        T c{};
+        const bool is_too_large = __builtin_sub_overflow(a, b, &c);
+        return in_range(is_too_large, c);
+    } else {
+        return a - b;
+    }
+}
+template <class T> T times(T a, T b) {
+    if constexpr (std::is_integral_v<T>) {
+        T c{};
+        const bool is_too_large = __builtin_mul_overflow(a, b, &c);
+        return in_range(is_too_large, c);
+    } else {
+        return a * b;
+    }
+}
+template <class T> T quotient(T a, T b) {
+    if constexpr (std::is_integral_v<T>) {
+        if (b == 0) throw out_of_range();
+        if constexpr (std::is_signed_v<T>) {
+            if (b == -1) return difference(T{0}, a);
+        }
+        return static_cast<T>(a / b);
+    } else {
+        return a / b;
+    }
+}
+
+/// What a value is read through by `->`.
+template <class T> class arrow {
+  public:
+    explicit arrow(T value) : value_(std::move(value)) {}
+    const T *operator->() const noexcept { return &value_; }
+
+  private:
+    T value_;
+};
+
+/// One element, which is read where a value is wanted and set where one is assigned. It is good for as long as the
+/// segment is.
+template <class Access> class element {
+  public:
+    using value_type = typename Access::value_type;
+    using value_of_element = value_type;
+
+    element(spot of, typename Access::index_type at) : of_(of), at_(at) {}
+    element(const element &) = default;
+
+    [[nodiscard]] value_type value() const { return Access::get(of_, at_); }
+    operator value_type() const { return value(); }
+    arrow<value_type> operator->() const { return arrow<value_type>(value()); }
+
+    const element &operator=(typename Access::passed_type value) const {
+        Access::set(of_, at_, value);
         return *this;
     }
-    place_iterator operator++(int) {
-        place_iterator before = *this;
-        index_++;
+    const element &operator=(const element &other) const { return *this = other.value(); }
+    element &operator=(const element &other) {
+        *this = other.value();
+        return *this;
+    }
+
+    // those of integers throw `out_of_range` where the result does not fit
+    const element &operator+=(value_of<value_type> by) const { return to(sum<value_type>(begun(), by)); }
+    const element &operator-=(value_of<value_type> by) const { return to(difference<value_type>(begun(), by)); }
+    const element &operator*=(value_of<value_type> by) const { return to(times<value_type>(begun(), by)); }
+    const element &operator/=(value_of<value_type> by) const { return to(quotient<value_type>(begun(), by)); }
+    const element &operator++() const { return *this += value_type{1}; }
+    const element &operator--() const { return *this -= value_type{1}; }
+    value_type operator++(int) const {
+        const value_type before = begun();
+        to(sum(before, value_type{1}));
         return before;
     }
-    bool operator==(const place_iterator &other) const { return index_ == other.index_; }
-    bool operator!=(const place_iterator &other) const { return index_ != other.index_; }
+    value_type operator--(int) const {
+        const value_type before = begun();
+        to(difference(before, value_type{1}));
+        return before;
+    }
+
+    friend void swap(const element &a, const element &b) {
+        const value_type kept = a.value();
+        a = b.value();
+        b = kept;
+    }
 
   private:
-    const Of *of_;
-    std::uint64_t index_;
-};
-
-/// One element, which is read where a value is wanted and set where one is assigned.
-template <class Of, class At, class T> class element {
-  public:
-    element(Of of, At at) : of_(std::move(of)), at_(at) {}
-    element(const element &) = default;
-    operator T() const { return of_.get(at_); }
-    element &operator=(const T &value) {
-        of_.set(at_, value);
+    value_type begun() const { return Access::begun(of_, at_); }
+    const element &to(const value_type &value) const {
+        Access::set(of_, at_, value);
         return *this;
     }
-    element &operator=(const element &other) { return *this = static_cast<T>(other); }
+
+    spot of_;
+    typename Access::index_type at_;
+};
+
+/// What is read as a text by `str()`: a string, and an element of a vector of strings.
+struct read_as_text {};
+
+/// The same of a text.
+template <> class element<lines> : public read_as_text {
+  public:
+    using value_type = std::string;
+
+    element(spot of, std::uint64_t at) : of_(of), at_(at) {}
+    element(const element &) = default;
+
+    [[nodiscard]] std::string value() const { return lines::get(of_, at_); }
+    [[nodiscard]] std::string str() const { return value(); }
+    operator std::string() const { return value(); }
+    arrow<std::string> operator->() const { return arrow<std::string>(value()); }
+
+    const element &operator=(std::string_view text) const {
+        lines::set(of_, at_, text);
+        return *this;
+    }
+    const element &operator=(const element &other) const { return *this = std::string_view(other.value()); }
+    element &operator=(const element &other) {
+        *this = std::string_view(other.value());
+        return *this;
+    }
+    const element &operator+=(std::string_view text) const { return *this = std::string_view(value().append(text)); }
+
+    friend void swap(const element &a, const element &b) {
+        const std::string kept = a.value();
+        a = std::string_view(b.value());
+        b = std::string_view(kept);
+    }
 
   private:
-    Of of_;
-    At at_;
+    spot of_;
+    std::uint64_t at_;
 };
+
+template <class T> inline constexpr bool is_text_read = std::is_base_of_v<read_as_text, T>;
+
+template <class A, class B>
+inline constexpr bool are_texts =
+    (is_text_read<A> && (is_text_read<B> || std::is_convertible_v<const B &, std::string_view>)) ||
+    (is_text_read<B> && std::is_convertible_v<const A &, std::string_view>);
+
+/// The text that is read, or that is there.
+template <class T> auto text_of(const T &of) {
+    if constexpr (is_text_read<T>) return of.str();
+    else return std::string_view(of);
+}
+
+// -- over what has places from 0 on. R is what an iterator leads to: a value, or an element
+
+template <class Access, class R> class iterator {
+  public:
+    using iterator_category = std::random_access_iterator_tag;
+    using value_type = typename Access::value_type;
+    using difference_type = std::ptrdiff_t;
+    using pointer = arrow<value_type>;
+    using reference = R;
+
+    iterator() = default;
+    iterator(spot of, std::uint64_t index) : of_(of), index_(index) {}
+
+    R operator*() const { return (*this)[0]; }
+    pointer operator->() const { return pointer(Access::get(of_, index_)); }
+    R operator[](difference_type by) const {
+        if constexpr (std::is_same_v<R, value_type>) return Access::get(of_, moved(by));
+        else return R(of_, moved(by));
+    }
+
+    iterator &operator++() { return *this += 1; }
+    iterator &operator--() { return *this -= 1; }
+    iterator operator++(int) { return std::exchange(*this, *this + 1); }
+    iterator operator--(int) { return std::exchange(*this, *this - 1); }
+    iterator &operator+=(difference_type by) {
+        index_ = moved(by);
+        return *this;
+    }
+    iterator &operator-=(difference_type by) {
+        index_ -= static_cast<std::uint64_t>(by);
+        return *this;
+    }
+    friend iterator operator+(const iterator &a, difference_type by) { return {a.of_, a.moved(by)}; }
+    friend iterator operator+(difference_type by, const iterator &a) { return {a.of_, a.moved(by)}; }
+    friend iterator operator-(iterator a, difference_type by) { return a -= by; }
+    friend difference_type operator-(const iterator &a, const iterator &b) {
+        return static_cast<difference_type>(a.index_ - b.index_);
+    }
+    friend bool operator==(const iterator &a, const iterator &b) { return a.index_ == b.index_; }
+    friend bool operator!=(const iterator &a, const iterator &b) { return a.index_ != b.index_; }
+    friend bool operator<(const iterator &a, const iterator &b) { return a.index_ < b.index_; }
+    friend bool operator>(const iterator &a, const iterator &b) { return a.index_ > b.index_; }
+    friend bool operator<=(const iterator &a, const iterator &b) { return a.index_ <= b.index_; }
+    friend bool operator>=(const iterator &a, const iterator &b) { return a.index_ >= b.index_; }
+
+  private:
+    std::uint64_t moved(difference_type by) const { return index_ + static_cast<std::uint64_t>(by); }
+
+    spot of_;
+    std::uint64_t index_ = 0;
+};
+
+// -- texts that are read, compared and written
+
+template <class A, class B, std::enable_if_t<are_texts<A, B>, int> = 0> bool operator==(const A &a, const B &b) {
+    return text_of(a) == text_of(b);
+}
+template <class A, class B, std::enable_if_t<are_texts<A, B>, int> = 0> bool operator!=(const A &a, const B &b) {
+    return text_of(a) != text_of(b);
+}
+template <class A, class B, std::enable_if_t<are_texts<A, B>, int> = 0> bool operator<(const A &a, const B &b) {
+    return text_of(a) < text_of(b);
+}
+template <class A, class B, std::enable_if_t<are_texts<A, B>, int> = 0> bool operator>(const A &a, const B &b) {
+    return text_of(a) > text_of(b);
+}
+template <class A, class B, std::enable_if_t<are_texts<A, B>, int> = 0> bool operator<=(const A &a, const B &b) {
+    return text_of(a) <= text_of(b);
+}
+template <class A, class B, std::enable_if_t<are_texts<A, B>, int> = 0> bool operator>=(const A &a, const B &b) {
+    return text_of(a) >= text_of(b);
+}
+template <class T, class Traits, std::enable_if_t<is_text_read<T>, int> = 0>
+std::basic_ostream<char, Traits> &operator<<(std::basic_ostream<char, Traits> &out, const T &text) {
+    return out << text.str();
+}
 
 } // namespace detail
 
 /// Whether bytes are the image of a segment; else the code of the class that refuses them.
-inline zx_code check_image(slice<std::uint8_t> image) {
+[[nodiscard]] inline zx_code check_image(slice<std::uint8_t> image) {
     const zx_code code = zx_check(image.data(), image.size());
     if (code == ZX_NO_MEMORY || code == ZX_NULL_SLICE) throw_code(code);
     return code;
@@ -511,15 +1053,14 @@ class segment {
     segment &operator=(segment &&other) noexcept {
         if (this != &other) {
             close();
-            file_ = std::move(other.file_);
-            path_ = std::move(other.path_);
+            state_ = std::move(other.state_);
         }
         return *this;
     }
     ~segment() { close(); }
 
     /// An empty segment of `size` bytes: 144, or a multiple of 16 from 176 to 1073741824.
-    static segment create(std::uint64_t size) {
+    [[nodiscard]] static segment create(std::uint64_t size) {
         segment made = allotted();
         check_code(zx_create(made.raw(), size));
         return made;
@@ -527,8 +1068,8 @@ class segment {
 
     /// The segment whose image the bytes are, in a region of `capacity` bytes; where that is 0, of as many as the image
     /// has.
-    static segment open(slice<std::uint8_t> image, zaluxhoni::mode how = zaluxhoni::mode::write,
-                        std::uint64_t capacity = 0) {
+    [[nodiscard]] static segment open(slice<std::uint8_t> image, zaluxhoni::mode how = zaluxhoni::mode::write,
+                                      std::uint64_t capacity = 0) {
         segment made = allotted();
         const std::uint64_t least = image.size() < 16 ? 16 : (image.size() + 15) / 16 * 16;
         zx_code code = zx_open(made.raw(), image.data(), image.size(), capacity != 0 ? capacity : least,
@@ -540,36 +1081,43 @@ class segment {
     }
 
     /// Opens the segment of a file that exists. Throws `file_error` if the file is refused.
-    static segment open_file(const std::string &path, zaluxhoni::mode how = zaluxhoni::mode::write) {
-        switch (how) {
-        case mode::write: return of_file(path, ZX_OPEN_ONLY, 0);
-        case mode::read: return of_file(path, ZX_OPEN_READ_ONLY, 0);
-        case mode::copy_on_write: return of_file(path, ZX_OPEN_COPY_ON_WRITE, 0);
-        }
-        throw bad_mode();
+    [[nodiscard]] static segment open_file(const std::string &path, zaluxhoni::mode how = zaluxhoni::mode::write) {
+        return of_file(path, file_mode(how), 0);
     }
     /// Opens it for writing; creates it with an empty segment of `size` bytes if it does not exist.
-    static segment open_or_create_file(const std::string &path, std::uint64_t size) {
+    [[nodiscard]] static segment open_or_create_file(const std::string &path, std::uint64_t size) {
         return of_file(path, ZX_OPEN_OR_CREATE, size);
     }
     /// Creates a file with an empty segment of `size` bytes. Throws `file_exists` if something exists there.
-    static segment create_file(const std::string &path, std::uint64_t size) {
+    [[nodiscard]] static segment create_file(const std::string &path, std::uint64_t size) {
         return of_file(path, ZX_CREATE_ONLY, size);
+    }
+
+    /// The same with the file mapped: opening copies nothing, and each change is in the file at once.
+    /// zaluxhoni_files.h says what that costs.
+    [[nodiscard]] static segment map_file(const std::string &path, zaluxhoni::mode how = zaluxhoni::mode::write) {
+        return of_file(path, file_mode(how) | ZX_MAPPED, 0);
+    }
+    [[nodiscard]] static segment map_or_create_file(const std::string &path, std::uint64_t size) {
+        return of_file(path, ZX_OPEN_OR_CREATE | ZX_MAPPED, size);
+    }
+    [[nodiscard]] static segment create_mapped_file(const std::string &path, std::uint64_t size) {
+        return of_file(path, ZX_CREATE_ONLY | ZX_MAPPED, size);
     }
 
     /// Frees the segment and saves nothing; removes a file that it created and never saved. What was asked of it throws
     /// `closed` from then on.
     void close() noexcept {
-        if (file_ != nullptr) zx_file_discard(file_.get());
+        if (state_ != nullptr) zx_file_discard(&state_->file);
     }
-    bool is_open() const noexcept { return file_ != nullptr && file_->segment.at != nullptr; }
+    [[nodiscard]] bool is_open() const noexcept { return state_ != nullptr && state_->raw()->at != nullptr; }
     explicit operator bool() const noexcept { return is_open(); }
     /// For the calls of zaluxhoni.h.
-    zx_segment *raw() const { return &file().segment; }
+    [[nodiscard]] zx_segment *raw() const { return state().raw(); }
 
     /// The image.
-    std::vector<std::uint8_t> save() const {
-        std::vector<std::uint8_t> image(static_cast<std::size_t>(size()));
+    [[nodiscard]] std::vector<std::uint8_t> save() const {
+        std::vector<std::uint8_t> image(size());
         save(image.data(), image.size());
         return image;
     }
@@ -579,123 +1127,142 @@ class segment {
     /// Saves the file that the segment was opened from, unless it has just these bytes: a new file takes its place when
     /// all of it is on the disk. Whatever fails, one of the two stands whole under the name. Throws `file_error` if the
     /// file is refused; after `file_unsynced` alone it is saved.
-    void save_file() const { check_file(zx_file_save(&file()), path_); }
-    /// The same, and frees the segment.
+    void save_file() const { state().check(zx_file_save(&state().file)); }
+    /// Waits until the changes of a mapped file are on the disk; saves another one.
+    void flush_file() const { state().check(zx_file_flush(&state().file)); }
+    /// Saves as `save_file` does, and frees the segment. Of a mapped file it waits for nothing.
     void close_file() {
         if (!is_open()) throw closed();
-        check_file(zx_file_close(file_.get()), path_);
+        state().check(zx_file_close(&state().file));
     }
     /// Puts the image into the file of a path, which is created if it does not exist; its own file is saved as above.
     void save_file(const std::string &path) const {
-        check_file(zx_file_save_as(&file(), whole(path).c_str(), ZX_OPEN_OR_CREATE), path);
+        const zx_code code = zx_file_save_as(&state().file, whole(path).c_str(), ZX_OPEN_OR_CREATE);
+        if (code != ZX_DONE) throw_file_code(code, state().file.error, path);
     }
 
     /// Makes the segment longer by `extra` bytes: a multiple of 16, at least 32.
-    void grow(std::uint64_t extra) { check_code(zx_grow(raw(), extra)); }
+    void grow(std::uint64_t extra) { state().check(zx_file_grow(&state().file, extra)); }
     /// Makes the segment as short as its last block lets it be.
-    void shrink() { check_code(zx_shrink(raw())); }
+    void shrink() { state().check(zx_file_shrink(&state().file)); }
     /// Moves the segment into a region of `capacity` bytes.
     void relocate(std::uint64_t capacity) { check_code(zx_relocate(raw(), capacity)); }
 
-    /// Calls `call`, and where it finds no space makes the segment longer by half and calls it again. Where the segment
-    /// cannot become longer it throws `too_large` or `no_memory`, and stays as long as it has become by then.
+    /// Whether a call that finds no space makes the segment longer by half and goes on. Where the segment cannot be
+    /// long enough, the call throws `too_large` or `no_memory`, and the segment is as long as before.
+    void set_growing(bool grows) { state().grows = grows; }
+    [[nodiscard]] bool is_growing() const { return state().grows; }
+    /// Calls `call`, and where it throws `no_space` makes the segment longer by half and calls it again. Where the
+    /// segment cannot become longer it throws `too_large` or `no_memory`, and stays as long as it has become by then.
     template <class Call> auto growing(Call call) -> decltype(call()) {
         for (;;) {
             try {
                 return call();
             } catch (const no_space &) {
-                grow_by_half();
+                state().check(state().grow_by_half());
             }
         }
     }
 
-    zaluxhoni::mode mode() const {
+    /// Calls `call`, as one step: where it throws, the segment is again what it was before, and the error goes on.
+    /// Steps may lie in one another. It copies the segment. Of a file it saves nothing. Where there is no memory, or no
+    /// room in a mapped file, to make it what it was, it is closed.
+    template <class Call> auto transaction(Call call) -> decltype(call()) {
+        detail::snapshot before(state());
+        if constexpr (std::is_void_v<decltype(call())>) {
+            call();
+            before.commit();
+        } else {
+            auto result = call();
+            before.commit();
+            return result;
+        }
+    }
+
+    [[nodiscard]] zaluxhoni::mode mode() const {
         std::uint32_t how = 0;
         check_code(zx_mode(raw(), &how));
         return static_cast<zaluxhoni::mode>(how);
     }
-    std::uint64_t size() const { return number_by(zx_size); }
-    std::uint64_t free_bytes() const { return number_by(zx_free_bytes); }
-    std::uint64_t region_left() const { return number_by(zx_region_left); }
+    [[nodiscard]] std::uint64_t size() const { return number_by(zx_size); }
+    [[nodiscard]] std::uint64_t free_bytes() const { return number_by(zx_free_bytes); }
+    [[nodiscard]] std::uint64_t region_left() const { return number_by(zx_region_left); }
 
     // -- objects, which are made, found, told of and destroyed
 
-    /// Makes `count` scalars of one value, and gives their handle: `construct<std::int64_t>("a", 5)`.
-    template <class T> std::uint64_t construct(const key &at, value_of<T> value, std::uint32_t count = 1) {
-        const zx_value passed = scalar<T>::value(value);
-        return handle_by(at, [&](const zx_key *raw_key, std::uint64_t *handle) {
-            return zx_construct(raw(), raw_key, count, &passed, handle);
-        });
+    /// Makes `count` times a value, and gives the handle of the object: `construct<std::int64_t>("a", 5)`.
+    template <class T> std::uint64_t construct(const key &at, value_of<T> value, std::uint64_t count = 1) {
+        if constexpr (is_scalar<T>) {
+            const zx_value passed = stored<T>::value(value);
+            return made(zx_construct, at, count_of(count), &passed);
+        } else {
+            return construct_array<T>(at, std::vector<T>(count_of(count), value));
+        }
     }
-    /// Makes an array of these values, 1 to 1048576 of them.
-    template <class T> std::uint64_t construct_array(const key &at, slice<value_of<T>> values) {
-        const zx_values passed = scalar<T>::values(values.data(), values.size());
-        return handle_by(at, [&](const zx_key *raw_key, std::uint64_t *handle) {
-            return zx_construct_array(raw(), raw_key, &passed, handle);
-        });
+    /// Makes an array of these values, 1 to 1048576 of them; of a type that is no scalar as many as have so many bytes.
+    template <class T> std::uint64_t construct_array(const key &at, slice<T> values) {
+        const zx_values passed = stored<T>::values(values.data(), values.size());
+        return made(zx_construct_array, at, &passed);
     }
-    template <class T> std::uint64_t construct_vector(const key &at, slice<value_of<T>> values = {}) {
-        const zx_values passed = scalar<T>::values(values.data(), values.size());
-        return handle_by(at, [&](const zx_key *raw_key, std::uint64_t *handle) {
-            return zx_construct_vector(raw(), raw_key, &passed, handle);
-        });
+    template <class T> std::uint64_t construct_vector(const key &at, slice<T> values = {}) {
+        const zx_values passed = stored<T>::values(values.data(), values.size());
+        return made(zx_construct_vector, at, &passed);
     }
     std::uint64_t construct_string(const key &at, std::string_view text) {
-        return handle_by(at, [&](const zx_key *raw_key, std::uint64_t *handle) {
-            return zx_construct_string(raw(), raw_key, bytes_of(text), text.size(), handle);
-        });
+        return made(zx_construct_string, at, bytes_of(text), text.size());
     }
-    std::uint64_t construct_strings(const key &at, slice<std::string_view> texts = {}) {
-        const std::vector<zx_text> passed = texts_of(texts);
-        return handle_by(at, [&](const zx_key *raw_key, std::uint64_t *handle) {
-            return zx_construct_strings(raw(), raw_key, passed.data(), passed.size(), handle);
-        });
+    std::uint64_t construct_strings(const key &at, const texts &list = {}) {
+        return made(zx_construct_strings, at, list.data(), list.size());
     }
     template <class K, class V> std::uint64_t construct_map(const key &at) {
-        return handle_by(at, [&](const zx_key *raw_key, std::uint64_t *handle) {
-            return zx_construct_map(raw(), raw_key, kind_of<K>, kind_of<V>, handle);
-        });
+        static_cast<void>(kind_of<std::map<K, V>>);
+        return made(zx_construct_map, at, kind_of<K>, kind_of<V>);
     }
 
     /// Finds the object, which stays as it is, or makes it. Where one of another kind has the key it throws
     /// `wrong_kind`.
-    template <class T> found find_or_construct(const key &at, value_of<T> value, std::uint32_t count = 1) {
-        const zx_value passed = scalar<T>::value(value);
-        return found_by(at, [&](const zx_key *raw_key, std::uint64_t *handle, std::uint32_t *had) {
-            return zx_find_or_construct(raw(), raw_key, count, &passed, handle, had);
-        });
+    template <class T> found find_or_construct(const key &at, value_of<T> value, std::uint64_t count = 1) {
+        if constexpr (is_scalar<T>) {
+            const zx_value passed = stored<T>::value(value);
+            return found_or_made(zx_find_or_construct, at, count_of(count), &passed);
+        } else {
+            const std::optional<found> had = find<T>(at);
+            return had ? *had : found{construct<T>(at, value, count), count_of(count)};
+        }
     }
-    template <class T> found find_or_construct_vector(const key &at, slice<value_of<T>> values = {}) {
-        const zx_values passed = scalar<T>::values(values.data(), values.size());
-        return found_by(at, [&](const zx_key *raw_key, std::uint64_t *handle, std::uint32_t *had) {
-            return zx_find_or_construct_vector(raw(), raw_key, &passed, handle, had);
-        });
+    template <class T> found find_or_construct_vector(const key &at, slice<T> values = {}) {
+        const zx_values passed = stored<T>::values(values.data(), values.size());
+        return found_or_made(zx_find_or_construct_vector, at, &passed);
     }
     found find_or_construct_string(const key &at, std::string_view text) {
-        return found_by(at, [&](const zx_key *raw_key, std::uint64_t *handle, std::uint32_t *had) {
-            return zx_find_or_construct_string(raw(), raw_key, bytes_of(text), text.size(), handle, had);
-        });
+        return found_or_made(zx_find_or_construct_string, at, bytes_of(text), text.size());
     }
-    found find_or_construct_strings(const key &at, slice<std::string_view> texts = {}) {
-        const std::vector<zx_text> passed = texts_of(texts);
-        return found_by(at, [&](const zx_key *raw_key, std::uint64_t *handle, std::uint32_t *had) {
-            return zx_find_or_construct_strings(raw(), raw_key, passed.data(), passed.size(), handle, had);
-        });
+    found find_or_construct_strings(const key &at, const texts &list = {}) {
+        return found_or_made(zx_find_or_construct_strings, at, list.data(), list.size());
     }
     template <class K, class V> found find_or_construct_map(const key &at) {
-        return found_by(at, [&](const zx_key *raw_key, std::uint64_t *handle, std::uint32_t *had) {
-            return zx_find_or_construct_map(raw(), raw_key, kind_of<K>, kind_of<V>, handle, had);
-        });
+        static_cast<void>(kind_of<std::map<K, V>>);
+        return found_or_made(zx_find_or_construct_map, at, kind_of<K>, kind_of<V>);
     }
 
-    /// The object of a name or of a kind, where there is one. T says its kind: a scalar, `std::string`,
+    /// The object of a key, where there is one. T says its kind: a type that can be stored, `std::string`,
     /// `std::vector<std::string>`, `std::vector<std::int64_t>`, `std::map<std::int32_t, std::int64_t>`. Where one of
     /// another kind has the key it throws `wrong_kind`.
-    template <class T> std::optional<found> find(const key &at) const {
-        const zx_key raw_key = at.raw();
-        found had{0, 0};
-        if (!is_there(zx_find(raw(), &raw_key, kind_of<T>, &had.handle, &had.count))) return std::nullopt;
+    template <class T> [[nodiscard]] std::optional<found> find(const key &at) const {
+        std::optional<found> had = find_kind(at, kind_of<T>);
+        if constexpr (is_storable<T>) {
+            if (had) had->count = static_cast<std::uint32_t>(detail::whole<T>(had->count));
+        }
         return had;
+    }
+    /// Whether there is an object of the key, of whatever kind.
+    [[nodiscard]] bool contains(const key &at) const {
+        const zx_key raw_key = at.raw();
+        zx_info told{};
+        std::uint8_t name[255];
+        const zx_code code = zx_tell(raw(), &raw_key, &told, name, sizeof name);
+        if (code != ZX_NOT_FOUND) check_code(code);
+        return code == ZX_DONE;
     }
 
     /// Destroys the object of a name or of a kind, and says whether there was one; or that of a handle, or throws
@@ -707,7 +1274,7 @@ class segment {
         return was_there;
     }
 
-    info tell(const key &at) const {
+    [[nodiscard]] info tell(const key &at) const {
         const zx_key raw_key = at.raw();
         info told{};
         check_code(detail::info_by(
@@ -718,57 +1285,69 @@ class segment {
         return told;
     }
 
-    // -- one element, of scalars, vectors and strings
+    // -- one value of an array, a vector or a string
 
-    template <class T> T get(const key &at, std::uint64_t index = 0) const {
+    template <class T> [[nodiscard]] T get(const key &at, std::uint64_t index = 0) const {
         const zx_key raw_key = at.raw();
-        zx_value value{};
-        check_code(zx_get(raw(), &raw_key, index, &value));
-        return scalar<T>::from(value);
+        if constexpr (is_scalar<T>) {
+            zx_value value{};
+            check_code(zx_get(raw(), &raw_key, index, &value));
+            return stored<T>::from(value);
+        } else {
+            T value{};
+            check_code(stored<T>::read(raw(), &raw_key, index, &value, 1));
+            return value;
+        }
     }
     template <class T> void set(const key &at, std::uint64_t index, value_of<T> value) {
+        const T of = value;
         const zx_key raw_key = at.raw();
-        const zx_value passed = scalar<T>::value(value);
-        check_code(zx_set(raw(), &raw_key, index, &passed));
+        if constexpr (is_scalar<T>) {
+            const zx_value passed = stored<T>::value(of);
+            check_code(zx_set(raw(), &raw_key, index, &passed));
+        } else {
+            write<T>(at, index, slice<T>(&of, 1));
+        }
     }
 
-    // -- many elements, of scalars and vectors, from one on: all of them or none
+    // -- many values of an array or a vector, from one on: all of them or none
 
     template <class T> void read(const key &at, std::uint64_t first, T *row, std::size_t count) const {
         const zx_key raw_key = at.raw();
-        check_code(scalar<T>::read(raw(), &raw_key, first, detail::row_at(row, count), count));
+        check_code(stored<T>::read(raw(), &raw_key, first, row, count));
     }
-    template <class T> void write(const key &at, std::uint64_t first, slice<value_of<T>> values) {
+    template <class T> void write(const key &at, std::uint64_t first, slice<T> values) {
         const zx_key raw_key = at.raw();
-        const zx_values passed = scalar<T>::values(values.data(), values.size());
-        check_code(zx_write_elements(raw(), &raw_key, first, &passed));
+        const zx_values passed = stored<T>::values(values.data(), values.size());
+        check_code(zx_write_elements(raw(), &raw_key, detail::product(first, stored<T>::width), &passed));
     }
 
-    // -- one object, as what it is. A container that is not there is made, empty; each call of it looks its key up.
+    // -- one object, as what it is. A container that is not there is made, empty; of a segment that is const it is
+    // there, or that throws `not_found`
 
-    template <class T> zaluxhoni::array<T> array(const key &at);
-    template <class T> zaluxhoni::vector<T> vector(const key &at);
-    template <class K, class V> zaluxhoni::map<K, V> map(const key &at);
-    zaluxhoni::string string(const key &at);
-    zaluxhoni::strings strings(const key &at);
+    template <class T> [[nodiscard]] zaluxhoni::array<T> array(const key &at);
+    template <class T> [[nodiscard]] const_array<T> array(const key &at) const;
+    template <class T> [[nodiscard]] zaluxhoni::vector<T> vector(const key &at);
+    template <class T> [[nodiscard]] const_vector<T> vector(const key &at) const;
+    template <class K, class V> [[nodiscard]] zaluxhoni::map<K, V> map(const key &at);
+    template <class K, class V> [[nodiscard]] const_map<K, V> map(const key &at) const;
+    [[nodiscard]] zaluxhoni::string string(const key &at);
+    [[nodiscard]] const_string string(const key &at) const;
+    [[nodiscard]] zaluxhoni::strings strings(const key &at);
+    [[nodiscard]] const_strings strings(const key &at) const;
 
     // -- lists
 
-    std::uint64_t num_named() const { return number_by(zx_num_named); }
-    std::uint64_t num_unique() const { return number_by(zx_num_unique); }
+    [[nodiscard]] std::uint64_t num_named() const { return number_by(zx_num_named); }
+    [[nodiscard]] std::uint64_t num_unique() const { return number_by(zx_num_unique); }
     /// Objects with names, by the bytes of their names; and the unique ones, by the codes of their kinds.
-    std::vector<info> named() const {
+    [[nodiscard]] std::vector<info> named() const {
         std::vector<info> all;
         info told{};
-        while (is_inside(detail::info_by(
-            [&](zx_info *said, std::uint8_t *name, std::size_t room) {
-                return zx_named_at(raw(), all.size(), said, name, room);
-            },
-            told)))
-            all.push_back(told);
+        while (detail::named_at(raw(), all.size(), told)) all.push_back(told);
         return all;
     }
-    std::vector<info> unique() const {
+    [[nodiscard]] std::vector<info> unique() const {
         std::vector<info> all;
         info told{};
         while (is_inside(detail::info_by(
@@ -776,9 +1355,11 @@ class segment {
             all.push_back(told);
         return all;
     }
+    /// The objects whose names begin with a text.
+    [[nodiscard]] zaluxhoni::group group(std::string prefix) const;
     /// Blocks and gaps, by offset. Each is looked for from the first one on, so all of them take as long as the square
     /// of their number.
-    std::vector<zx_tile> tiles() const {
+    [[nodiscard]] std::vector<zx_tile> tiles() const {
         std::vector<zx_tile> all;
         zx_tile tile{};
         while (is_inside(zx_tile_at(raw(), all.size(), &tile))) all.push_back(tile);
@@ -787,26 +1368,40 @@ class segment {
 
     // -- the two indexes, and all of the segment
 
-    void reserve_named(std::uint64_t places) { check_code(zx_reserve_named(raw(), places)); }
-    void reserve_unique(std::uint64_t places) { check_code(zx_reserve_unique(raw(), places)); }
+    void reserve_named(std::uint64_t places) {
+        state().change([&](zx_segment *raw) { return zx_reserve_named(raw, places); });
+    }
+    void reserve_unique(std::uint64_t places) {
+        state().change([&](zx_segment *raw) { return zx_reserve_unique(raw, places); });
+    }
     void shrink_indexes() { check_code(zx_shrink_indexes(raw())); }
     void zero_free() { check_code(zx_zero_free(raw())); }
-    bool sanity() const { return truth_by(zx_sanity); }
-    bool all_deallocated() const { return truth_by(zx_all_deallocated); }
+    [[nodiscard]] bool sanity() const { return truth_by(zx_sanity); }
+    [[nodiscard]] bool all_deallocated() const { return truth_by(zx_all_deallocated); }
 
   private:
     friend class object;
+    friend class zaluxhoni::group;
 
     static segment allotted() {
         segment made;
-        made.file_ = std::make_shared<zx_file>();
+        made.state_ = std::make_shared<detail::state>();
         return made;
+    }
+
+    static std::uint32_t file_mode(zaluxhoni::mode how) {
+        switch (how) {
+        case mode::write: return ZX_OPEN_ONLY;
+        case mode::read: return ZX_OPEN_READ_ONLY;
+        case mode::copy_on_write: return ZX_OPEN_COPY_ON_WRITE;
+        }
+        throw bad_mode();
     }
 
     static segment of_file(const std::string &path, std::uint32_t how, std::uint64_t size) {
         segment made = allotted();
-        made.check_file(zx_file_open(made.file_.get(), whole(path).c_str(), how, size), path);
-        made.path_ = path;
+        made.state_->path = path;
+        made.state_->check(zx_file_open(&made.state_->file, whole(path).c_str(), how, size));
         return made;
     }
 
@@ -816,36 +1411,34 @@ class segment {
         return path;
     }
 
-    void check_file(zx_code code, const std::string &path) const {
-        if (code != ZX_DONE) throw_file_code(code, file_->error, path);
+    detail::state &state() const {
+        if (state_ == nullptr) throw closed();
+        return *state_;
     }
 
-    zx_file &file() const {
-        if (file_ == nullptr) throw closed();
-        return *file_;
+    /// A number of values that an object can have, or `bad_count`.
+    static std::uint32_t count_of(std::uint64_t count) {
+        if (count > UINT32_MAX) throw bad_count();
+        return static_cast<std::uint32_t>(count);
     }
 
-    std::shared_ptr<zx_segment> shared() const {
-        file();
-        return {file_, &file_->segment};
-    }
-
-    void grow_by_half() {
-        const std::uint64_t largest = std::uint64_t{1} << 30;
-        const std::uint64_t left = largest - size();
-        const std::uint64_t wanted = (size() / 2 + 4096) / 16 * 16;
-        grow(left < wanted && left >= 32 ? left : wanted);
-    }
-
-    /// Makes the object where there is none, and throws `wrong_kind` where it is of another kind.
-    template <class Make> void make_absent(const key &at, std::uint32_t kind, Make make) const {
-        if (at.is_handle()) {
-            if (tell(at).kind != kind) throw wrong_kind();
-            return;
-        }
+    std::optional<found> find_kind(const key &at, std::uint32_t kind) const {
         const zx_key raw_key = at.raw();
         found had{0, 0};
-        if (!is_there(zx_find(raw(), &raw_key, kind, &had.handle, &had.count))) make();
+        if (!is_there(zx_find(raw(), &raw_key, kind, &had.handle, &had.count))) return std::nullopt;
+        return had;
+    }
+    /// The handle of an object of the kind. Throws `not_found` where there is none.
+    std::uint64_t existing(const key &at, std::uint32_t kind) const {
+        const std::optional<found> had = find_kind(at, kind);
+        if (!had) throw not_found();
+        return had->handle;
+    }
+    /// The same; it is made where no object has the name, or is of the kind.
+    template <class Make> std::uint64_t existing_or(Make make, const key &at, std::uint32_t kind) const {
+        const std::optional<found> had = find_kind(at, kind);
+        if (!had && at.is_handle()) throw not_found();
+        return had ? had->handle : make().handle;
     }
 
     static bool is_inside(zx_code code) {
@@ -853,7 +1446,6 @@ class segment {
         check_code(code);
         return true;
     }
-
     std::uint64_t number_by(zx_code (*call)(zx_segment *, std::uint64_t *)) const {
         std::uint64_t number = 0;
         check_code(call(raw(), &number));
@@ -864,267 +1456,469 @@ class segment {
         check_code(call(raw(), &truth));
         return truth;
     }
-    template <class Call> static std::uint64_t handle_by(const key &at, Call call) {
+    template <class Call, class... Args> std::uint64_t made(Call call, const key &at, Args... args) {
         const zx_key raw_key = at.raw();
         std::uint64_t handle = 0;
-        check_code(call(&raw_key, &handle));
+        state().change([&](zx_segment *raw) { return call(raw, &raw_key, args..., &handle); });
         return handle;
     }
-    template <class Call> static found found_by(const key &at, Call call) {
+    template <class Call, class... Args> found found_or_made(Call call, const key &at, Args... args) {
         const zx_key raw_key = at.raw();
         found had{0, 0};
-        check_code(call(&raw_key, &had.handle, &had.count));
+        state().change([&](zx_segment *raw) { return call(raw, &raw_key, args..., &had.handle, &had.count); });
         return had;
     }
 
     // the handle itself stays where it is: it is not copied. What was asked of the segment keeps it, and finds it
     // closed behind the destructor
-    std::shared_ptr<zx_file> file_;
-    std::string path_;
+    std::shared_ptr<detail::state> state_;
+};
+
+/// The objects whose names begin with a text, by the rests of their names.
+class group {
+  public:
+    group(std::shared_ptr<detail::state> of, std::string prefix) : of_(std::move(of)), prefix_(std::move(prefix)) {
+        if (of_ == nullptr) throw closed();
+    }
+
+    [[nodiscard]] const std::string &prefix() const noexcept { return prefix_; }
+    /// The key of the object with this rest of a name, which need not be there.
+    [[nodiscard]] key operator[](std::string_view rest) const { return key(prefix_ + std::string(rest)); }
+    [[nodiscard]] bool empty() const { return named().empty(); }
+    [[nodiscard]] std::uint64_t size() const { return named().size(); }
+    /// What they say of themselves, with the rests of their names, in the order of their bytes.
+    [[nodiscard]] std::vector<info> named() const {
+        std::vector<info> all;
+        info told{};
+        for (std::uint64_t i = detail::named_from(of_->raw(), prefix_);
+             detail::named_at(of_->raw(), i, told) && told.name.compare(0, prefix_.size(), prefix_) == 0; i++) {
+            told.name.erase(0, prefix_.size());
+            all.push_back(told);
+        }
+        return all;
+    }
+
+  private:
+    std::shared_ptr<detail::state> of_;
+    std::string prefix_;
 };
 
 // ---- one object
 
-/// What the objects have in common: their segment, of which each call throws `closed` when it is freed, and their key.
+/// What the objects have in common: their segment, of which each call throws `closed` when it is freed, and the handle
+/// of the object. When the object is destroyed, calls throw `not_found`; when another one has got its handle, they are
+/// for that one, or throw `wrong_kind`.
 class object {
   public:
-    object(const segment &of, key at) : of_(of.shared()), key_(std::move(at)) {}
+    object(std::shared_ptr<detail::state> of, std::uint64_t handle) noexcept : of_(std::move(of)), handle_(handle) {}
 
-    /// Elements and places: of a map pairs, and 0.
-    measures measure() const {
-        const zx_key at = key_.raw();
-        measures told{0, 0};
-        check_code(zx_measure(of(), &at, &told.len, &told.places));
-        return told;
-    }
-    std::uint64_t size() const { return measure().len; }
-    bool empty() const { return size() == 0; }
+    [[nodiscard]] std::uint64_t handle() const noexcept { return handle_; }
 
   protected:
-    void reserve_places(std::uint64_t places) const { by_key(zx_reserve, places); }
-    void trim_places() const { by_key(zx_trim); }
-    void clear_elements() const { by_key(zx_clear); }
-    void erase_element(std::uint64_t index) const { by_key(zx_erase, index); }
-    void set_value(std::uint64_t index, const zx_value &value) const { by_key(zx_set, index, &value); }
-    zx_value value_at(std::uint64_t index) const {
-        zx_value value{};
-        by_key(zx_get, index, &value);
-        return value;
+    object(const segment &of, const key &at, std::uint32_t kind) : object(of.state_, of.existing(at, kind)) {}
+
+    detail::spot spot() const noexcept { return {of_.get(), handle_}; }
+    const std::shared_ptr<detail::state> &state() const noexcept { return of_; }
+    measures measured() const {
+        measures told{0, 0};
+        spot().ask(zx_measure, &told.len, &told.places);
+        return told;
     }
 
-    template <class T> void read_row(std::uint64_t first, T *row, std::size_t count) const {
-        by_key(scalar<T>::read, first, detail::row_at(row, count), count);
+  private:
+    std::shared_ptr<detail::state> of_;
+    std::uint64_t handle_;
+};
+
+/// What is thrown where elements are asked for by a `view` that is no longer good.
+class outdated : public std::logic_error {
+  public:
+    outdated() : std::logic_error("the segment has changed since the view was made") {}
+};
+
+/// The values of an array, a vector or a string where they stand, without a copy: as good as a pointer and a count,
+/// until the next call that changes the segment. T is const in those that are only read; others are changed by writing
+/// there. It goes wherever a `std::span` goes.
+template <class T> class view {
+  public:
+    using element_type = T;
+    using value_type = std::remove_const_t<T>;
+    using iterator = T *;
+
+    view(std::shared_ptr<detail::state> of, const zx_elements &there) : of_(std::move(of)), there_(there) {}
+
+    /// Whether the elements still stand there: no call has changed the segment since, and none has saved what was
+    /// written.
+    [[nodiscard]] bool is_current() const noexcept { return at() != nullptr; }
+    /// The first. With this, `begin`, `end` and [] it throws `outdated` where they may stand elsewhere now; what they
+    /// gave before is a pointer, which nobody looks at.
+    [[nodiscard]] T *data() const {
+        T *const first = at();
+        if (first == nullptr) throw outdated();
+        return first;
     }
-    template <class T> void write_row(std::uint64_t first, slice<T> values) const {
-        const zx_values passed = scalar<T>::values(values.data(), values.size());
-        by_key(zx_write_elements, first, &passed);
+    [[nodiscard]] std::size_t size() const noexcept { return there_.count; }
+    [[nodiscard]] bool empty() const noexcept { return size() == 0; }
+    [[nodiscard]] T *begin() const { return data(); }
+    [[nodiscard]] T *end() const { return data() + size(); }
+    /// Throws `out_of_range` behind the last one.
+    [[nodiscard]] T &operator[](std::size_t index) const {
+        if (index >= size()) throw out_of_range();
+        return data()[index];
     }
-    /// The first elements, so many, by one call.
-    template <class T> std::vector<T> row_of(std::uint64_t count) const {
-        const std::size_t many = static_cast<std::size_t>(count);
-        if constexpr (std::is_same_v<T, bool>) {
-            const std::unique_ptr<bool[]> row = std::make_unique<bool[]>(many);
-            read_row(0, row.get(), many);
-            return std::vector<bool>(row.get(), row.get() + many);
+
+  private:
+    T *at() const noexcept {
+        if constexpr (!std::is_const_v<T>) return static_cast<T *>(zx_elements_mut(of_->raw(), &there_));
+        else return zx_is_current(of_->raw(), &there_) ? static_cast<T *>(there_.at) : nullptr;
+    }
+
+    std::shared_ptr<detail::state> of_;
+    zx_elements there_;
+};
+
+namespace detail {
+
+/// What has places from 0 on, for reading. `Of` is the class that derives from it, and says its size.
+template <class Of, class Access> class const_row : public object {
+  public:
+    using value_type = typename Access::value_type;
+    using size_type = std::uint64_t;
+    using const_iterator = detail::iterator<Access, value_type>;
+
+    using object::object;
+
+    [[nodiscard]] bool empty() const { return of().size() == 0; }
+    [[nodiscard]] value_type get(std::uint64_t index) const { return Access::get(spot(), index); }
+    [[nodiscard]] value_type at(std::uint64_t index) const { return get(index); }
+    [[nodiscard]] value_type operator[](std::uint64_t index) const { return get(index); }
+    /// The first and the last. Where there is none they throw `out_of_range`.
+    [[nodiscard]] value_type front() const { return get(0); }
+    [[nodiscard]] value_type back() const { return get(of().size() - 1); }
+    [[nodiscard]] const_iterator begin() const { return {spot(), 0}; }
+    [[nodiscard]] const_iterator end() const { return {spot(), of().size()}; }
+    [[nodiscard]] const_iterator cbegin() const { return begin(); }
+    [[nodiscard]] const_iterator cend() const { return end(); }
+
+  private:
+    const Of &of() const noexcept { return static_cast<const Of &>(*this); }
+};
+
+/// The same, for changing elements too.
+template <class Reader, class Access> class row : public Reader {
+  public:
+    using reference = element<Access>;
+    using iterator = detail::iterator<Access, reference>;
+
+    using Reader::Reader;
+
+    void set(std::uint64_t index, typename Access::passed_type value) const { Access::set(this->spot(), index, value); }
+    [[nodiscard]] reference operator[](std::uint64_t index) const { return {this->spot(), index}; }
+    [[nodiscard]] reference front() const { return (*this)[0]; }
+    [[nodiscard]] reference back() const { return (*this)[this->size() - 1]; }
+    [[nodiscard]] iterator begin() const { return {this->spot(), 0}; }
+    [[nodiscard]] iterator end() const { return {this->spot(), this->size()}; }
+};
+
+/// The first values, so many, by one call.
+template <class T> std::vector<T> row_of(const spot &of, std::uint64_t count) {
+    if constexpr (std::is_same_v<T, bool>) {
+        const std::unique_ptr<bool[]> all = std::make_unique<bool[]>(count);
+        of.ask(stored<bool>::read, std::uint64_t{0}, all.get(), count);
+        return std::vector<bool>(all.get(), all.get() + count);
+    } else {
+        std::vector<T> all(count);
+        of.ask(stored<T>::read, std::uint64_t{0}, all.data(), count);
+        return all;
+    }
+}
+/// Where the elements of an object stand: those of no other kind, or `wrong_kind`.
+template <class T>
+zx_elements elements_by(zx_code (*call)(zx_segment *, const zx_key *, zx_elements *), const spot &of) {
+    static_assert(alignof(T) <= 8, "elements stand at multiples of 8 bytes");
+    zx_elements there{};
+    of.ask(call, &there);
+    if (there.kind != stored<T>::kind) throw wrong_kind();
+    there.count = whole<T>(there.count);
+    return there;
+}
+
+/// The values of an array or a vector, for reading.
+template <class Of, class T> class const_values : public const_row<Of, values<T>> {
+  public:
+    using const_row<Of, values<T>>::const_row;
+
+    /// Copies `count` values, from `first` on: all of them or none, by one call.
+    void read(std::uint64_t first, T *row, std::size_t count) const {
+        this->spot().ask(stored<T>::read, first, row, count);
+    }
+#if __cplusplus >= 202002L
+    void read(std::uint64_t first, std::span<T> row) const { read(first, row.data(), row.size()); }
+#endif
+    [[nodiscard]] std::vector<T> to_vector() const {
+        return row_of<T>(this->spot(), static_cast<const Of &>(*this).size());
+    }
+    /// Its values where they stand.
+    [[nodiscard]] zaluxhoni::view<const T> view() const {
+        return {this->state(), elements_by<T>(zx_view, this->spot())};
+    }
+    /// The same, for reading, of what can be changed too.
+    [[nodiscard]] zaluxhoni::view<const T> cview() const { return view(); }
+};
+
+template <class T> void write_row(const spot &of, std::uint64_t first, const slice<T> &values) {
+    const zx_values passed = stored<T>::values(values.data(), values.size());
+    of.ask(zx_write_elements, product(first, stored<T>::width), &passed);
+}
+
+} // namespace detail
+
+/// An array, for reading: it has as many values as it was made with.
+template <class T> class const_array : public detail::const_values<const_array<T>, T> {
+    using base = detail::const_values<const_array<T>, T>;
+
+  public:
+    using base::base;
+    const_array(const segment &of, const key &at) : base(of, at, kind_of<T>) {
+        if constexpr (!is_scalar<T>) static_cast<void>(size());
+    }
+
+    [[nodiscard]] std::uint64_t size() const {
+        std::uint64_t handle = 0;
+        std::uint32_t count = 0;
+        if (!is_there(this->spot().code_of(zx_find, kind_of<T>, &handle, &count))) throw not_found();
+        return detail::whole<T>(count);
+    }
+    [[nodiscard]] measures measure() const { return {size(), size()}; }
+};
+
+/// An array.
+template <class T> class array : public detail::row<const_array<T>, detail::values<T>> {
+  public:
+    using detail::row<const_array<T>, detail::values<T>>::row;
+
+    /// Makes values elements, from `first` on: all of them or none, by one call.
+    void write(std::uint64_t first, slice<T> values) const { detail::write_row(this->spot(), first, values); }
+    /// Its values where they stand, which may be changed there. In a segment that is open for reading it throws
+    /// `read_only`.
+    [[nodiscard]] zaluxhoni::view<T> view() const {
+        return {this->state(), detail::elements_by<T>(zx_view_mut, this->spot())};
+    }
+};
+
+/// A vector, for reading.
+template <class T> class const_vector : public detail::const_values<const_vector<T>, T> {
+    using base = detail::const_values<const_vector<T>, T>;
+
+  public:
+    using base::base;
+    const_vector(const segment &of, const key &at) : base(of, at, kind_of<std::vector<T>>) {}
+
+    /// Values, and places for values.
+    [[nodiscard]] measures measure() const {
+        const measures bytes = this->measured();
+        return {detail::whole<T>(bytes.len), bytes.places / stored<T>::width};
+    }
+    [[nodiscard]] std::uint64_t size() const { return measure().len; }
+    [[nodiscard]] std::uint64_t capacity() const { return measure().places; }
+};
+
+/// A vector.
+template <class T> class vector : public detail::row<const_vector<T>, detail::values<T>> {
+  public:
+    using detail::row<const_vector<T>, detail::values<T>>::row;
+
+    void push_back(value_of<T> value) const {
+        const T of = value;
+        if constexpr (is_scalar<T>) {
+            push(stored<T>::value(of));
         } else {
-            std::vector<T> row(many);
-            read_row(0, row.data(), many);
-            return row;
+            append_range(slice<T>(&of, 1));
         }
     }
-
-    zx_segment *of() const { return of_.get(); }
-    const key &at() const { return key_; }
-
-    template <class Call, class... Args> void by_key(Call call, Args... args) const {
-        const zx_key at = key_.raw();
-        check_code(call(of(), &at, args...));
-    }
-
-  private:
-    std::shared_ptr<zx_segment> of_;
-    key key_;
-};
-
-/// An array of scalars: it has as many as it was made with.
-template <class T> class array : public object {
-  public:
-    using value_type = T;
-    using iterator = detail::place_iterator<array, T>;
-
-    array(const segment &of, const key &at, std::uint64_t count) : object(of, at), count_(count) {}
-
-    std::uint64_t size() const { return count_; }
-    T get(std::uint64_t index) const { return scalar<T>::from(value_at(index)); }
-    void set(std::uint64_t index, T value) const { set_value(index, scalar<T>::value(value)); }
-    detail::element<array, std::uint64_t, T> operator[](std::uint64_t index) const { return {*this, index}; }
-    /// Copies `count` elements, from `first` on; or makes values elements: all of them or none, by one call.
-    void read(std::uint64_t first, T *row, std::size_t count) const { read_row(first, row, count); }
-#if __cplusplus >= 202002L
-    void read(std::uint64_t first, std::span<T> row) const { read_row(first, row.data(), row.size()); }
-#endif
-    void write(std::uint64_t first, slice<value_of<T>> values) const { write_row<T>(first, values); }
-    std::vector<T> to_vector() const { return row_of<T>(count_); }
-    iterator begin() const { return {this, 0}; }
-    iterator end() const { return {this, count_}; }
-
-  private:
-    std::uint64_t count_;
-};
-
-/// A vector of scalars.
-template <class T> class vector : public object {
-  public:
-    using value_type = T;
-    using iterator = detail::place_iterator<vector, T>;
-
-    using object::object;
-
-    std::uint64_t capacity() const { return measure().places; }
-    T get(std::uint64_t index) const { return scalar<T>::from(value_at(index)); }
-    void set(std::uint64_t index, T value) const { set_value(index, scalar<T>::value(value)); }
-    detail::element<vector, std::uint64_t, T> operator[](std::uint64_t index) const { return {*this, index}; }
-
-    void push_back(T value) const {
-        const zx_value passed = scalar<T>::value(value);
-        by_key(zx_push, &passed);
-    }
-    /// Takes the last element out, and gives it. Of an empty vector it throws `out_of_range`.
+    /// Takes the last value out, and gives it. Of an empty vector it throws `out_of_range`.
     T pop_back() const {
-        zx_value value{};
-        by_key(zx_pop, &value);
-        // one of another kind goes back into its place, which is still there, and is told of then: to look at the kind
-        // first would make each call a look-up dearer
-        if (value.kind != kind_of<T>) by_key(zx_push, &value);
-        return scalar<T>::from(value);
+        if constexpr (is_scalar<T>) {
+            zx_value value{};
+            this->spot().ask(zx_pop, &value);
+            // one of another kind goes back into its place, which is still there, and is told of then: to look at the
+            // kind first would make each call a look-up dearer
+            if (value.kind != stored<T>::kind) this->spot().ask(zx_push, &value);
+            return stored<T>::from(value);
+        } else {
+            const std::uint64_t size = this->size();
+            const T last = this->get(size - 1);
+            erase(size - 1, size);
+            return last;
+        }
     }
-    /// Puts a value before the element `index`, which may be the length.
-    void insert(std::uint64_t index, T value) const {
-        const zx_value passed = scalar<T>::value(value);
-        by_key(zx_insert, index, &passed);
+    /// Puts a value, or several, before the one of the index, which may be the size.
+    void insert(std::uint64_t index, value_of<T> value) const {
+        const T of = value;
+        if constexpr (is_scalar<T>) {
+            const zx_value passed = stored<T>::value(of);
+            this->spot().change(zx_insert, index, &passed);
+        } else {
+            insert_range(index, slice<T>(&of, 1));
+        }
     }
-    void erase(std::uint64_t index) const { erase_element(index); }
-    void assign(slice<value_of<T>> values) const {
-        const zx_values passed = scalar<T>::values(values.data(), values.size());
-        by_key(zx_assign, &passed);
+    void insert_range(std::uint64_t index, slice<T> values) const {
+        std::vector<T> all = this->to_vector();
+        if (index > all.size()) throw out_of_range();
+        all.insert(all.begin() + static_cast<std::ptrdiff_t>(index), values.begin(), values.end());
+        assign(all);
     }
-    void reserve(std::uint64_t places) const { reserve_places(places); }
-    void shrink_to_fit() const { trim_places(); }
-    void clear() const { clear_elements(); }
+    /// Puts values behind the last one, all of them or none.
+    void append_range(slice<T> values) const {
+        const measures now = this->measured();
+        const std::uint64_t needed = now.len + detail::product(values.size(), stored<T>::width);
+        if (needed > now.places) this->spot().change(zx_reserve, std::max(needed, 2 * now.places));
+        // there are places for all: where the first is taken, none is refused
+        for (const T &each : values) {
+            if constexpr (is_scalar<T>) {
+                push(stored<T>::value(each));
+            } else {
+                const std::uint8_t *const bytes = reinterpret_cast<const std::uint8_t *>(&each);
+                for (std::size_t i = 0; i < sizeof(T); i++) push(zx_u8(bytes[i]));
+            }
+        }
+    }
+    /// Takes the value of an index out; those from `first` on and before `last`.
+    void erase(std::uint64_t index) const {
+        if constexpr (is_scalar<T>) this->spot().ask(zx_erase, index);
+        else erase(index, index + 1);
+    }
+    void erase(std::uint64_t first, std::uint64_t last) const {
+        std::vector<T> all = this->to_vector();
+        if (first > last || last > all.size()) throw out_of_range();
+        all.erase(all.begin() + static_cast<std::ptrdiff_t>(first), all.begin() + static_cast<std::ptrdiff_t>(last));
+        assign(all);
+    }
+    void assign(slice<T> values) const {
+        const zx_values passed = stored<T>::values(values.data(), values.size());
+        this->spot().change(zx_assign, &passed);
+    }
+    /// Makes values elements, from `first` on: all of them or none, by one call.
+    void write(std::uint64_t first, slice<T> values) const { detail::write_row(this->spot(), first, values); }
+    /// Its values where they stand, which may be changed there. In a segment that is open for reading it throws
+    /// `read_only`.
+    [[nodiscard]] zaluxhoni::view<T> view() const {
+        return {this->state(), detail::elements_by<T>(zx_view_mut, this->spot())};
+    }
+    void reserve(std::uint64_t places) const {
+        this->spot().change(zx_reserve, detail::product(places, stored<T>::width));
+    }
+    /// Makes it so long: what is cut off is gone, and what is new has the value.
+    void resize(std::uint64_t size, value_of<T> value = T{}) const {
+        const std::uint64_t now = this->size();
+        if (size < now) erase(size, now);
+        else append_range(std::vector<T>(size - now, value));
+    }
+    void shrink_to_fit() const { this->spot().ask(zx_trim); }
+    void clear() const { this->spot().ask(zx_clear); }
 
-    /// Copies `count` elements, from `first` on; or makes values elements: all of them or none, by one call.
-    void read(std::uint64_t first, T *row, std::size_t count) const { read_row(first, row, count); }
-#if __cplusplus >= 202002L
-    void read(std::uint64_t first, std::span<T> row) const { read_row(first, row.data(), row.size()); }
-#endif
-    void write(std::uint64_t first, slice<value_of<T>> values) const { write_row<T>(first, values); }
-    std::vector<T> to_vector() const { return row_of<T>(size()); }
-    iterator begin() const { return {this, 0}; }
-    iterator end() const { return {this, size()}; }
+  private:
+    void push(const zx_value &value) const { this->spot().change(zx_push, &value); }
 };
 
-/// A string: bytes, which are no text of any kind for the library.
-class string : public object {
+/// A string, for reading: bytes, which are no text of any kind for the library.
+class const_string : public detail::const_row<const_string, detail::values<std::uint8_t>>, public detail::read_as_text {
   public:
-    using value_type = std::uint8_t;
-    using iterator = detail::place_iterator<string, std::uint8_t>;
+    using const_row::const_row;
+    const_string(const segment &of, const key &at) : const_row(of, at, ZX_STRING) {}
 
-    using object::object;
-
-    std::uint64_t capacity() const { return measure().places; }
-    std::string str() const {
-        const zx_key raw_key = at().raw();
+    [[nodiscard]] measures measure() const { return measured(); }
+    [[nodiscard]] std::uint64_t size() const { return measure().len; }
+    [[nodiscard]] std::uint64_t capacity() const { return measure().places; }
+    [[nodiscard]] std::string str() const {
         return detail::text_by([&](std::uint8_t *text, std::size_t room, std::uint64_t *len) {
-            return zx_read_string(of(), &raw_key, text, room, len);
+            return spot().code_of(zx_read_string, text, room, len);
         });
     }
     operator std::string() const { return str(); }
-    void assign(std::string_view text) const {
-        const zx_key raw_key = at().raw();
-        check_code(zx_assign_string(of(), &raw_key, bytes_of(text), text.size()));
+    /// Its bytes where they stand, until the next call that changes the segment.
+    [[nodiscard]] std::string_view view() const {
+        const zx_elements there = detail::elements_by<std::uint8_t>(zx_view, spot());
+        return {static_cast<const char *>(there.at), there.count};
     }
-    void append(std::string_view text) const {
-        const zx_key raw_key = at().raw();
-        check_code(zx_append(of(), &raw_key, bytes_of(text), text.size()));
-    }
+};
+
+/// A string.
+class string : public detail::row<const_string, detail::values<std::uint8_t>> {
+  public:
+    using row::row;
+
+    void assign(std::string_view text) const { spot().change(zx_assign_string, bytes_of(text), text.size()); }
+    void append(std::string_view text) const { spot().change(zx_append, bytes_of(text), text.size()); }
     const string &operator+=(std::string_view text) const {
         append(text);
         return *this;
     }
+    void reserve(std::uint64_t places) const { spot().change(zx_reserve, places); }
+    void shrink_to_fit() const { spot().ask(zx_trim); }
+    void clear() const { spot().ask(zx_clear); }
+};
 
-    std::uint8_t get(std::uint64_t index) const { return scalar<std::uint8_t>::from(value_at(index)); }
-    void set(std::uint64_t index, std::uint8_t byte) const { set_value(index, scalar<std::uint8_t>::value(byte)); }
-    detail::element<string, std::uint64_t, std::uint8_t> operator[](std::uint64_t index) const {
-        return {*this, index};
-    }
+/// A vector of strings, for reading.
+class const_strings : public detail::const_row<const_strings, detail::lines> {
+  public:
+    using const_row::const_row;
+    const_strings(const segment &of, const key &at) : const_row(of, at, ZX_STRINGS) {}
 
-    void reserve(std::uint64_t places) const { reserve_places(places); }
-    void shrink_to_fit() const { trim_places(); }
-    void clear() const { clear_elements(); }
-    iterator begin() const { return {this, 0}; }
-    iterator end() const { return {this, size()}; }
+    [[nodiscard]] measures measure() const { return measured(); }
+    [[nodiscard]] std::uint64_t size() const { return measure().len; }
+    [[nodiscard]] std::uint64_t capacity() const { return measure().places; }
+    [[nodiscard]] std::vector<std::string> to_vector() const { return std::vector<std::string>(begin(), end()); }
 };
 
 /// A vector of strings.
-class strings : public object {
+class strings : public detail::row<const_strings, detail::lines> {
   public:
-    using value_type = std::string;
-    using iterator = detail::place_iterator<strings, std::string>;
+    using row::row;
 
-    using object::object;
-
-    std::uint64_t capacity() const { return measure().places; }
-    std::string get(std::uint64_t index) const {
-        const zx_key raw_key = at().raw();
-        return detail::text_by([&](std::uint8_t *text, std::size_t room, std::uint64_t *len) {
-            return zx_read_text(of(), &raw_key, index, text, room, len);
-        });
-    }
-    void set(std::uint64_t index, std::string_view text) const {
-        const zx_key raw_key = at().raw();
-        check_code(zx_set_text(of(), &raw_key, index, bytes_of(text), text.size()));
-    }
-    detail::element<strings, std::uint64_t, std::string> operator[](std::uint64_t index) const {
-        return {*this, index};
-    }
-
-    void push_back(std::string_view text) const {
-        const zx_key raw_key = at().raw();
-        check_code(zx_push_text(of(), &raw_key, bytes_of(text), text.size()));
-    }
+    void push_back(std::string_view text) const { spot().change(zx_push_text, bytes_of(text), text.size()); }
     /// Takes the last string out, and gives it. Of an empty vector it throws `out_of_range`.
     std::string pop_back() const {
-        const std::uint64_t len = size();
-        if (len == 0) throw out_of_range();
-        std::string last = get(len - 1);
-        by_key(zx_pop_text);
+        std::string last = get(size() - 1);
+        spot().ask(zx_pop_text);
         return last;
     }
+    /// Puts a text, or several, before the one of the index, which may be the size.
     void insert(std::uint64_t index, std::string_view text) const {
-        const zx_key raw_key = at().raw();
-        check_code(zx_insert_text(of(), &raw_key, index, bytes_of(text), text.size()));
+        spot().change(zx_insert_text, index, bytes_of(text), text.size());
     }
-    void erase(std::uint64_t index) const { erase_element(index); }
-    void assign(slice<std::string_view> texts) const {
-        const zx_key raw_key = at().raw();
-        const std::vector<zx_text> passed = texts_of(texts);
-        check_code(zx_assign_texts(of(), &raw_key, passed.data(), passed.size()));
+    void insert_range(std::uint64_t index, const texts &list) const {
+        std::vector<std::string> all = to_vector();
+        if (index > all.size()) throw out_of_range();
+        const std::vector<std::string> added = list.copies();
+        all.insert(all.begin() + static_cast<std::ptrdiff_t>(index), added.begin(), added.end());
+        assign(all);
     }
-    void reserve(std::uint64_t places) const { reserve_places(places); }
-    void shrink_to_fit() const { trim_places(); }
-    void clear() const { clear_elements(); }
-
-    std::vector<std::string> to_vector() const { return std::vector<std::string>(begin(), end()); }
-    iterator begin() const { return {this, 0}; }
-    iterator end() const { return {this, size()}; }
+    void append_range(const texts &list) const { insert_range(size(), list); }
+    /// Takes the text of an index out; those from `first` on and before `last`.
+    void erase(std::uint64_t index) const { spot().ask(zx_erase, index); }
+    void erase(std::uint64_t first, std::uint64_t last) const {
+        std::vector<std::string> all = to_vector();
+        if (first > last || last > all.size()) throw out_of_range();
+        all.erase(all.begin() + static_cast<std::ptrdiff_t>(first), all.begin() + static_cast<std::ptrdiff_t>(last));
+        assign(all);
+    }
+    void assign(const texts &list) const { spot().change(zx_assign_texts, list.data(), list.size()); }
+    void reserve(std::uint64_t places) const { spot().change(zx_reserve, places); }
+    void shrink_to_fit() const { spot().ask(zx_trim); }
+    void clear() const { spot().ask(zx_clear); }
 };
 
-/// A map from scalars to scalars, in the order of its keys.
-template <class K, class V> class map : public object {
+/// A map from scalars to scalars, in the order of its keys, for reading.
+template <class K, class V> class const_map : public object {
+    static_assert(is_scalar<K> && is_scalar<V>,
+                  "keys and values of maps are bool, or integers of u8, i32, i64 and u64");
+
   public:
     using key_type = K;
     using mapped_type = V;
     using value_type = std::pair<K, V>;
+    using size_type = std::uint64_t;
 
     /// Goes from each pair to the one with the least key above it, also where the map has changed meanwhile.
     class iterator {
@@ -1135,11 +1929,12 @@ template <class K, class V> class map : public object {
         using pointer = const value_type *;
         using reference = const value_type &;
 
-        iterator(const map *of, std::optional<value_type> pair) : of_(of), pair_(std::move(pair)) {}
+        iterator() = default;
+        iterator(detail::spot of, std::optional<value_type> pair) : of_(of), pair_(pair) {}
         reference operator*() const { return *pair_; }
         pointer operator->() const { return &*pair_; }
         iterator &operator++() {
-            pair_ = of_->next(pair_->first);
+            pair_ = next_of(of_, pair_->first);
             return *this;
         }
         iterator operator++(int) {
@@ -1147,98 +1942,211 @@ template <class K, class V> class map : public object {
             ++*this;
             return before;
         }
-        bool operator==(const iterator &other) const { return pair_ == other.pair_; }
-        bool operator!=(const iterator &other) const { return pair_ != other.pair_; }
+        friend bool operator==(const iterator &a, const iterator &b) { return a.pair_ == b.pair_; }
+        friend bool operator!=(const iterator &a, const iterator &b) { return !(a == b); }
 
       private:
-        const map *of_;
+        detail::spot of_;
         std::optional<value_type> pair_;
     };
+    using const_iterator = iterator;
 
     using object::object;
+    const_map(const segment &of, const key &at) : object(of, at, kind_of<std::map<K, V>>) {}
 
-    /// The value at a key; with `at` and [] it is there, or they throw `absent`.
-    std::optional<V> find(K wanted) const {
-        const zx_key raw_key = this->at_key().raw();
-        const zx_value passed = scalar<K>::value(wanted);
-        zx_value value{};
-        if (!is_there(zx_map_get(of(), &raw_key, &passed, &value))) return std::nullopt;
-        return scalar<V>::from(value);
-    }
-    V get(K wanted) const {
-        const std::optional<V> value = find(wanted);
-        if (!value) throw absent();
-        return *value;
-    }
-    V at(K wanted) const { return get(wanted); }
-    bool contains(K wanted) const { return find(wanted).has_value(); }
+    /// How many pairs; there are no places for more.
+    [[nodiscard]] measures measure() const { return measured(); }
+    [[nodiscard]] std::uint64_t size() const { return measure().len; }
+    [[nodiscard]] bool empty() const { return size() == 0; }
 
-    /// Puts a value at a key, and says whether the key is new.
-    bool put(K at, V value) const {
-        const zx_value passed_key = scalar<K>::value(at);
-        const zx_value passed = scalar<V>::value(value);
-        bool is_new = false;
-        by_key(zx_map_put, &passed_key, &passed, &is_new);
-        return is_new;
-    }
-    void set(K at, V value) const { put(at, value); }
-    detail::element<map, K, V> operator[](K at) const { return {*this, at}; }
-    /// Takes a key out, and says whether it was there.
-    bool erase(K at) const {
-        const zx_value passed = scalar<K>::value(at);
-        bool was_there = false;
-        by_key(zx_map_erase, &passed, &was_there);
-        return was_there;
-    }
+    /// The value at a key; with `get`, `at` and [] it is there, or they throw `absent`.
+    [[nodiscard]] std::optional<V> find(number<K> wanted) const { return detail::pairs<K, V>::find(spot(), wanted); }
+    [[nodiscard]] V get(number<K> wanted) const { return detail::pairs<K, V>::get(spot(), wanted); }
+    [[nodiscard]] V at(number<K> wanted) const { return get(wanted); }
+    [[nodiscard]] V operator[](number<K> wanted) const { return get(wanted); }
+    [[nodiscard]] bool contains(number<K> wanted) const { return find(wanted).has_value(); }
 
-    /// The pair with the least key, and that with the least key above another.
-    std::optional<value_type> first() const {
-        const zx_key raw_key = this->at_key().raw();
+    /// The pair with the least key; with the least key above another.
+    [[nodiscard]] std::optional<value_type> first() const {
         zx_value at{}, value{};
-        if (!is_there(zx_map_first(of(), &raw_key, &at, &value))) return std::nullopt;
-        return value_type(scalar<K>::from(at), scalar<V>::from(value));
+        if (!is_there(spot().code_of(zx_map_first, &at, &value))) return std::nullopt;
+        return value_type(stored<K>::from(at), stored<V>::from(value));
     }
-    std::optional<value_type> next(K after) const {
-        const zx_key raw_key = this->at_key().raw();
-        const zx_value passed = scalar<K>::value(after);
-        zx_value at{}, value{};
-        if (!is_there(zx_map_next(of(), &raw_key, &passed, &at, &value))) return std::nullopt;
-        return value_type(scalar<K>::from(at), scalar<V>::from(value));
+    [[nodiscard]] std::optional<value_type> next(number<K> after) const { return next_of(spot(), after); }
+    /// The pair with the greatest key; with the greatest key below another. Each looks up some 64 keys at most.
+    [[nodiscard]] std::optional<value_type> last() const { return greatest(std::numeric_limits<K>::max()); }
+    [[nodiscard]] std::optional<value_type> previous(number<K> before) const {
+        if (before == std::numeric_limits<K>::min()) return std::nullopt;
+        return greatest(static_cast<K>(before - 1));
     }
-    std::map<K, V> to_map() const { return std::map<K, V>(begin(), end()); }
-    iterator begin() const { return {this, first()}; }
-    iterator end() const { return {this, std::nullopt}; }
+    /// At the first pair whose key is not below another; whose key is above it.
+    [[nodiscard]] iterator lower_bound(number<K> from) const {
+        const std::optional<V> value = find(from);
+        return {spot(), value ? value_type(from, *value) : next(from)};
+    }
+    [[nodiscard]] iterator upper_bound(number<K> from) const { return {spot(), next(from)}; }
+
+    [[nodiscard]] std::map<K, V> to_map() const { return std::map<K, V>(begin(), end()); }
+    [[nodiscard]] std::vector<value_type> to_vector() const { return std::vector<value_type>(begin(), end()); }
+    [[nodiscard]] iterator begin() const { return {spot(), first()}; }
+    [[nodiscard]] iterator end() const { return {spot(), std::nullopt}; }
 
   private:
-    const key &at_key() const { return object::at(); }
+    static std::optional<value_type> next_of(const detail::spot &of, K after) {
+        const zx_value passed = stored<K>::value(after);
+        zx_value at{}, value{};
+        if (!is_there(of.code_of(zx_map_next, &passed, &at, &value))) return std::nullopt;
+        return value_type(stored<K>::from(at), stored<V>::from(value));
+    }
+    /// The pair with the greatest key that is not above `high`.
+    std::optional<value_type> greatest(K high) const {
+        std::optional<value_type> pair = first();
+        if (!pair || pair->first > high) return std::nullopt;
+        // the key that is wanted is not below that of the pair, and not above `high`
+        while (pair->first < high) {
+            const std::uint64_t low = static_cast<std::uint64_t>(pair->first);
+            const K middle = static_cast<K>(low + (static_cast<std::uint64_t>(high) - low) / 2);
+            const std::optional<value_type> above = next(middle);
+            if (above && above->first <= high) pair = above;
+            else high = middle;
+        }
+        return pair;
+    }
 };
 
-template <class T> array<T> segment::array(const key &at) {
-    const info told = tell(at);
-    if (told.kind != kind_of<T>) throw wrong_kind();
-    return zaluxhoni::array<T>(*this, at, told.count);
+/// A map.
+template <class K, class V> class map : public const_map<K, V> {
+  public:
+    using const_map<K, V>::const_map;
+
+    /// Puts a value at a key, and says whether the key is new.
+    bool put(number<K> at, number<V> value) const { return detail::pairs<K, V>::put(this->spot(), at, value); }
+    void set(number<K> at, number<V> value) const { put(at, value); }
+    /// Puts each pair of a range, as of a `std::map`, one after another.
+    template <class R> void put_range(const R &range) const {
+        for (const auto &[at, value] : range) put(at, value);
+    }
+    void put_range(std::initializer_list<std::pair<K, V>> list) const { put_range<>(list); }
+    /// An element that is read, or put. Reading makes no pair; `+=`, `++` and their like begin with 0 where there is
+    /// none.
+    [[nodiscard]] detail::element<detail::pairs<K, V>> operator[](number<K> at) const { return {this->spot(), at}; }
+    /// Takes a key out, and says whether it was there.
+    bool erase(number<K> at) const {
+        const zx_value passed = stored<K>::value(at);
+        bool was_there = false;
+        this->spot().ask(zx_map_erase, &passed, &was_there);
+        return was_there;
+    }
+    /// Takes all keys out, one after another.
+    void clear() const {
+        while (const auto pair = this->first()) erase(pair->first);
+    }
+};
+
+// ---- comparing all that two have
+
+namespace detail {
+
+template <class T> std::true_type is_row_of(const const_array<T> &);
+template <class T> std::true_type is_row_of(const const_vector<T> &);
+std::true_type is_row_of(const const_strings &);
+template <class K, class V> std::true_type is_row_of(const const_map<K, V> &);
+std::false_type is_row_of(...);
+
+template <class T> inline constexpr bool is_read = decltype(is_row_of(std::declval<const T &>()))::value;
+
+/// What is there, read by one call where it can be.
+template <class T> decltype(auto) all_of(const T &of) {
+    if constexpr (is_read<T>) return of.to_vector();
+    else return (of);
 }
+
+} // namespace detail
+
+/// Whether two have equal elements in the same order: arrays, vectors and maps of a segment, and any other range.
+template <class A, class B, std::enable_if_t<detail::is_read<A> || detail::is_read<B>, int> = 0>
+auto operator==(const A &a, const B &b) -> decltype(std::begin(a) == std::end(a) && std::begin(b) == std::end(b)) {
+    const auto &left = detail::all_of(a);
+    const auto &right = detail::all_of(b);
+    return std::equal(
+        std::begin(left), std::end(left), std::begin(right), std::end(right), [](const auto &x, const auto &y) {
+            using value = std::conditional_t<detail::is_read<A>, A, B>;
+            return static_cast<typename value::value_type>(x) == static_cast<typename value::value_type>(y);
+        });
+}
+template <class A, class B, std::enable_if_t<detail::is_read<A> || detail::is_read<B>, int> = 0>
+auto operator!=(const A &a, const B &b) -> decltype(std::begin(a) == std::end(a) && std::begin(b) == std::end(b)) {
+    return !(a == b);
+}
+
+// ---- what a segment gives
+
+template <class T> array<T> segment::array(const key &at) { return zaluxhoni::array<T>(*this, at); }
+template <class T> const_array<T> segment::array(const key &at) const { return const_array<T>(*this, at); }
 
 template <class T> vector<T> segment::vector(const key &at) {
-    make_absent(at, kind_of<std::vector<T>>, [&] { find_or_construct_vector<T>(at); });
-    return zaluxhoni::vector<T>(*this, at);
+    return {state_, existing_or([&] { return find_or_construct_vector<T>(at); }, at, kind_of<std::vector<T>>)};
 }
+template <class T> const_vector<T> segment::vector(const key &at) const { return const_vector<T>(*this, at); }
 
 template <class K, class V> map<K, V> segment::map(const key &at) {
-    make_absent(at, kind_of<std::map<K, V>>, [&] { find_or_construct_map<K, V>(at); });
-    return zaluxhoni::map<K, V>(*this, at);
+    return {state_, existing_or([&] { return find_or_construct_map<K, V>(at); }, at, kind_of<std::map<K, V>>)};
 }
+template <class K, class V> const_map<K, V> segment::map(const key &at) const { return const_map<K, V>(*this, at); }
 
 inline string segment::string(const key &at) {
-    make_absent(at, kind_of<std::string>, [&] { find_or_construct_string(at, {}); });
-    return zaluxhoni::string(*this, at);
+    return {state_, existing_or([&] { return find_or_construct_string(at, {}); }, at, ZX_STRING)};
 }
+inline const_string segment::string(const key &at) const { return const_string(*this, at); }
 
 inline strings segment::strings(const key &at) {
-    make_absent(at, kind_of<std::vector<std::string>>, [&] { find_or_construct_strings(at); });
-    return zaluxhoni::strings(*this, at);
+    return {state_, existing_or([&] { return find_or_construct_strings(at); }, at, ZX_STRINGS)};
 }
+inline const_strings segment::strings(const key &at) const { return const_strings(*this, at); }
+
+inline zaluxhoni::group segment::group(std::string prefix) const { return zaluxhoni::group(state_, std::move(prefix)); }
 
 } // namespace zaluxhoni
+
+// ---- what the standard library asks for
+
+template <> struct std::hash<zaluxhoni::key> {
+    std::size_t operator()(const zaluxhoni::key &of) const noexcept {
+        const std::size_t numbers = std::hash<std::uint64_t>()(of.handle_ * 31 + of.kind_ * 5 + of.how_);
+        return numbers * 31 + std::hash<std::string>()(of.name_);
+    }
+};
+template <> struct std::hash<zaluxhoni::const_string> {
+    std::size_t operator()(const zaluxhoni::const_string &of) const { return std::hash<std::string>()(of.str()); }
+};
+template <> struct std::hash<zaluxhoni::string> : std::hash<zaluxhoni::const_string> {};
+
+#ifdef __cpp_lib_format
+/// A text as a text, and an element as its value.
+template <class T>
+    requires zaluxhoni::detail::is_text_read<T>
+struct std::formatter<T, char> : std::formatter<std::string_view, char> {
+    template <class Context> auto format(const T &of, Context &context) const {
+        const std::string text = of.str();
+        return std::formatter<std::string_view, char>::format(text, context);
+    }
+};
+template <class Access>
+    requires(!zaluxhoni::detail::is_text_read<zaluxhoni::detail::element<Access>>)
+struct std::formatter<zaluxhoni::detail::element<Access>, char> : std::formatter<typename Access::value_type, char> {
+    template <class Context> auto format(const zaluxhoni::detail::element<Access> &of, Context &context) const {
+        return std::formatter<typename Access::value_type, char>::format(of.value(), context);
+    }
+};
+#endif
+
+#if __cplusplus >= 202002L
+// iterators lead to the segment, and outlive what gave them
+template <class T> inline constexpr bool std::ranges::enable_borrowed_range<zaluxhoni::view<T>> = true;
+template <class T> inline constexpr bool std::ranges::enable_borrowed_range<zaluxhoni::const_array<T>> = true;
+template <class T> inline constexpr bool std::ranges::enable_borrowed_range<zaluxhoni::array<T>> = true;
+template <class T> inline constexpr bool std::ranges::enable_borrowed_range<zaluxhoni::const_vector<T>> = true;
+template <class T> inline constexpr bool std::ranges::enable_borrowed_range<zaluxhoni::vector<T>> = true;
+#endif
 
 #endif

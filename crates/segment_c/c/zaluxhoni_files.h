@@ -45,7 +45,14 @@ enum {
     ZX_OPEN_ONLY = 17,         /* it must exist */
     ZX_OPEN_OR_CREATE = 18,    /* it is created if it does not exist */
     ZX_OPEN_READ_ONLY = 19,    /* it must exist, and is only read */
-    ZX_OPEN_COPY_ON_WRITE = 20 /* it must exist; changes are private, and saved nowhere */
+    ZX_OPEN_COPY_ON_WRITE = 20, /* it must exist; changes are private, and saved nowhere */
+
+    /* Added to a mode: the file is mapped, and the segment lies in it. Opening copies nothing. In the modes that
+       save, a change is in the file at once, and there is no old image: a process that is killed leaves what it had
+       changed until then, and a power failure may leave bytes that are no image. While one process maps a file for
+       writing, no other opens it; while some map it read only or copy on write, none opens it for writing. Whoever
+       writes to the file without asking for the lock breaks the segment of this process: map only files of your own. */
+    ZX_MAPPED = 256
 };
 
 struct zx_held_file;
@@ -56,7 +63,12 @@ typedef struct {
     struct zx_held_file *held; /* the file that is open for writing, or null */
 } zx_file;
 
-#define ZX_CLOSED_FILE { ZX_CLOSED_HANDLE, 0, 0 }
+/* None, as with ZX_CLOSED_HANDLE. */
+#ifdef __cplusplus
+#define ZX_CLOSED_FILE (zx_file{})
+#else
+#define ZX_CLOSED_FILE ((zx_file){ { 0, 0, false, false }, 0, 0 })
+#endif
 
 /* Opens a segment's file, or creates one with an empty segment of `size` bytes, which stands under the name at once.
    Only this call looks the path up: it opens what a link leads to, and that stays the file if the process changes its
@@ -65,10 +77,11 @@ typedef struct {
    ZX_NO_MEMORY; ZX_TRUNCATED to ZX_ORPHAN_BLOCK. */
 zx_code zx_file_open(zx_file *file, const char *path, uint32_t mode, uint64_t size);
 
-/* Saves the segment in its file, unless that has just these bytes. The new file gets the rights of the old one, and its
-   owner and group if the process may give them; other names of the old one (hard links) keep the old image.
-   ZX_CLOSED, ZX_READ_ONLY (opened read only or copy on write), ZX_FILE_NONE, ZX_NO_MEMORY, ZX_FILE_FORKED,
-   ZX_FILE_REPLACED, ZX_FILE_FAULT; and ZX_FILE_UNSYNCED, after which it is saved. */
+/* Saves the segment in its file, unless that has just these bytes; where no call and no view can have changed them,
+   none is looked at. Of a mapped file it is a zx_file_flush. The new file gets the rights of the old one, and its owner
+   and group if the process may give them; other names of the old one (hard links) keep the old image. ZX_CLOSED,
+   ZX_READ_ONLY (opened read only or copy on write), ZX_FILE_NONE, ZX_NO_MEMORY, ZX_FILE_FORKED, ZX_FILE_REPLACED,
+   ZX_FILE_FAULT; and ZX_FILE_UNSYNCED, after which it is saved. */
 zx_code zx_file_save(zx_file *file);
 
 /* Puts the segment's image into the file of another path, and closes that file: with ZX_CREATE_ONLY a new one, with
@@ -82,11 +95,28 @@ zx_code zx_file_save_as(zx_file *file, const char *path, uint32_t mode);
    ZX_FILE_UNSYNCED it is saved and closed, after any other code but 0 it is still open. */
 zx_code zx_file_close(zx_file *file);
 
-/* Closes without saving. Removes a file that zx_file_open created and that was never saved. */
+/* Closes without saving. Removes a file that zx_file_open created and that was never saved. A mapped file stays, with
+   all changes. */
 void zx_file_discard(zx_file *file);
+
+/* Makes the segment longer or shorter, as zx_grow and zx_shrink do, and with it a file that is mapped. With
+   ZX_NO_MEMORY the segment of a mapped file may be closed; its file is whole. Also ZX_FILE_FAULT; and ZX_SHORT_REGION
+   if it is mapped copy on write. */
+zx_code zx_file_grow(zx_file *file, uint64_t extra);
+zx_code zx_file_shrink(zx_file *file);
+
+/* As zx_rollback, also where the region became too short meanwhile; a mapped file is as long as before.
+   ZX_NO_MEMORY as above, and ZX_FILE_FAULT. */
+zx_code zx_file_rollback(zx_file *file, zx_segment *before);
+
+/* Waits until the changes of a mapped file are on the disk. Of another file it is a zx_file_save. */
+zx_code zx_file_flush(zx_file *file);
 
 /* The words for a code of this header or of zaluxhoni.h, as zx_words gives them. */
 void zx_file_words(zx_code code, zx_text *words);
+
+/* The same, with a byte 0 behind them: as with strerror, until this thread's next call of it. */
+const char *zx_message(zx_code code);
 
 #ifdef __cplusplus
 }

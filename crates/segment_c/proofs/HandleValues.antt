@@ -1,4 +1,4 @@
--- The machine values of a `Handle`. Assumes `Logic`.
+-- The machine values of a `Holder`. Assumes `Logic`.
 use Rattle.std.proofs.Common.{◌≡◌, ℕ, List, [], ◌∷◌, ◌++◌, refl, subst, lit<}
 use lib.Dec.{T}
 use mathlib.Core.Bool.{true, ◌&&◌}
@@ -33,7 +33,7 @@ use Rattle.std.proofs.alloc.Global.TheLaws as heap_laws
 use Rattle.std.specs.contracts.impls.GlobalAllocator.TheImpl.{ghosts}
 use Rattle.boxed.proofs.Values.{both}
 use Rattle.segment_c.specs.Held.{held}
-use Rattle.segment_c.specs.contracts.handle.Handle as handle
+use Rattle.segment_c.specs.contracts.handle.Holder as handle
 use Rattle.segment_manager.specs.contracts.Segment.{the_row as R}
 
 abbrev pub Z : RattleType

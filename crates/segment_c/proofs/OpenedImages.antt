@@ -21,7 +21,7 @@ said_front : (image : List ℕ) → 24 ≤ length image → IsTrue (has_front cu
 said_front image l f = ap (λ (e : Bool). if e then size_word image else 0) (and_from (nat_le 24 (length image)) (has_front current image) (le-leb 24 (length image) l) f)
 
 -- and one that a segment has
-legal_most : (n : ℕ) → IsTrue (is_legal_size n) → n ≤ 1073741824
+pub legal_most : (n : ℕ) → IsTrue (is_legal_size n) → n ≤ 1073741824
 legal_most n l = grind arith
 
 cut_by : (c : Bool) (n k : ℕ) → k < (if c then n else 0) → (c ≡ true) × (k < n)

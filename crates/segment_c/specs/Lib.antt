@@ -5,9 +5,13 @@ pub mod Destroying
 pub mod Growing
 pub mod Held
 pub mod Images
+pub mod Lending
 pub mod Lists
+pub mod Marked
 pub mod Opening
 pub mod Passed
 pub mod Reads
 pub mod Resizing
+pub mod Transactions
+pub mod Views
 pub mod Words

@@ -35,8 +35,9 @@ pub fn enter<'a>(
     h: &mut Handle,
     key: &ObjectKey<'a>,
 ) -> Result<(Key<'a>, Box<Segment>), u32>
-    ensures { MatchResult result (λ it. (key_wrong key.now ≡ 0) × (key_seen it.0 ≡ key_of key.now) × (key_seen it.0 ≢ NoKey) × (h.old.value ≡ Some it.1.value) × (h.new.value ≡ None))
-        (λ code. IsRefused (key_wrong key.now) code h.old.value h.new.value) }
+    ensures entered { MatchResult result (λ it. (key_wrong key.now ≡ 0) × (key_seen it.0 ≡ key_of key.now) × (key_seen it.0 ≢ NoKey) × (h.old.segment.value ≡ Some it.1.value) × (h.new.segment.value ≡ None))
+        (λ code. IsRefused (key_wrong key.now) code h.old.segment.value h.new.segment.value) }
+    ensures marks { h.new.marks ≡ h.old.marks }
 {
     let which = key.key()?;
     Ok((which, take(alloc, h)?))
@@ -49,8 +50,9 @@ pub fn enter_with<'a>(
     key: &ObjectKey<'a>,
     value: &Value,
 ) -> Result<(Key<'a>, ScalarValue, Box<Segment>), u32>
-    ensures { MatchResult result (λ it. (or_else (key_wrong key.now) (value_wrong value.now) ≡ 0) × (key_seen it.0 ≡ key_of key.now) × (literal_in value.now ≡ literal_seen it.1) × (h.old.value ≡ Some it.2.value) × (h.new.value ≡ None))
-        (λ code. IsRefused (or_else (key_wrong key.now) (value_wrong value.now)) code h.old.value h.new.value) }
+    ensures entered { MatchResult result (λ it. (or_else (key_wrong key.now) (value_wrong value.now) ≡ 0) × (key_seen it.0 ≡ key_of key.now) × (literal_in value.now ≡ literal_seen it.1) × (h.old.segment.value ≡ Some it.2.value) × (h.new.segment.value ≡ None))
+        (λ code. IsRefused (or_else (key_wrong key.now) (value_wrong value.now)) code h.old.segment.value h.new.segment.value) }
+    ensures marks { h.new.marks ≡ h.old.marks }
 {
     let which = key.key()?;
     let scalar = value.scalar()?;
@@ -65,8 +67,9 @@ pub fn enter_pair<'a>(
     at: &Value,
     value: &Value,
 ) -> Result<(Key<'a>, ScalarValue, ScalarValue, Box<Segment>), u32>
-    ensures { MatchResult result (λ it. (or_else (key_wrong key.now) (or_else (value_wrong at.now) (value_wrong value.now)) ≡ 0) × (key_seen it.0 ≡ key_of key.now) × (literal_in at.now ≡ literal_seen it.1) × (literal_in value.now ≡ literal_seen it.2) × (h.old.value ≡ Some it.3.value) × (h.new.value ≡ None))
-        (λ code. IsRefused (or_else (key_wrong key.now) (or_else (value_wrong at.now) (value_wrong value.now))) code h.old.value h.new.value) }
+    ensures entered { MatchResult result (λ it. (or_else (key_wrong key.now) (or_else (value_wrong at.now) (value_wrong value.now)) ≡ 0) × (key_seen it.0 ≡ key_of key.now) × (literal_in at.now ≡ literal_seen it.1) × (literal_in value.now ≡ literal_seen it.2) × (h.old.segment.value ≡ Some it.3.value) × (h.new.segment.value ≡ None))
+        (λ code. IsRefused (or_else (key_wrong key.now) (or_else (value_wrong at.now) (value_wrong value.now))) code h.old.segment.value h.new.segment.value) }
+    ensures marks { h.new.marks ≡ h.old.marks }
 {
     let which = key.key()?;
     let scalars = (at.scalar()?, value.scalar()?);
@@ -80,8 +83,9 @@ pub fn enter_row<'a>(
     key: &ObjectKey<'a>,
     values: &Values<'_>,
 ) -> Result<(Key<'a>, ScalarKind, Box<Segment>), u32>
-    ensures { MatchResult result (λ it. (or_else (key_wrong key.now) (row_wrong values.now) ≡ 0) × (key_seen it.0 ≡ key_of key.now) × (it.1 ≡ scalar_kind_in values.now.kind) × (h.old.value ≡ Some it.2.value) × (h.new.value ≡ None))
-        (λ code. IsRefused (or_else (key_wrong key.now) (row_wrong values.now)) code h.old.value h.new.value) }
+    ensures entered { MatchResult result (λ it. (or_else (key_wrong key.now) (row_wrong values.now) ≡ 0) × (key_seen it.0 ≡ key_of key.now) × (it.1 ≡ scalar_kind_in values.now.kind) × (h.old.segment.value ≡ Some it.2.value) × (h.new.segment.value ≡ None))
+        (λ code. IsRefused (or_else (key_wrong key.now) (row_wrong values.now)) code h.old.segment.value h.new.segment.value) }
+    ensures marks { h.new.marks ≡ h.old.marks }
 {
     let which = key.key()?;
     let kind = values.scalar_kind()?;
@@ -95,8 +99,9 @@ pub fn enter_new<'a>(
     key: &ObjectKey<'a>,
     kind: Kind,
 ) -> Result<(NewKey<'a>, Box<Segment>), u32>
-    ensures { MatchResult result (λ it. (new_wrong key.now kind ≡ 0) × (new_key_seen it.0 ≡ new_of key.now kind) × IsOfKind (new_key_seen it.0) kind × (h.old.value ≡ Some it.1.value) × (h.new.value ≡ None))
-        (λ code. IsRefused (new_wrong key.now kind) code h.old.value h.new.value) }
+    ensures entered { MatchResult result (λ it. (new_wrong key.now kind ≡ 0) × (new_key_seen it.0 ≡ new_of key.now kind) × IsOfKind (new_key_seen it.0) kind × (h.old.segment.value ≡ Some it.1.value) × (h.new.segment.value ≡ None))
+        (λ code. IsRefused (new_wrong key.now kind) code h.old.segment.value h.new.segment.value) }
+    ensures marks { h.new.marks ≡ h.old.marks }
 {
     let which = if key.how == 3 {
         NewKey::Anonymous
@@ -113,8 +118,9 @@ pub fn enter_entry<'a>(
     key: &ObjectKey<'a>,
     kind: Kind,
 ) -> Result<(IndexKey<'a>, Box<Segment>), u32>
-    ensures { MatchResult result (λ it. (entry_wrong key.now kind ≡ 0) × (index_key_seen it.0 ≡ entry_of key.now kind) × IsOfKind (index_key_seen it.0) kind × (h.old.value ≡ Some it.1.value) × (h.new.value ≡ None))
-        (λ code. IsRefused (entry_wrong key.now kind) code h.old.value h.new.value) }
+    ensures entered { MatchResult result (λ it. (entry_wrong key.now kind ≡ 0) × (index_key_seen it.0 ≡ entry_of key.now kind) × IsOfKind (index_key_seen it.0) kind × (h.old.segment.value ≡ Some it.1.value) × (h.new.segment.value ≡ None))
+        (λ code. IsRefused (entry_wrong key.now kind) code h.old.segment.value h.new.segment.value) }
+    ensures marks { h.new.marks ≡ h.old.marks }
 {
     let which = key.entry(kind)?;
     Ok((which, take(alloc, h)?))

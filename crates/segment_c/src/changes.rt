@@ -4,6 +4,7 @@ ghost use Rattle.segment_c.specs.Calls.{Owes};
 ghost use Rattle.segment_c.specs.Changing.{IsChange, LeavesHandle, LeavesOld};
 ghost use Rattle.segment_c.specs.Codes.{answer_for};
 ghost use Rattle.segment_c.specs.Passed.{key_of, key_wrong};
+ghost use Rattle.segment_c.specs.Marked.{IsMarked};
 ghost use Rattle.segment_manager.specs.Answers.{Done};
 ghost use Rattle.segment_manager.specs.State.{done_answer};
 
@@ -32,8 +33,9 @@ pub enum Change<'a> {
 
 /// Changes the object of a key.
 pub fn make_change(alloc: Global, h: &mut Handle, key: &ObjectKey<'_>, what: Change<'_>) -> u32
-    ensures asked { Owes (key_wrong key.now) result h.old.value h.new.value (λ s t. IsChange what.entry (key_of key.now) s t (answer_for result Done)) }
-    ensures kept { LeavesHandle what.entry result h.old.value h.new.value }
+    ensures asked { Owes (key_wrong key.now) result h.old.segment.value h.new.segment.value (λ s t. IsChange what.entry (key_of key.now) s t (answer_for result Done)) }
+    ensures kept { LeavesHandle what.entry result h.old.segment.value h.new.segment.value }
+    ensures marks { IsMarked result h.old.marks h.new.marks }
 {
     let (which, mut segment) = passed!(enter(alloc, h, key));
     done(apply(&mut segment, &which, what), h, segment)

@@ -3,13 +3,14 @@ ghost use Rattle.std.specs.Prelude.{◌≡◌, ◌≤◌, IsTrue};
 ghost use Rattle.std.specs.declared.option.Option.TheVariants.{Some as Held};
 ghost use Rattle.seg_types.specs.Refusals.{refusal_number};
 ghost use Rattle.segment_c.specs.Codes.{answer_for, is_answer};
+ghost use Rattle.segment_c.specs.Marked.{raised};
 ghost use Rattle.segment_c.specs.Passed.{element_in};
 ghost use Rattle.segment_manager.specs.Answers.{Answer, Done, Found, Made, Refused, Truth};
 ghost use Rattle.segment_manager.specs.objects.Found.{found_answer, pair_answer};
 ghost use Rattle.segment_manager.specs.containers.Maps.{any_value_answer};
 ghost use Rattle.segment_manager.specs.State.{done_answer, handle_answer, scalar_answer, truth_answer};
 
-use crate::handle::{Handle, put};
+use crate::handle::{Handle, put, put_changed};
 use crate::values::Value;
 use seg_types::{Refusal, ScalarValue};
 use segment_manager::Segment;
@@ -97,13 +98,15 @@ pub fn code_of(why: Refusal) -> u32
     }
 }
 
-/// The code where a command is done, or not. This and those below put the segment back into the handle.
+/// The code where a command is done, or not. This and those below put the segment back into the handle, and those whose
+/// command may change it count that.
 pub fn done(done: Result<(), Refusal>, h: &mut Handle, segment: Box<Segment>) -> u32
     ensures answers { answer_for result Done ≡ done_answer done }
     ensures answer { IsTrue (is_answer result) }
-    ensures put { h.new.value ≡ Held segment.value }
+    ensures put { h.new.segment.value ≡ Held segment.value }
+    ensures marks { h.new.marks ≡ raised h.old.marks }
 {
-    put(DONE, h, segment);
+    put_changed(DONE, h, segment);
     code_for!(done, () => {})
 }
 
@@ -117,9 +120,10 @@ pub fn made(
     ensures answers { answer_for result (Made handle.new) ≡ handle_answer made }
     ensures answer { IsTrue (is_answer result) }
     ensures kept { 1 ≤ result → handle.new ≡ handle.old }
-    ensures put { h.new.value ≡ Held segment.value }
+    ensures put { h.new.segment.value ≡ Held segment.value }
+    ensures marks { h.new.marks ≡ raised h.old.marks }
 {
-    put(DONE, h, segment);
+    put_changed(DONE, h, segment);
     code_for!(made, at => *handle = at)
 }
 
@@ -133,9 +137,10 @@ pub fn truth(
     ensures answers { answer_for result (Truth holds.new) ≡ truth_answer truth }
     ensures answer { IsTrue (is_answer result) }
     ensures kept { 1 ≤ result → holds.new ≡ holds.old }
-    ensures put { h.new.value ≡ Held segment.value }
+    ensures put { h.new.segment.value ≡ Held segment.value }
+    ensures marks { h.new.marks ≡ raised h.old.marks }
 {
-    put(DONE, h, segment);
+    put_changed(DONE, h, segment);
     code_for!(truth, it => *holds = it)
 }
 
@@ -149,9 +154,27 @@ pub fn element(
     ensures answers { answer_for result (element_in value.new) ≡ scalar_answer element }
     ensures answer { IsTrue (is_answer result) }
     ensures kept { 1 ≤ result → value.new ≡ value.old }
-    ensures put { h.new.value ≡ Held segment.value }
+    ensures put { h.new.segment.value ≡ Held segment.value }
+    ensures marks { h.new.marks ≡ h.old.marks }
 {
     put(DONE, h, segment);
+    code_for!(element, it => *value = Value::of(it))
+}
+
+/// The same of an element that was taken out.
+pub fn element_taken(
+    element: Result<ScalarValue, Refusal>,
+    value: &mut Value,
+    h: &mut Handle,
+    segment: Box<Segment>,
+) -> u32
+    ensures answers { answer_for result (element_in value.new) ≡ scalar_answer element }
+    ensures answer { IsTrue (is_answer result) }
+    ensures kept { 1 ≤ result → value.new ≡ value.old }
+    ensures put { h.new.segment.value ≡ Held segment.value }
+    ensures marks { h.new.marks ≡ raised h.old.marks }
+{
+    put_changed(DONE, h, segment);
     code_for!(element, it => *value = Value::of(it))
 }
 
@@ -166,9 +189,10 @@ pub fn found(
     ensures answers { answer_for result (Found handle.new count.new) ≡ pair_answer found }
     ensures answer { IsTrue (is_answer result) }
     ensures kept { 1 ≤ result → (handle.new ≡ handle.old) × (count.new ≡ count.old) }
-    ensures put { h.new.value ≡ Held segment.value }
+    ensures put { h.new.segment.value ≡ Held segment.value }
+    ensures marks { h.new.marks ≡ raised h.old.marks }
 {
-    put(DONE, h, segment);
+    put_changed(DONE, h, segment);
     code_for!(found, (at, many) => { *handle = at; *count = many; })
 }
 
@@ -183,7 +207,8 @@ pub fn found_or_absent(
     ensures answers { answer_for result (Found handle.new count.new) ≡ found_answer found }
     ensures answer { IsTrue (is_answer result) }
     ensures kept { 1 ≤ result → (handle.new ≡ handle.old) × (count.new ≡ count.old) }
-    ensures put { h.new.value ≡ Held segment.value }
+    ensures put { h.new.segment.value ≡ Held segment.value }
+    ensures marks { h.new.marks ≡ h.old.marks }
 {
     put(DONE, h, segment);
     code_for!(found, Some((at, many)) => { *handle = at; *count = many; })
@@ -199,7 +224,8 @@ pub fn value_found(
     ensures answers { answer_for result (element_in value.new) ≡ any_value_answer found }
     ensures answer { IsTrue (is_answer result) }
     ensures kept { 1 ≤ result → value.new ≡ value.old }
-    ensures put { h.new.value ≡ Held segment.value }
+    ensures put { h.new.segment.value ≡ Held segment.value }
+    ensures marks { h.new.marks ≡ h.old.marks }
 {
     put(DONE, h, segment);
     code_for!(found, Some(it) => *value = Value::of(it))

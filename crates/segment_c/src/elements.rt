@@ -7,6 +7,7 @@ ghost use Rattle.segment_c.specs.Calls.{Owes};
 ghost use Rattle.segment_c.specs.Codes.{answer_for};
 ghost use Rattle.segment_c.specs.Passed.{element_in, key_of, key_wrong, literal_in, or_else, value_wrong};
 ghost use Rattle.segment_c.specs.Reads.{vector_kind, vector_kind_at};
+ghost use Rattle.segment_c.specs.Marked.{IsMarked};
 ghost use Rattle.segment_manager.specs.Answers.{Done, refusal_of};
 ghost use Rattle.segment_manager.specs.Calls.{scalar_reply};
 ghost use Rattle.segment_manager.specs.State.{Answers, IsStep, IsStepOfKind, Moves, scalar_answer};
@@ -15,7 +16,7 @@ ghost use Rattle.segment_manager.specs.containers.TextLists.{LeadsOnOfKind};
 
 use crate::calls::{enter, enter_with, passed};
 use crate::changes::{Change, make_change};
-use crate::codes::{done, element};
+use crate::codes::{done, element, element_taken};
 use crate::handle::Handle;
 use crate::keys::ObjectKey;
 use crate::values::Value;
@@ -32,10 +33,11 @@ pub extern "C" fn zx_get(
     index: u64,
     value: &mut Value,
 ) -> u32
-    ensures asked { Owes (key_wrong key.now) result h.old.value h.new.value
+    ensures asked { Owes (key_wrong key.now) result h.old.segment.value h.new.segment.value
         (λ s t. Answers s (λ d. scalar_reply s.mode d (key_of key.now) (Get (key_of key.now) index)) (answer_for result (element_in value.new))) }
-    ensures same { h.new.value ≡ h.old.value }
+    ensures same { h.new.segment.value ≡ h.old.segment.value }
     ensures results { 1 ≤ result → value.new ≡ value.old }
+    ensures marks { h.new.marks ≡ h.old.marks }
 {
     let (which, segment) = passed!(enter(alloc, h, key));
     element(segment.get_any(&which, index), value, h, segment)
@@ -50,9 +52,10 @@ pub extern "C" fn zx_set(
     index: u64,
     value: &Value,
 ) -> u32
-    ensures asked { Owes (or_else (key_wrong key.now) (value_wrong value.now)) result h.old.value h.new.value
+    ensures asked { Owes (or_else (key_wrong key.now) (value_wrong value.now)) result h.old.segment.value h.new.segment.value
         (λ s t. IsStep s t (Set (key_of key.now) index (literal_in value.now)) (answer_for result Done)) }
-    ensures kept { 1 ≤ result → h.new.value ≡ h.old.value }
+    ensures kept { 1 ≤ result → h.new.segment.value ≡ h.old.segment.value }
+    ensures marks { IsMarked result h.old.marks h.new.marks }
 {
     let (which, new, mut segment) = passed!(enter_with(alloc, h, key, value));
     let answer = segment_values::set(&mut segment, &which, index, new);
@@ -62,9 +65,10 @@ pub extern "C" fn zx_set(
 /// Puts a value behind the last element of the vector of a key.
 #[unsafe(no_mangle)]
 pub extern "C" fn zx_push(alloc: Global, h: &mut Handle, key: &ObjectKey<'_>, value: &Value) -> u32
-    ensures asked { Owes (or_else (key_wrong key.now) (value_wrong value.now)) result h.old.value h.new.value
+    ensures asked { Owes (or_else (key_wrong key.now) (value_wrong value.now)) result h.old.segment.value h.new.segment.value
         (λ s t. IsStep s t (Push (key_of key.now) (literal_in value.now)) (answer_for result Done)) }
-    ensures kept { 1 ≤ result → h.new.value ≡ h.old.value }
+    ensures kept { 1 ≤ result → h.new.segment.value ≡ h.old.segment.value }
+    ensures marks { IsMarked result h.old.marks h.new.marks }
 {
     let (which, new, mut segment) = passed!(enter_with(alloc, h, key, value));
     done(segment_values::push(&mut segment, &which, new), h, segment)
@@ -79,9 +83,10 @@ pub extern "C" fn zx_insert(
     index: u64,
     value: &Value,
 ) -> u32
-    ensures asked { Owes (or_else (key_wrong key.now) (value_wrong value.now)) result h.old.value h.new.value
+    ensures asked { Owes (or_else (key_wrong key.now) (value_wrong value.now)) result h.old.segment.value h.new.segment.value
         (λ s t. IsStep s t (Insert (key_of key.now) index (literal_in value.now)) (answer_for result Done)) }
-    ensures kept { 1 ≤ result → h.new.value ≡ h.old.value }
+    ensures kept { 1 ≤ result → h.new.segment.value ≡ h.old.segment.value }
+    ensures marks { IsMarked result h.old.marks h.new.marks }
 {
     let (which, new, mut segment) = passed!(enter_with(alloc, h, key, value));
     let answer = segment_values::insert(&mut segment, &which, index, new);
@@ -91,9 +96,10 @@ pub extern "C" fn zx_insert(
 /// Leaves out the element at `index` in the vector of a key, of scalars or of strings.
 #[unsafe(no_mangle)]
 pub extern "C" fn zx_erase(alloc: Global, h: &mut Handle, key: &ObjectKey<'_>, index: u64) -> u32
-    ensures asked { Owes (key_wrong key.now) result h.old.value h.new.value
+    ensures asked { Owes (key_wrong key.now) result h.old.segment.value h.new.segment.value
         (λ s t. IsStep s t (Erase (key_of key.now) index) (answer_for result Done)) }
-    ensures kept { 1 ≤ result → h.new.value ≡ h.old.value }
+    ensures kept { 1 ≤ result → h.new.segment.value ≡ h.old.segment.value }
+    ensures marks { IsMarked result h.old.marks h.new.marks }
 {
     make_change(alloc, h, key, Change::Erase(index))
 }
@@ -106,13 +112,14 @@ pub extern "C" fn zx_pop(
     key: &ObjectKey<'_>,
     value: &mut Value,
 ) -> u32
-    ensures asked { Owes (key_wrong key.now) result h.old.value h.new.value
+    ensures asked { Owes (key_wrong key.now) result h.old.segment.value h.new.segment.value
         (λ s t. Moves s t (answer_for result (element_in value.new)) (λ d. step_of_kind s.mode d (key_of key.now) (VectorOf (vector_kind_at d (key_of key.now))) (Pop (key_of key.now)))) }
-    ensures kept { 1 ≤ result → h.new.value ≡ h.old.value }
+    ensures kept { 1 ≤ result → h.new.segment.value ≡ h.old.segment.value }
     ensures results { 1 ≤ result → value.new ≡ value.old }
+    ensures marks { IsMarked result h.old.marks h.new.marks }
 {
     let (which, mut segment) = passed!(enter(alloc, h, key));
-    element(pop(&mut segment, &which), value, h, segment)
+    element_taken(pop(&mut segment, &which), value, h, segment)
 }
 
 /// The same of a segment.
@@ -161,9 +168,10 @@ fn element_kind(kind: Kind) -> ScalarKind
 /// Takes the last text out of the vector of strings of a key. It is read before by `zx_read_text`.
 #[unsafe(no_mangle)]
 pub extern "C" fn zx_pop_text(alloc: Global, h: &mut Handle, key: &ObjectKey<'_>) -> u32
-    ensures asked { Owes (key_wrong key.now) result h.old.value h.new.value
+    ensures asked { Owes (key_wrong key.now) result h.old.segment.value h.new.segment.value
         (λ s t. LeadsOnOfKind s t (key_of key.now) StringsKind (Pop (key_of key.now)) (refusal_of (answer_for result Done))) }
-    ensures kept { 1 ≤ result → h.new.value ≡ h.old.value }
+    ensures kept { 1 ≤ result → h.new.segment.value ≡ h.old.segment.value }
+    ensures marks { IsMarked result h.old.marks h.new.marks }
 {
     make_change(alloc, h, key, Change::PopText)
 }

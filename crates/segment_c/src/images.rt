@@ -10,6 +10,7 @@ ghost use Rattle.seg_types.specs.Commands.{Free, Size};
 ghost use Rattle.segment_c.specs.Calls.{IsStopped, Opened, Owes};
 ghost use Rattle.segment_c.specs.Codes.{answer_for};
 ghost use Rattle.segment_c.specs.Images.{Saves, mode_code, mode_of, mode_wrong};
+ghost use Rattle.segment_c.specs.Marked.{IsPlaced, placed};
 ghost use Rattle.segment_c.specs.Opening.{IsImageOpened, IsNoImage, IsWhyNotOpened, capacity_wrong, size_said};
 ghost use Rattle.segment_c.specs.Passed.{or_else};
 ghost use Rattle.segment_manager.specs.Answers.{Number};
@@ -20,7 +21,7 @@ ghost use Rattle.segment_manager.specs.declared.modes.Mode.TheVariants.{Write};
 
 use crate::calls::passed;
 use crate::codes::{BAD_IMAGE, BAD_MODE, BAD_SIZE, DONE, NO_MEMORY, SHORT_BUFFER, SHORT_REGION};
-use crate::handle::{Handle, put, take};
+use crate::handle::{Handle, Holder, put, put_new, take};
 use crate::resizing::{capacity_for, is_capacity};
 use block_tags::is_legal_size;
 use image_check::{FRONT, ImageClass, OpenError, open_bytes, size_in};
@@ -33,28 +34,32 @@ use std::alloc::Global;
 #[unsafe(no_mangle)]
 pub extern "C" fn zx_create(alloc: Global, h: &mut Handle, size: u64) -> u32
     ensures size { (result ≡ 22) ↔ (is_legal_size size ≡ false) }
-    ensures created { result ≡ 0 → Opened h.new.value (λ t. IsCreated (zeros size) 0 size Write t) }
+    ensures created { result ≡ 0 → Opened h.new.segment.value (λ t. IsCreated (zeros size) 0 size Write t) }
     ensures otherwise { 1 ≤ result → result ≢ 22 → result ≡ 26 }
-    ensures kept { 1 ≤ result → h.new.value ≡ h.old.value }
+    ensures kept { 1 ≤ result → h.new.segment.value ≡ h.old.segment.value }
+    ensures marks { IsPlaced result h.old.marks h.new.marks false }
 {
     let segment = passed!(new_segment(alloc, size));
-    put(DONE, h, segment)
+    put_new(h, segment, false)
 }
 
 /// Frees the segment. A closed handle stays closed.
 #[unsafe(no_mangle)]
 pub extern "C" fn zx_close(alloc: Global, h: &mut Handle)
-    ensures { h.new.value ≡ None }
+    ensures closed { h.new.segment.value ≡ None }
+    ensures marks { h.new.marks ≡ placed h.old.marks false }
 {
-    *h = Handle::closed(alloc);
+    h.segment = Holder::closed(alloc);
+    h.marks.place(false);
 }
 
 /// The number of bytes in the segment.
 #[unsafe(no_mangle)]
 pub extern "C" fn zx_size(alloc: Global, h: &mut Handle, size: &mut u64) -> u32
-    ensures asked { Owes 0 result h.old.value h.new.value (λ s t. IsReply s Size (answer_for result (Number size.new))) }
-    ensures same { h.new.value ≡ h.old.value }
+    ensures asked { Owes 0 result h.old.segment.value h.new.segment.value (λ s t. IsReply s Size (answer_for result (Number size.new))) }
+    ensures same { h.new.segment.value ≡ h.old.segment.value }
     ensures kept { 1 ≤ result → size.new ≡ size.old }
+    ensures marks { h.new.marks ≡ h.old.marks }
 {
     let segment = passed!(take(alloc, h));
     *size = segment.size();
@@ -64,9 +69,10 @@ pub extern "C" fn zx_size(alloc: Global, h: &mut Handle, size: &mut u64) -> u32
 /// The bytes of all gaps, their tags included.
 #[unsafe(no_mangle)]
 pub extern "C" fn zx_free_bytes(alloc: Global, h: &mut Handle, free_bytes: &mut u64) -> u32
-    ensures asked { Owes 0 result h.old.value h.new.value (λ s t. IsReply s Free (answer_for result (Number free_bytes.new))) }
-    ensures same { h.new.value ≡ h.old.value }
+    ensures asked { Owes 0 result h.old.segment.value h.new.segment.value (λ s t. IsReply s Free (answer_for result (Number free_bytes.new))) }
+    ensures same { h.new.segment.value ≡ h.old.segment.value }
     ensures kept { 1 ≤ result → free_bytes.new ≡ free_bytes.old }
+    ensures marks { h.new.marks ≡ h.old.marks }
 {
     let segment = passed!(take(alloc, h));
     *free_bytes = segment.free();
@@ -76,9 +82,10 @@ pub extern "C" fn zx_free_bytes(alloc: Global, h: &mut Handle, free_bytes: &mut 
 /// How the segment is open.
 #[unsafe(no_mangle)]
 pub extern "C" fn zx_mode(alloc: Global, h: &mut Handle, mode: &mut u32) -> u32
-    ensures asked { Owes 0 result h.old.value h.new.value (λ s t. (result ≡ 0) × (mode.new ≡ mode_code s.mode)) }
-    ensures same { h.new.value ≡ h.old.value }
+    ensures asked { Owes 0 result h.old.segment.value h.new.segment.value (λ s t. (result ≡ 0) × (mode.new ≡ mode_code s.mode)) }
+    ensures same { h.new.segment.value ≡ h.old.segment.value }
     ensures kept { 1 ≤ result → mode.new ≡ mode.old }
+    ensures marks { h.new.marks ≡ h.old.marks }
 {
     let segment = passed!(take(alloc, h));
     *mode = code_of_mode(segment.mode());
@@ -88,9 +95,10 @@ pub extern "C" fn zx_mode(alloc: Global, h: &mut Handle, mode: &mut u32) -> u32
 /// The number of bytes of the region behind the segment.
 #[unsafe(no_mangle)]
 pub extern "C" fn zx_region_left(alloc: Global, h: &mut Handle, left: &mut u64) -> u32
-    ensures asked { Owes 0 result h.old.value h.new.value (λ s t. (result ≡ 0) × (left.new ≡ room_behind s.cut)) }
-    ensures same { h.new.value ≡ h.old.value }
+    ensures asked { Owes 0 result h.old.segment.value h.new.segment.value (λ s t. (result ≡ 0) × (left.new ≡ room_behind s.cut)) }
+    ensures same { h.new.segment.value ≡ h.old.segment.value }
     ensures kept { 1 ≤ result → left.new ≡ left.old }
+    ensures marks { h.new.marks ≡ h.old.marks }
 {
     let segment = passed!(take(alloc, h));
     *left = segment.region_left();
@@ -100,10 +108,11 @@ pub extern "C" fn zx_region_left(alloc: Global, h: &mut Handle, left: &mut u64) 
 /// Copies the image to the front of the buffer.
 #[unsafe(no_mangle)]
 pub extern "C" fn zx_save(alloc: Global, h: &mut Handle, image: &mut [u8]) -> u32
-    ensures closed { h.old.value ≡ None → result ≡ 16 }
-    ensures saved { (s : State) → h.old.value ≡ Some s → Saves s.cut.bytes image.old image.new result }
-    ensures same { h.new.value ≡ h.old.value }
+    ensures closed { h.old.segment.value ≡ None → result ≡ 16 }
+    ensures saved { (s : State) → h.old.segment.value ≡ Some s → Saves s.cut.bytes image.old image.new result }
+    ensures same { h.new.segment.value ≡ h.old.segment.value }
     ensures kept { 1 ≤ result → image.new ≡ image.old }
+    ensures marks { h.new.marks ≡ h.old.marks }
 {
     let segment = passed!(take(alloc, h));
     put(copy_out(segment.as_bytes(), image), h, segment)
@@ -151,7 +160,7 @@ fn new_segment(alloc: Global, size: u64) -> Result<Box<Segment>, u32>
 }
 
 /// A segment in a box.
-fn boxed_or_not(alloc: Global, segment: Segment) -> Result<Box<Segment>, u32>
+pub fn boxed_or_not(alloc: Global, segment: Segment) -> Result<Box<Segment>, u32>
     ensures { MatchResult result (λ s. s.value ≡ segment) (λ code. code ≡ 26) }
 {
     match Box::new(alloc, segment) {
@@ -170,10 +179,11 @@ pub extern "C" fn zx_open(
     capacity: u64,
     mode: u32,
 ) -> u32
-    ensures stopped { IsStopped (or_else (capacity_wrong capacity) (mode_wrong mode)) result h.old.value h.new.value }
-    ensures opened { result ≡ 0 → Opened h.new.value (λ t. IsImageOpened image.now capacity (mode_of mode) t) }
+    ensures stopped { IsStopped (or_else (capacity_wrong capacity) (mode_wrong mode)) result h.old.segment.value h.new.segment.value }
+    ensures opened { result ≡ 0 → Opened h.new.segment.value (λ t. IsImageOpened image.now capacity (mode_of mode) t) }
     ensures why { or_else (capacity_wrong capacity) (mode_wrong mode) ≡ 0 → 1 ≤ result → IsWhyNotOpened image.now capacity result }
-    ensures kept { 1 ≤ result → h.new.value ≡ h.old.value }
+    ensures kept { 1 ≤ result → h.new.segment.value ≡ h.old.segment.value }
+    ensures marks { IsPlaced result h.old.marks h.new.marks false }
 {
     if !is_capacity(capacity) {
         return BAD_SIZE;
@@ -182,7 +192,7 @@ pub extern "C" fn zx_open(
         return BAD_MODE;
     };
     let segment = passed!(open_boxed(alloc, image, capacity, mode));
-    put(DONE, h, segment)
+    put_new(h, segment, false)
 }
 
 /// Whether the bytes are the image of a segment.
@@ -226,7 +236,7 @@ fn size_said(image: &[u8]) -> u64
 }
 
 /// The mode of a code.
-fn mode_for(code: u32) -> Option<Mode>
+pub fn mode_for(code: u32) -> Option<Mode>
     ensures { MatchOption result (mode_wrong code ≡ 23) (λ mode. (mode_wrong code ≡ 0) × (mode ≡ mode_of code)) }
 {
     match code {
@@ -269,7 +279,7 @@ fn open_in(alloc: Global, image: &[u8], region: RawRegion, mode: Mode) -> Result
 }
 
 /// The code of a class of images.
-fn class_code(class: ImageClass) -> u32
+pub fn class_code(class: ImageClass) -> u32
     ensures { result ≡ 100 + number_of class }
 {
     BAD_IMAGE + u32::from(class.number())

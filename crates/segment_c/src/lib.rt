@@ -10,6 +10,7 @@ mod elements;
 mod handle;
 mod images;
 mod keys;
+mod lending;
 mod lists;
 mod maps;
 mod objects;
@@ -19,8 +20,10 @@ mod resizing;
 mod rows;
 mod storage;
 mod strings;
+mod transactions;
 mod values;
 mod vectors;
+mod views;
 mod words;
 
 pub use handle::Handle;

@@ -11,6 +11,7 @@ ghost use Rattle.segment_c.specs.Lists.{IsInfo, IsTold, TellsAlone, TellsBlock, 
 ghost use Rattle.segment_c.specs.Passed.{key_of, key_wrong};
 ghost use Rattle.segment_manager.specs.Answers.{Number};
 ghost use Rattle.segment_manager.specs.Directory.{Directory, Object, live, named_objects, object_at, unique_objects};
+ghost use Rattle.segment_manager.specs.indexes.NamesFrom.{IsFirstFrom};
 ghost use Rattle.segment_manager.specs.objects.Instances.{IsInstance};
 ghost use Rattle.segment_manager.specs.State.{IsReply, StandsFor};
 
@@ -158,9 +159,10 @@ pub extern "C" fn zx_tell(
     info: &mut Info,
     name: &mut [u8],
 ) -> u32
-    ensures told { Reads (key_wrong key.now) result h.old.value h.new.value
+    ensures told { Reads (key_wrong key.now) result h.old.segment.value h.new.segment.value
         (λ s. TellsOf s (λ d. object_at d (key_of key.now)) 6 info.new name.old name.new result) }
     ensures results { 1 ≤ result → (info.new ≡ info.old) × (name.new ≡ name.old) }
+    ensures marks { h.new.marks ≡ h.old.marks }
 {
     let (which, segment) = passed!(enter(alloc, h, key));
     put(tell_key(&segment, &which, info, name), h, segment)
@@ -175,20 +177,35 @@ pub extern "C" fn zx_named_at(
     info: &mut Info,
     name: &mut [u8],
 ) -> u32
-    ensures told { Reads 0 result h.old.value h.new.value
+    ensures told { Reads 0 result h.old.segment.value h.new.segment.value
         (λ s. TellsOf s (λ d. slice_get (named_objects d) index) 8 info.new name.old name.new result) }
     ensures results { 1 ≤ result → (info.new ≡ info.old) × (name.new ≡ name.old) }
+    ensures marks { h.new.marks ≡ h.old.marks }
 {
     let segment = passed!(take(alloc, h));
     put(tell_named(&segment, index, info, name), h, segment)
 }
 
+/// How many names stand before a text: the place, for `zx_named_at`, of the first name that does not, if there is one.
+#[unsafe(no_mangle)]
+pub extern "C" fn zx_named_from(alloc: Global, h: &mut Handle, text: &[u8], index: &mut u64) -> u32
+    ensures told { Reads 0 result h.old.segment.value h.new.segment.value
+        (λ s. (result ≡ 0) × IsFirstFrom s text.now index.new) }
+    ensures results { 1 ≤ result → index.new ≡ index.old }
+    ensures marks { h.new.marks ≡ h.old.marks }
+{
+    let segment = passed!(take(alloc, h));
+    *index = segment.named_place(text);
+    put(DONE, h, segment)
+}
+
 /// What the unique object says of itself whose kind has `index` others before it, in the order of their codes.
 #[unsafe(no_mangle)]
 pub extern "C" fn zx_unique_at(alloc: Global, h: &mut Handle, index: u64, info: &mut Info) -> u32
-    ensures told { Reads 0 result h.old.value h.new.value
+    ensures told { Reads 0 result h.old.segment.value h.new.segment.value
         (λ s. (d : Directory) → StandsFor s.cut.bytes d → TellsAlone info.new result (slice_get (unique_objects d) index)) }
     ensures results { 1 ≤ result → info.new ≡ info.old }
+    ensures marks { h.new.marks ≡ h.old.marks }
 {
     let segment = passed!(take(alloc, h));
     put(tell_unique(&segment, index, info), h, segment)
@@ -197,9 +214,10 @@ pub extern "C" fn zx_unique_at(alloc: Global, h: &mut Handle, index: u64, info: 
 /// The block or gap with `index` others before it.
 #[unsafe(no_mangle)]
 pub extern "C" fn zx_tile_at(alloc: Global, h: &mut Handle, index: u64, block: &mut Block) -> u32
-    ensures told { Reads 0 result h.old.value h.new.value
+    ensures told { Reads 0 result h.old.segment.value h.new.segment.value
         (λ s. (d : Directory) → StandsFor s.cut.bytes d → TellsBlock block.new result (slice_get (spans (live d)) index)) }
     ensures results { 1 ≤ result → block.new ≡ block.old }
+    ensures marks { h.new.marks ≡ h.old.marks }
 {
     let segment = passed!(take(alloc, h));
     put(tell_tile(&segment, index, block), h, segment)
@@ -208,9 +226,10 @@ pub extern "C" fn zx_tile_at(alloc: Global, h: &mut Handle, index: u64, block: &
 /// The number of objects with names.
 #[unsafe(no_mangle)]
 pub extern "C" fn zx_num_named(alloc: Global, h: &mut Handle, count: &mut u64) -> u32
-    ensures asked { Owes 0 result h.old.value h.new.value (λ s t. IsReply s NumNamed (answer_for result (Number count.new))) }
-    ensures same { h.new.value ≡ h.old.value }
+    ensures asked { Owes 0 result h.old.segment.value h.new.segment.value (λ s t. IsReply s NumNamed (answer_for result (Number count.new))) }
+    ensures same { h.new.segment.value ≡ h.old.segment.value }
     ensures results { 1 ≤ result → count.new ≡ count.old }
+    ensures marks { h.new.marks ≡ h.old.marks }
 {
     let segment = passed!(take(alloc, h));
     *count = segment.num_named();
@@ -220,9 +239,10 @@ pub extern "C" fn zx_num_named(alloc: Global, h: &mut Handle, count: &mut u64) -
 /// The number of kinds with a unique object.
 #[unsafe(no_mangle)]
 pub extern "C" fn zx_num_unique(alloc: Global, h: &mut Handle, count: &mut u64) -> u32
-    ensures asked { Owes 0 result h.old.value h.new.value (λ s t. IsReply s NumUnique (answer_for result (Number count.new))) }
-    ensures same { h.new.value ≡ h.old.value }
+    ensures asked { Owes 0 result h.old.segment.value h.new.segment.value (λ s t. IsReply s NumUnique (answer_for result (Number count.new))) }
+    ensures same { h.new.segment.value ≡ h.old.segment.value }
     ensures results { 1 ≤ result → count.new ≡ count.old }
+    ensures marks { h.new.marks ≡ h.old.marks }
 {
     let segment = passed!(take(alloc, h));
     *count = segment.num_unique();

@@ -6,6 +6,7 @@ ghost use Rattle.segment_c.specs.Calls.{IsAsked, Owes, Reads};
 ghost use Rattle.segment_c.specs.Codes.{answer_for};
 ghost use Rattle.segment_c.specs.Passed.{element_in, key_of, key_wrong, literal_in, or_else, value_wrong};
 ghost use Rattle.segment_c.specs.Reads.{TellsPair, TellsPairOf, first_at, next_at};
+ghost use Rattle.segment_c.specs.Marked.{IsMarked};
 ghost use Rattle.segment_manager.specs.Answers.{Truth};
 ghost use Rattle.segment_manager.specs.Directory.{Directory};
 ghost use Rattle.segment_manager.specs.Keeping.{KeepsWhere};
@@ -33,10 +34,11 @@ pub extern "C" fn zx_map_get(
     at: &Value,
     value: &mut Value,
 ) -> u32
-    ensures asked { Owes (or_else (key_wrong key.now) (value_wrong at.now)) result h.old.value h.new.value
+    ensures asked { Owes (or_else (key_wrong key.now) (value_wrong at.now)) result h.old.segment.value h.new.segment.value
         (λ s t. IsReply s (Lookup (key_of key.now) (literal_in at.now)) (answer_for result (element_in value.new))) }
-    ensures same { h.new.value ≡ h.old.value }
+    ensures same { h.new.segment.value ≡ h.old.segment.value }
     ensures results { 1 ≤ result → value.new ≡ value.old }
+    ensures marks { h.new.marks ≡ h.old.marks }
 {
     let (which, wanted, segment) = passed!(enter_with(alloc, h, key, at));
     let answer = segment_values::look_up(&segment, &which, wanted);
@@ -53,10 +55,11 @@ pub extern "C" fn zx_map_put(
     value: &Value,
     is_new: &mut bool,
 ) -> u32
-    ensures asked { Owes (or_else (key_wrong key.now) (or_else (value_wrong at.now) (value_wrong value.now))) result h.old.value h.new.value
+    ensures asked { Owes (or_else (key_wrong key.now) (or_else (value_wrong at.now) (value_wrong value.now))) result h.old.segment.value h.new.segment.value
         (λ s t. IsStep s t (Put (key_of key.now) (literal_in at.now) (literal_in value.now)) (answer_for result (Truth is_new.new))) }
-    ensures kept { 1 ≤ result → h.new.value ≡ h.old.value }
+    ensures kept { 1 ≤ result → h.new.segment.value ≡ h.old.segment.value }
     ensures results { 1 ≤ result → is_new.new ≡ is_new.old }
+    ensures marks { IsMarked result h.old.marks h.new.marks }
 {
     let (which, new_key, new_value, mut segment) = passed!(enter_pair(alloc, h, key, at, value));
     let answer = segment_values::put_pair(&mut segment, &which, new_key, new_value);
@@ -72,12 +75,13 @@ pub extern "C" fn zx_map_erase(
     at: &Value,
     was_there: &mut bool,
 ) -> u32
-    ensures asked { Owes (or_else (key_wrong key.now) (value_wrong at.now)) result h.old.value h.new.value
+    ensures asked { Owes (or_else (key_wrong key.now) (value_wrong at.now)) result h.old.segment.value h.new.segment.value
         (λ s t. IsStep s t (Remove (key_of key.now) (literal_in at.now)) (answer_for result (Truth was_there.new))) }
-    ensures absent { IsAsked (or_else (key_wrong key.now) (value_wrong at.now)) result h.old.value h.new.value
+    ensures absent { IsAsked (or_else (key_wrong key.now) (value_wrong at.now)) result h.old.segment.value h.new.segment.value
         (λ s t. KeepsWhere s t (LacksLiteral (key_of key.now) (literal_in at.now))) }
-    ensures kept { 1 ≤ result → h.new.value ≡ h.old.value }
+    ensures kept { 1 ≤ result → h.new.segment.value ≡ h.old.segment.value }
     ensures results { 1 ≤ result → was_there.new ≡ was_there.old }
+    ensures marks { IsMarked result h.old.marks h.new.marks }
 {
     let (which, gone, mut segment) = passed!(enter_with(alloc, h, key, at));
     let answer = segment_values::erase_pair(&mut segment, &which, gone);
@@ -93,10 +97,11 @@ pub extern "C" fn zx_map_first(
     at: &mut Value,
     value: &mut Value,
 ) -> u32
-    ensures told { Reads (key_wrong key.now) result h.old.value h.new.value
+    ensures told { Reads (key_wrong key.now) result h.old.segment.value h.new.segment.value
         (λ s. (d : Directory) → StandsFor s.cut.bytes d
         → TellsPair at.new value.new result (first_at d (key_of key.now))) }
     ensures results { 1 ≤ result → (at.new ≡ at.old) × (value.new ≡ value.old) }
+    ensures marks { h.new.marks ≡ h.old.marks }
 {
     let (which, segment) = passed!(enter(alloc, h, key));
     put(first(&segment, &which, at, value), h, segment)
@@ -126,10 +131,11 @@ pub extern "C" fn zx_map_next(
     at: &mut Value,
     value: &mut Value,
 ) -> u32
-    ensures told { Reads (or_else (key_wrong key.now) (value_wrong after.now)) result h.old.value h.new.value
+    ensures told { Reads (or_else (key_wrong key.now) (value_wrong after.now)) result h.old.segment.value h.new.segment.value
         (λ s. (d : Directory) → StandsFor s.cut.bytes d
         → TellsPair at.new value.new result (next_at d (key_of key.now) (literal_in after.now))) }
     ensures results { 1 ≤ result → (at.new ≡ at.old) × (value.new ≡ value.old) }
+    ensures marks { h.new.marks ≡ h.old.marks }
 {
     let (which, below, segment) = passed!(enter_with(alloc, h, key, after));
     put(next(&segment, &which, below, at, value), h, segment)

@@ -9,6 +9,7 @@ ghost use Rattle.segment_c.specs.Calls.{IsAsked, IsClosed, IsStopped, KeepsRefus
 ghost use Rattle.segment_c.specs.Codes.{answer_for};
 ghost use Rattle.segment_c.specs.Destroying.{destroy_command};
 ghost use Rattle.segment_c.specs.Passed.{count_wrong, entry_of, entry_wrong, key_of, key_wrong, kind_in, kind_wrong, new_of, new_wrong, object_kind_in, or_else, row_of, row_wrong, scalar_in, scalar_kind_in, scalar_kind_of, scalar_kind_wrong, value_wrong, whole_in};
+ghost use Rattle.segment_c.specs.Marked.{IsMarked};
 ghost use Rattle.segment_manager.specs.Answers.{Found, Made, Truth};
 ghost use Rattle.segment_manager.specs.Keeping.{HasKey, KeepsWhere, LacksKey};
 ghost use Rattle.segment_manager.specs.State.{IsReply, IsStep, truth_answer};
@@ -67,10 +68,11 @@ pub extern "C" fn zx_construct(
     value: &Value,
     handle: &mut u64,
 ) -> u32
-    ensures asked { Owes (or_else (value_wrong value.now) (or_else (count_wrong count) (new_wrong key.now (ScalarOf (kind_in value.now))))) result h.old.value h.new.value
+    ensures asked { Owes (or_else (value_wrong value.now) (or_else (count_wrong count) (new_wrong key.now (ScalarOf (kind_in value.now))))) result h.old.segment.value h.new.segment.value
         (λ s t. IsStep s t (Construct (new_of key.now (ScalarOf (kind_in value.now))) (Numbers (kind_in value.now) (replicate count (whole_in value.now)))) (answer_for result (Made handle.new))) }
-    ensures refused { KeepsRefused result h.old.value h.new.value }
+    ensures refused { KeepsRefused result h.old.segment.value h.new.segment.value }
     ensures results { 1 ≤ result → handle.new ≡ handle.old }
+    ensures marks { IsMarked result h.old.marks h.new.marks }
 {
     let new = passed!(scalars(value, count));
     let (which, mut segment) = passed!(enter_new(alloc, h, key, Kind::Scalar(new.kind())));
@@ -89,12 +91,13 @@ pub extern "C" fn zx_find_or_construct(
     handle: &mut u64,
     count_found: &mut u32,
 ) -> u32
-    ensures asked { Owes (or_else (value_wrong value.now) (or_else (count_wrong count) (entry_wrong key.now (ScalarOf (kind_in value.now))))) result h.old.value h.new.value
+    ensures asked { Owes (or_else (value_wrong value.now) (or_else (count_wrong count) (entry_wrong key.now (ScalarOf (kind_in value.now))))) result h.old.segment.value h.new.segment.value
         (λ s t. IsStep s t (FindOrConstruct (entry_of key.now (ScalarOf (kind_in value.now))) (Numbers (kind_in value.now) (replicate count (whole_in value.now)))) (answer_for result (Found handle.new count_found.new))) }
-    ensures found { IsAsked (or_else (value_wrong value.now) (or_else (count_wrong count) (entry_wrong key.now (ScalarOf (kind_in value.now))))) result h.old.value h.new.value
+    ensures found { IsAsked (or_else (value_wrong value.now) (or_else (count_wrong count) (entry_wrong key.now (ScalarOf (kind_in value.now))))) result h.old.segment.value h.new.segment.value
         (λ s t. KeepsWhere s t (HasKey (entry_of key.now (ScalarOf (kind_in value.now))))) }
-    ensures refused { KeepsRefused result h.old.value h.new.value }
+    ensures refused { KeepsRefused result h.old.segment.value h.new.segment.value }
     ensures results { 1 ≤ result → (handle.new ≡ handle.old) × (count_found.new ≡ count_found.old) }
+    ensures marks { IsMarked result h.old.marks h.new.marks }
 {
     let new = passed!(scalars(value, count));
     let (which, mut segment) = passed!(enter_entry(alloc, h, key, Kind::Scalar(new.kind())));
@@ -111,10 +114,11 @@ pub extern "C" fn zx_construct_string(
     text: &[u8],
     handle: &mut u64,
 ) -> u32
-    ensures asked { Owes (new_wrong key.now (StringKind)) result h.old.value h.new.value
+    ensures asked { Owes (new_wrong key.now (StringKind)) result h.old.segment.value h.new.segment.value
         (λ s t. IsStep s t (Construct (new_of key.now (StringKind)) (Bytes text.now)) (answer_for result (Made handle.new))) }
-    ensures refused { KeepsRefused result h.old.value h.new.value }
+    ensures refused { KeepsRefused result h.old.segment.value h.new.segment.value }
     ensures results { 1 ≤ result → handle.new ≡ handle.old }
+    ensures marks { IsMarked result h.old.marks h.new.marks }
 {
     let (which, mut segment) = passed!(enter_new(alloc, h, key, Kind::String));
     made(segment.construct_string(&which, text), handle, h, segment)
@@ -130,12 +134,13 @@ pub extern "C" fn zx_find_or_construct_string(
     handle: &mut u64,
     count_found: &mut u32,
 ) -> u32
-    ensures asked { Owes (entry_wrong key.now (StringKind)) result h.old.value h.new.value
+    ensures asked { Owes (entry_wrong key.now (StringKind)) result h.old.segment.value h.new.segment.value
         (λ s t. IsStep s t (FindOrConstruct (entry_of key.now (StringKind)) (Bytes text.now)) (answer_for result (Found handle.new count_found.new))) }
-    ensures found { IsAsked (entry_wrong key.now (StringKind)) result h.old.value h.new.value
+    ensures found { IsAsked (entry_wrong key.now (StringKind)) result h.old.segment.value h.new.segment.value
         (λ s t. KeepsWhere s t (HasKey (entry_of key.now (StringKind)))) }
-    ensures refused { KeepsRefused result h.old.value h.new.value }
+    ensures refused { KeepsRefused result h.old.segment.value h.new.segment.value }
     ensures results { 1 ≤ result → (handle.new ≡ handle.old) × (count_found.new ≡ count_found.old) }
+    ensures marks { IsMarked result h.old.marks h.new.marks }
 {
     let (which, mut segment) = passed!(enter_entry(alloc, h, key, Kind::String));
     let answer = segment.find_or_construct_string(&which, text);
@@ -151,10 +156,11 @@ pub extern "C" fn zx_construct_strings(
     texts: &[&[u8]],
     handle: &mut u64,
 ) -> u32
-    ensures asked { Owes (new_wrong key.now (StringsKind)) result h.old.value h.new.value
+    ensures asked { Owes (new_wrong key.now (StringsKind)) result h.old.segment.value h.new.segment.value
         (λ s t. IsStep s t (Construct (new_of key.now (StringsKind)) (Strings (map (λ text. text.now) texts.now))) (answer_for result (Made handle.new))) }
-    ensures refused { KeepsRefused result h.old.value h.new.value }
+    ensures refused { KeepsRefused result h.old.segment.value h.new.segment.value }
     ensures results { 1 ≤ result → handle.new ≡ handle.old }
+    ensures marks { IsMarked result h.old.marks h.new.marks }
 {
     let (which, mut segment) = passed!(enter_new(alloc, h, key, Kind::Strings));
     made(segment.construct_texts(&which, texts), handle, h, segment)
@@ -170,12 +176,13 @@ pub extern "C" fn zx_find_or_construct_strings(
     handle: &mut u64,
     count_found: &mut u32,
 ) -> u32
-    ensures asked { Owes (entry_wrong key.now (StringsKind)) result h.old.value h.new.value
+    ensures asked { Owes (entry_wrong key.now (StringsKind)) result h.old.segment.value h.new.segment.value
         (λ s t. IsStep s t (FindOrConstruct (entry_of key.now (StringsKind)) (Strings (map (λ text. text.now) texts.now))) (answer_for result (Found handle.new count_found.new))) }
-    ensures found { IsAsked (entry_wrong key.now (StringsKind)) result h.old.value h.new.value
+    ensures found { IsAsked (entry_wrong key.now (StringsKind)) result h.old.segment.value h.new.segment.value
         (λ s t. KeepsWhere s t (HasKey (entry_of key.now (StringsKind)))) }
-    ensures refused { KeepsRefused result h.old.value h.new.value }
+    ensures refused { KeepsRefused result h.old.segment.value h.new.segment.value }
     ensures results { 1 ≤ result → (handle.new ≡ handle.old) × (count_found.new ≡ count_found.old) }
+    ensures marks { IsMarked result h.old.marks h.new.marks }
 {
     let (which, mut segment) = passed!(enter_entry(alloc, h, key, Kind::Strings));
     let answer = segment.find_or_construct_texts(&which, texts);
@@ -192,10 +199,11 @@ pub extern "C" fn zx_construct_map(
     values: u32,
     handle: &mut u64,
 ) -> u32
-    ensures asked { Owes (or_else (scalar_kind_wrong keys) (or_else (scalar_kind_wrong values) (new_wrong key.now (MapOf (scalar_kind_in keys) (scalar_kind_in values))))) result h.old.value h.new.value
+    ensures asked { Owes (or_else (scalar_kind_wrong keys) (or_else (scalar_kind_wrong values) (new_wrong key.now (MapOf (scalar_kind_in keys) (scalar_kind_in values))))) result h.old.segment.value h.new.segment.value
         (λ s t. IsStep s t (Construct (new_of key.now (MapOf (scalar_kind_in keys) (scalar_kind_in values))) (NoPairs (scalar_kind_in keys) (scalar_kind_in values))) (answer_for result (Made handle.new))) }
-    ensures refused { KeepsRefused result h.old.value h.new.value }
+    ensures refused { KeepsRefused result h.old.segment.value h.new.segment.value }
     ensures results { 1 ≤ result → handle.new ≡ handle.old }
+    ensures marks { IsMarked result h.old.marks h.new.marks }
 {
     let (of_keys, of_values) = passed!(map_kinds(keys, values));
     let (which, mut segment) = passed!(enter_new(alloc, h, key, Kind::Map(of_keys, of_values)));
@@ -214,12 +222,13 @@ pub extern "C" fn zx_find_or_construct_map(
     handle: &mut u64,
     count_found: &mut u32,
 ) -> u32
-    ensures asked { Owes (or_else (scalar_kind_wrong keys) (or_else (scalar_kind_wrong values) (entry_wrong key.now (MapOf (scalar_kind_in keys) (scalar_kind_in values))))) result h.old.value h.new.value
+    ensures asked { Owes (or_else (scalar_kind_wrong keys) (or_else (scalar_kind_wrong values) (entry_wrong key.now (MapOf (scalar_kind_in keys) (scalar_kind_in values))))) result h.old.segment.value h.new.segment.value
         (λ s t. IsStep s t (FindOrConstruct (entry_of key.now (MapOf (scalar_kind_in keys) (scalar_kind_in values))) (NoPairs (scalar_kind_in keys) (scalar_kind_in values))) (answer_for result (Found handle.new count_found.new))) }
-    ensures found { IsAsked (or_else (scalar_kind_wrong keys) (or_else (scalar_kind_wrong values) (entry_wrong key.now (MapOf (scalar_kind_in keys) (scalar_kind_in values))))) result h.old.value h.new.value
+    ensures found { IsAsked (or_else (scalar_kind_wrong keys) (or_else (scalar_kind_wrong values) (entry_wrong key.now (MapOf (scalar_kind_in keys) (scalar_kind_in values))))) result h.old.segment.value h.new.segment.value
         (λ s t. KeepsWhere s t (HasKey (entry_of key.now (MapOf (scalar_kind_in keys) (scalar_kind_in values))))) }
-    ensures refused { KeepsRefused result h.old.value h.new.value }
+    ensures refused { KeepsRefused result h.old.segment.value h.new.segment.value }
     ensures results { 1 ≤ result → (handle.new ≡ handle.old) × (count_found.new ≡ count_found.old) }
+    ensures marks { IsMarked result h.old.marks h.new.marks }
 {
     let (of_keys, of_values) = passed!(map_kinds(keys, values));
     let (which, mut segment) = passed!(enter_entry(alloc, h, key, Kind::Map(of_keys, of_values)));
@@ -237,12 +246,13 @@ pub extern "C" fn zx_find(
     handle: &mut u64,
     count: &mut u32,
 ) -> u32
-    ensures stopped { IsStopped (or_else (key_wrong key.now) (kind_wrong kind)) result h.old.value h.new.value }
-    ensures closed { IsClosed (or_else (key_wrong key.now) (kind_wrong kind)) result h.old.value h.new.value }
-    ensures asked { IsAsked (or_else (key_wrong key.now) (kind_wrong kind)) result h.old.value h.new.value
+    ensures stopped { IsStopped (or_else (key_wrong key.now) (kind_wrong kind)) result h.old.segment.value h.new.segment.value }
+    ensures closed { IsClosed (or_else (key_wrong key.now) (kind_wrong kind)) result h.old.segment.value h.new.segment.value }
+    ensures asked { IsAsked (or_else (key_wrong key.now) (kind_wrong kind)) result h.old.segment.value h.new.segment.value
         (λ s t. IsReply s (Find (key_of key.now) (object_kind_in kind)) (answer_for result (Found handle.new count.new))) }
-    ensures same { h.new.value ≡ h.old.value }
+    ensures same { h.new.segment.value ≡ h.old.segment.value }
     ensures results { 1 ≤ result → (handle.new ≡ handle.old) × (count.new ≡ count.old) }
+    ensures marks { h.new.marks ≡ h.old.marks }
 {
     let which = passed!(key.key());
     let of_kind = passed!(object_kind(kind));
@@ -260,11 +270,12 @@ pub extern "C" fn zx_destroy(
     key: &ObjectKey<'_>,
     was_there: &mut bool,
 ) -> u32
-    ensures asked { Owes (key_wrong key.now) result h.old.value h.new.value
+    ensures asked { Owes (key_wrong key.now) result h.old.segment.value h.new.segment.value
         (λ s t. IsStep s t (destroy_command (key_of key.now)) (answer_for result (Truth was_there.new))) }
-    ensures absent { IsAsked (key_wrong key.now) result h.old.value h.new.value (λ s t. KeepsWhere s t (LacksKey (key_of key.now))) }
-    ensures kept { 1 ≤ result → h.new.value ≡ h.old.value }
+    ensures absent { IsAsked (key_wrong key.now) result h.old.segment.value h.new.segment.value (λ s t. KeepsWhere s t (LacksKey (key_of key.now))) }
+    ensures kept { 1 ≤ result → h.new.segment.value ≡ h.old.segment.value }
     ensures results { 1 ≤ result → was_there.new ≡ was_there.old }
+    ensures marks { IsMarked result h.old.marks h.new.marks }
 {
     let (which, mut segment) = passed!(enter(alloc, h, key));
     truth(destroy(&mut segment, &which), was_there, h, segment)

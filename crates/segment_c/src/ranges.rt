@@ -7,6 +7,7 @@ ghost use Rattle.segment_c.specs.Calls.{Owes};
 ghost use Rattle.segment_c.specs.Codes.{answer_for};
 ghost use Rattle.segment_c.specs.Passed.{key_of, key_wrong, numbers_of, or_else, row_of, row_wrong, scalar_kind_in};
 ghost use Rattle.segment_c.specs.Reads.{IsCoded, ReadsRange};
+ghost use Rattle.segment_c.specs.Marked.{IsMarked};
 ghost use Rattle.segment_manager.specs.Answers.{Done};
 ghost use Rattle.segment_manager.specs.Directory.{Directory};
 ghost use Rattle.segment_manager.specs.State.{StandsFor, done_answer};
@@ -40,7 +41,8 @@ fn read_range<T: Scalar>(
     first: u64,
     row: &mut [T],
 ) -> u32
-    ensures { ReadsRange T.whole T.kind key.now first row.old row.new result h.old.value h.new.value }
+    ensures read { ReadsRange T.whole T.kind key.now first row.old row.new result h.old.segment.value h.new.segment.value }
+    ensures marks { h.new.marks ≡ h.old.marks }
 {
     let (which, segment) = passed!(enter(alloc, h, key));
     put(read_row(&segment, &which, first, row), h, segment)
@@ -55,7 +57,8 @@ pub extern "C" fn zx_read_bools(
     first: u64,
     row: &mut [bool],
 ) -> u32
-    ensures { ReadsRange truth_number BoolKind key.now first row.old row.new result h.old.value h.new.value }
+    ensures read { ReadsRange truth_number BoolKind key.now first row.old row.new result h.old.segment.value h.new.segment.value }
+    ensures marks { h.new.marks ≡ h.old.marks }
 {
     read_range::<bool>(alloc, h, key, first, row)
 }
@@ -69,7 +72,8 @@ pub extern "C" fn zx_read_u8s(
     first: u64,
     row: &mut [u8],
 ) -> u32
-    ensures { ReadsRange pos U8Kind key.now first row.old row.new result h.old.value h.new.value }
+    ensures read { ReadsRange pos U8Kind key.now first row.old row.new result h.old.segment.value h.new.segment.value }
+    ensures marks { h.new.marks ≡ h.old.marks }
 {
     read_range::<u8>(alloc, h, key, first, row)
 }
@@ -84,7 +88,8 @@ pub extern "C" fn zx_read_i32s(
     first: u64,
     row: &mut [i32],
 ) -> u32
-    ensures { ReadsRange (λ x. x) I32Kind key.now first row.old row.new result h.old.value h.new.value }
+    ensures read { ReadsRange (λ x. x) I32Kind key.now first row.old row.new result h.old.segment.value h.new.segment.value }
+    ensures marks { h.new.marks ≡ h.old.marks }
 {
     read_range::<i32>(alloc, h, key, first, row)
 }
@@ -99,7 +104,8 @@ pub extern "C" fn zx_read_i64s(
     first: u64,
     row: &mut [i64],
 ) -> u32
-    ensures { ReadsRange (λ x. x) I64Kind key.now first row.old row.new result h.old.value h.new.value }
+    ensures read { ReadsRange (λ x. x) I64Kind key.now first row.old row.new result h.old.segment.value h.new.segment.value }
+    ensures marks { h.new.marks ≡ h.old.marks }
 {
     read_range::<i64>(alloc, h, key, first, row)
 }
@@ -114,7 +120,8 @@ pub extern "C" fn zx_read_u64s(
     first: u64,
     row: &mut [u64],
 ) -> u32
-    ensures { ReadsRange pos U64Kind key.now first row.old row.new result h.old.value h.new.value }
+    ensures read { ReadsRange pos U64Kind key.now first row.old row.new result h.old.segment.value h.new.segment.value }
+    ensures marks { h.new.marks ≡ h.old.marks }
 {
     read_range::<u64>(alloc, h, key, first, row)
 }
@@ -142,9 +149,10 @@ pub extern "C" fn zx_write_elements(
     first: u64,
     values: &Values<'_>,
 ) -> u32
-    ensures asked { Owes (or_else (key_wrong key.now) (row_wrong values.now)) result h.old.value h.new.value
+    ensures asked { Owes (or_else (key_wrong key.now) (row_wrong values.now)) result h.old.segment.value h.new.segment.value
         (λ s t. WritesRange s t (key_of key.now) (scalar_kind_in values.now.kind) first (row_of values.now) (answer_for result Done)) }
-    ensures kept { 1 ≤ result → h.new.value ≡ h.old.value }
+    ensures kept { 1 ≤ result → h.new.segment.value ≡ h.old.segment.value }
+    ensures marks { IsMarked result h.old.marks h.new.marks }
 {
     let (which, kind, mut segment) = passed!(enter_row(alloc, h, key, values));
     let answer = write_row(&mut segment, &which, first, kind, values);

@@ -29,10 +29,11 @@ pub extern "C" fn zx_measure(
     len: &mut u64,
     places: &mut u64,
 ) -> u32
-    ensures told { Reads (key_wrong key.now) result h.old.value h.new.value
+    ensures told { Reads (key_wrong key.now) result h.old.segment.value h.new.segment.value
         (λ s. (d : Directory) → StandsFor s.cut.bytes d
         → IsCoded (AreSizes len.new places.new) result (sizes_at d (key_of key.now))) }
     ensures results { 1 ≤ result → (len.new ≡ len.old) × (places.new ≡ places.old) }
+    ensures marks { h.new.marks ≡ h.old.marks }
 {
     let (which, segment) = passed!(enter(alloc, h, key));
     put(measure(&segment, &which, len, places), h, segment)
@@ -63,11 +64,12 @@ pub extern "C" fn zx_read_string(
     text: &mut [u8],
     len: &mut u64,
 ) -> u32
-    ensures told { Reads (key_wrong key.now) result h.old.value h.new.value
+    ensures told { Reads (key_wrong key.now) result h.old.segment.value h.new.segment.value
         (λ s. (d : Directory) → StandsFor s.cut.bytes d
         → Copies text.old text.new len.new result (bytes_at d (key_of key.now))) }
     ensures results { 1 ≤ result → text.new ≡ text.old }
     ensures length { 1 ≤ result → result ≢ 24 → len.new ≡ len.old }
+    ensures marks { h.new.marks ≡ h.old.marks }
 {
     let (which, segment) = passed!(enter(alloc, h, key));
     put(read_string(&segment, &which, text, len), h, segment)
@@ -96,11 +98,12 @@ pub extern "C" fn zx_read_text(
     text: &mut [u8],
     len: &mut u64,
 ) -> u32
-    ensures told { Reads (key_wrong key.now) result h.old.value h.new.value
+    ensures told { Reads (key_wrong key.now) result h.old.segment.value h.new.segment.value
         (λ s. (d : Directory) → StandsFor s.cut.bytes d
         → CopiesAnswer text.old text.new len.new result (step_of_kind s.mode d (key_of key.now) StringsKind (Get (key_of key.now) index)).0) }
     ensures results { 1 ≤ result → text.new ≡ text.old }
     ensures length { 1 ≤ result → result ≢ 24 → len.new ≡ len.old }
+    ensures marks { h.new.marks ≡ h.old.marks }
 {
     let (which, segment) = passed!(enter(alloc, h, key));
     put(read_text(&segment, &which, index, text, len), h, segment)

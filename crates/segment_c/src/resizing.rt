@@ -1,19 +1,20 @@
 //! Segments that become longer or shorter, and that move into other regions.
-ghost use Rattle.std.specs.Prelude.{◌≡◌, ◌<◌, ◌≤◌, ◌⊎◌, ◌+◌, IfOk, Some, if◌then◌else◌, length, min, true};
+ghost use Rattle.std.specs.Prelude.{◌≡◌, ◌<◌, ◌≤◌, ◌⊎◌, ◌+◌, IfOk, Some, false, if◌then◌else◌, length, min, true};
 ghost use Rattle.std.specs.declared.option.Option.TheVariants.{Some as Held};
-ghost use Rattle.grow_shrink.specs.Resized.{room_of, shrink_refusal};
+ghost use Rattle.grow_shrink.specs.Resized.{growth_refusal, room_of, shrink_refusal};
 ghost use Rattle.raw_region.specs.Regions.{IsCapacity};
 ghost use Rattle.segment_c.specs.Calls.{IsClosed, IsStopped, Opened};
 ghost use Rattle.segment_c.specs.Growing.{IsGrowthCode, IsLonger, IsShortOfRoom};
 ghost use Rattle.segment_c.specs.Opening.{capacity_wrong};
 ghost use Rattle.segment_c.specs.Resizing.{IsMoved, size_code};
+ghost use Rattle.segment_c.specs.Marked.{IsMarked};
 ghost use Rattle.segment_manager.specs.Directory.{Directory};
-ghost use Rattle.segment_manager.specs.blocks.Resized.{Resizes, shrunk};
+ghost use Rattle.segment_manager.specs.blocks.Resized.{Resizes, grown, shrunk};
 ghost use Rattle.segment_manager.specs.State.{IsSegment, StandsFor, State};
 
 use crate::calls::passed;
 use crate::codes::{BAD_GROWTH, BAD_SIZE, DONE, NO_MEMORY, READ_ONLY, SHORT_REGION, TOO_LARGE};
-use crate::handle::{Handle, put, take};
+use crate::handle::{Handle, put_changed, take};
 use grow_shrink::GrowError;
 use raw_region::{OutOfMemory, RawRegion, Window};
 use segment_manager::Segment;
@@ -34,13 +35,14 @@ pub fn is_capacity(bytes: u64) -> bool
 /// Makes the segment as short as its last block lets it be.
 #[unsafe(no_mangle)]
 pub extern "C" fn zx_shrink(alloc: Global, h: &mut Handle) -> u32
-    ensures closed { IsClosed 0 result h.old.value h.new.value }
-    ensures code { (s : State) → h.old.value ≡ Held s → (d : Directory) → StandsFor s.cut.bytes d → result ≡ size_code (shrink_refusal s.mode) }
-    ensures shrunk { (s : State) → h.old.value ≡ Held s → result ≡ 0 → Opened h.new.value (λ t. Resizes s t (λ d. shrunk d)) }
-    ensures kept { 1 ≤ result → h.new.value ≡ h.old.value }
+    ensures closed { IsClosed 0 result h.old.segment.value h.new.segment.value }
+    ensures code { (s : State) → h.old.segment.value ≡ Held s → (d : Directory) → StandsFor s.cut.bytes d → result ≡ size_code (shrink_refusal s.mode) }
+    ensures shrunk { (s : State) → h.old.segment.value ≡ Held s → result ≡ 0 → Opened h.new.segment.value (λ t. Resizes s t (λ d. shrunk d)) }
+    ensures kept { 1 ≤ result → h.new.segment.value ≡ h.old.segment.value }
+    ensures marks { IsMarked result h.old.marks h.new.marks }
 {
     let mut segment = passed!(take(alloc, h));
-    put(shrink(&mut segment), h, segment)
+    put_changed(shrink(&mut segment), h, segment)
 }
 
 /// The same of a segment.
@@ -68,20 +70,28 @@ fn code_of_growth(why: GrowError) -> u32
     }
 }
 
-/// Moves the segment to the front of a region of `capacity` bytes. Keys and handles stay good.
+/// Moves the segment to the front of a region of `capacity` bytes. Keys and handles stay good. One in memory that C lent
+/// stays there, with the code 27.
 #[unsafe(no_mangle)]
 pub extern "C" fn zx_relocate(alloc: Global, h: &mut Handle, capacity: u64) -> u32
-    ensures stopped { IsStopped (capacity_wrong capacity) result h.old.value h.new.value }
-    ensures closed { IsClosed (capacity_wrong capacity) result h.old.value h.new.value }
-    ensures moved { (s : State) → h.old.value ≡ Held s → result ≡ 0 → Opened h.new.value (λ t. IsMoved s t capacity) }
-    ensures why { (s : State) → capacity_wrong capacity ≡ 0 → h.old.value ≡ Held s → 1 ≤ result → ((result ≡ 27) × (capacity < length s.cut.bytes)) ⊎ ((result ≡ 26) × (length s.cut.bytes ≤ capacity)) }
-    ensures kept { 1 ≤ result → h.new.value ≡ h.old.value }
+    ensures stopped { IsStopped (capacity_wrong capacity) result h.old.segment.value h.new.segment.value }
+    ensures closed { IsClosed (capacity_wrong capacity) result h.old.segment.value h.new.segment.value }
+    ensures moved { (s : State) → h.old.segment.value ≡ Held s → result ≡ 0 → Opened h.new.segment.value (λ t. IsMoved s t capacity) }
+    ensures why { (s : State) → capacity_wrong capacity ≡ 0 → h.old.segment.value ≡ Held s → h.old.marks.is_lent ≡ false → 1 ≤ result → ((result ≡ 27) × (capacity < length s.cut.bytes)) ⊎ ((result ≡ 26) × (length s.cut.bytes ≤ capacity)) }
+    ensures lent { (s : State) → capacity_wrong capacity ≡ 0 → h.old.segment.value ≡ Held s → h.old.marks.is_lent ≡ true → result ≡ 27 }
+    ensures kept { 1 ≤ result → h.new.segment.value ≡ h.old.segment.value }
+    ensures marks { IsMarked result h.old.marks h.new.marks }
 {
     if !is_capacity(capacity) {
         return BAD_SIZE;
     }
     let mut segment = passed!(take(alloc, h));
-    put(relocate(alloc, &mut segment, capacity), h, segment)
+    let code = if h.marks.is_lent {
+        SHORT_REGION
+    } else {
+        relocate(alloc, &mut segment, capacity)
+    };
+    put_changed(code, h, segment)
 }
 
 /// The same of a segment.
@@ -102,7 +112,7 @@ fn relocate(alloc: Global, segment: &mut Segment, capacity: u64) -> u32
 }
 
 /// The same segment at the front of a region of its own of `capacity` bytes, which has room for it.
-fn copied(alloc: Global, segment: &Segment, capacity: u64) -> Result<Segment, OutOfMemory>
+pub fn copied(alloc: Global, segment: &Segment, capacity: u64) -> Result<Segment, OutOfMemory>
     requires capacity { IsCapacity capacity }
     requires room { length segment.now.cut.bytes ≤ capacity }
     ensures moved { IfOk result (λ copy. IsMoved segment.now copy capacity) }
@@ -121,16 +131,25 @@ const LARGEST: u64 = 1073741824;
 /// The fewest bytes of a segment with a block.
 const SMALLEST: u64 = 176;
 
-/// Makes the segment longer by `extra` bytes, which are free, in a larger region where its own has no room.
+/// Makes the segment longer by `extra` bytes, which are free, in a larger region where its own has no room. One in memory
+/// that C lent stays there, with the code 27 where that has no room.
 #[unsafe(no_mangle)]
 pub extern "C" fn zx_grow(alloc: Global, h: &mut Handle, extra: u64) -> u32
-    ensures closed { IsClosed 0 result h.old.value h.new.value }
-    ensures code { (s : State) → h.old.value ≡ Held s → (d : Directory) → StandsFor s.cut.bytes d → IsGrowthCode s.mode extra result d }
-    ensures grown { (s : State) → h.old.value ≡ Held s → result ≡ 0 → Opened h.new.value (λ t. IsLonger s t extra) }
-    ensures kept { 1 ≤ result → h.new.value ≡ h.old.value }
+    ensures closed { IsClosed 0 result h.old.segment.value h.new.segment.value }
+    ensures code { (s : State) → h.old.segment.value ≡ Held s → h.old.marks.is_lent ≡ false → (d : Directory) → StandsFor s.cut.bytes d → IsGrowthCode s.mode extra result d }
+    ensures grown { (s : State) → h.old.segment.value ≡ Held s → h.old.marks.is_lent ≡ false → result ≡ 0 → Opened h.new.segment.value (λ t. IsLonger s t extra) }
+    ensures lent_code { (s : State) → h.old.segment.value ≡ Held s → h.old.marks.is_lent ≡ true → (d : Directory) → StandsFor s.cut.bytes d → result ≡ size_code (growth_refusal s.mode d.size extra (room_of s.cut)) }
+    ensures lent_grown { (s : State) → h.old.segment.value ≡ Held s → h.old.marks.is_lent ≡ true → result ≡ 0 → Opened h.new.segment.value (λ t. Resizes s t (λ d. grown d extra)) }
+    ensures kept { 1 ≤ result → h.new.segment.value ≡ h.old.segment.value }
+    ensures marks { IsMarked result h.old.marks h.new.marks }
 {
     let mut segment = passed!(take(alloc, h));
-    put(grow(alloc, &mut segment, extra), h, segment)
+    let code = if h.marks.is_lent {
+        grow_here(&mut segment, extra)
+    } else {
+        grow(alloc, &mut segment, extra)
+    };
+    put_changed(code, h, segment)
 }
 
 /// The same of a segment.
@@ -153,8 +172,20 @@ fn grow(alloc: Global, segment: &mut Segment, extra: u64) -> u32
     }
 }
 
+/// The same of a segment whose region C lent: it stays there.
+fn grow_here(segment: &mut Segment, extra: u64) -> u32
+    ensures code { (d : Directory) → StandsFor segment.old.cut.bytes d → result ≡ size_code (growth_refusal segment.old.mode d.size extra (room_of segment.old.cut)) }
+    ensures grown { result ≡ 0 → Resizes segment.old segment.new (λ d. grown d extra) }
+    ensures kept { 1 ≤ result → segment.new ≡ segment.old }
+{
+    match grow_shrink::grow(segment, extra) {
+        Ok(()) => DONE,
+        Err(why) => code_of_growth(why),
+    }
+}
+
 /// The number of bytes of a segment, which denote a directory.
-fn size_of(segment: &Segment) -> u64
+pub fn size_of(segment: &Segment) -> u64
     ensures size { result ≡ length segment.now.cut.bytes }
     ensures denotes { IsSegment segment.now.cut.bytes }
 {

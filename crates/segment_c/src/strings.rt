@@ -5,6 +5,7 @@ ghost use Rattle.seg_types.specs.Commands.{Append, Assign, Insert, Push, Quoted,
 ghost use Rattle.segment_c.specs.Calls.{KeepsRefused, Owes};
 ghost use Rattle.segment_c.specs.Codes.{answer_for};
 ghost use Rattle.segment_c.specs.Passed.{key_of, key_wrong};
+ghost use Rattle.segment_c.specs.Marked.{IsMarked};
 ghost use Rattle.segment_manager.specs.Answers.{Done};
 ghost use Rattle.segment_manager.specs.State.{IsStepOfKind};
 
@@ -21,9 +22,10 @@ pub extern "C" fn zx_assign_string(
     key: &ObjectKey<'_>,
     text: &[u8],
 ) -> u32
-    ensures asked { Owes (key_wrong key.now) result h.old.value h.new.value
+    ensures asked { Owes (key_wrong key.now) result h.old.segment.value h.new.segment.value
         (λ s t. IsStepOfKind s t (key_of key.now) StringKind (Assign (key_of key.now) (Quoted text.now ∷ [])) (answer_for result Done)) }
-    ensures kept { 1 ≤ result → h.new.value ≡ h.old.value }
+    ensures kept { 1 ≤ result → h.new.segment.value ≡ h.old.segment.value }
+    ensures marks { IsMarked result h.old.marks h.new.marks }
 {
     make_change(alloc, h, key, Change::AssignText(text))
 }
@@ -31,9 +33,10 @@ pub extern "C" fn zx_assign_string(
 /// Puts bytes behind those of the string of a key.
 #[unsafe(no_mangle)]
 pub extern "C" fn zx_append(alloc: Global, h: &mut Handle, key: &ObjectKey<'_>, text: &[u8]) -> u32
-    ensures asked { Owes (key_wrong key.now) result h.old.value h.new.value
+    ensures asked { Owes (key_wrong key.now) result h.old.segment.value h.new.segment.value
         (λ s t. IsStepOfKind s t (key_of key.now) StringKind (Append (key_of key.now) text.now) (answer_for result Done)) }
-    ensures kept { 1 ≤ result → h.new.value ≡ h.old.value }
+    ensures kept { 1 ≤ result → h.new.segment.value ≡ h.old.segment.value }
+    ensures marks { IsMarked result h.old.marks h.new.marks }
 {
     make_change(alloc, h, key, Change::Append(text))
 }
@@ -47,9 +50,10 @@ pub extern "C" fn zx_set_text(
     index: u64,
     text: &[u8],
 ) -> u32
-    ensures asked { Owes (key_wrong key.now) result h.old.value h.new.value
+    ensures asked { Owes (key_wrong key.now) result h.old.segment.value h.new.segment.value
         (λ s t. IsStepOfKind s t (key_of key.now) StringsKind (Set (key_of key.now) index (Quoted text.now)) (answer_for result Done)) }
-    ensures kept { 1 ≤ result → h.new.value ≡ h.old.value }
+    ensures kept { 1 ≤ result → h.new.segment.value ≡ h.old.segment.value }
+    ensures marks { IsMarked result h.old.marks h.new.marks }
 {
     make_change(alloc, h, key, Change::SetText(index, text))
 }
@@ -62,9 +66,10 @@ pub extern "C" fn zx_push_text(
     key: &ObjectKey<'_>,
     text: &[u8],
 ) -> u32
-    ensures asked { Owes (key_wrong key.now) result h.old.value h.new.value
+    ensures asked { Owes (key_wrong key.now) result h.old.segment.value h.new.segment.value
         (λ s t. IsStepOfKind s t (key_of key.now) StringsKind (Push (key_of key.now) (Quoted text.now)) (answer_for result Done)) }
-    ensures refused { KeepsRefused result h.old.value h.new.value }
+    ensures refused { KeepsRefused result h.old.segment.value h.new.segment.value }
+    ensures marks { IsMarked result h.old.marks h.new.marks }
 {
     make_change(alloc, h, key, Change::PushText(text))
 }
@@ -78,9 +83,10 @@ pub extern "C" fn zx_insert_text(
     index: u64,
     text: &[u8],
 ) -> u32
-    ensures asked { Owes (key_wrong key.now) result h.old.value h.new.value
+    ensures asked { Owes (key_wrong key.now) result h.old.segment.value h.new.segment.value
         (λ s t. IsStepOfKind s t (key_of key.now) StringsKind (Insert (key_of key.now) index (Quoted text.now)) (answer_for result Done)) }
-    ensures refused { KeepsRefused result h.old.value h.new.value }
+    ensures refused { KeepsRefused result h.old.segment.value h.new.segment.value }
+    ensures marks { IsMarked result h.old.marks h.new.marks }
 {
     make_change(alloc, h, key, Change::InsertText(index, text))
 }
@@ -93,9 +99,10 @@ pub extern "C" fn zx_assign_texts(
     key: &ObjectKey<'_>,
     texts: &[&[u8]],
 ) -> u32
-    ensures asked { Owes (key_wrong key.now) result h.old.value h.new.value
+    ensures asked { Owes (key_wrong key.now) result h.old.segment.value h.new.segment.value
         (λ s t. IsStepOfKind s t (key_of key.now) StringsKind (Assign (key_of key.now) (map Quoted (map (λ text. text.now) texts.now))) (answer_for result Done)) }
-    ensures refused { KeepsRefused result h.old.value h.new.value }
+    ensures refused { KeepsRefused result h.old.segment.value h.new.segment.value }
+    ensures marks { IsMarked result h.old.marks h.new.marks }
 {
     make_change(alloc, h, key, Change::AssignTexts(texts))
 }

@@ -7,6 +7,7 @@ ghost use Rattle.segment_c.specs.Calls.{IsAsked, KeepsRefused, Owes};
 ghost use Rattle.segment_c.specs.Codes.{answer_for};
 ghost use Rattle.segment_c.specs.Passed.{count_wrong, entry_of, entry_wrong, key_of, key_wrong, many_of, new_of};
 ghost use Rattle.segment_c.specs.Passed.{new_wrong, numbers_of, or_else, row_count, row_of, row_wrong, scalar_kind_in};
+ghost use Rattle.segment_c.specs.Marked.{IsMarked};
 ghost use Rattle.segment_manager.specs.Answers.{Done, Found, Made};
 ghost use Rattle.segment_manager.specs.objects.Found.{pair_answer};
 ghost use Rattle.segment_manager.specs.Keeping.{HasKey, KeepsWhere};
@@ -75,10 +76,11 @@ pub extern "C" fn zx_construct_vector(
     values: &Values<'_>,
     handle: &mut u64,
 ) -> u32
-    ensures asked { Owes (or_else (row_wrong values.now) (new_wrong key.now (VectorOf (scalar_kind_in values.now.kind)))) result h.old.value h.new.value
+    ensures asked { Owes (or_else (row_wrong values.now) (new_wrong key.now (VectorOf (scalar_kind_in values.now.kind)))) result h.old.segment.value h.new.segment.value
         (λ s t. IsStep s t (Construct (new_of key.now (VectorOf (scalar_kind_in values.now.kind))) (Elements (scalar_kind_in values.now.kind) (row_of values.now))) (answer_for result (Made handle.new))) }
-    ensures refused { KeepsRefused result h.old.value h.new.value }
+    ensures refused { KeepsRefused result h.old.segment.value h.new.segment.value }
     ensures results { 1 ≤ result → handle.new ≡ handle.old }
+    ensures marks { IsMarked result h.old.marks h.new.marks }
 {
     let kind = passed!(values.scalar_kind());
     let (which, mut segment) = passed!(enter_new(alloc, h, key, Kind::Vector(kind)));
@@ -96,12 +98,13 @@ pub extern "C" fn zx_find_or_construct_vector(
     handle: &mut u64,
     count_found: &mut u32,
 ) -> u32
-    ensures asked { Owes (or_else (row_wrong values.now) (entry_wrong key.now (VectorOf (scalar_kind_in values.now.kind)))) result h.old.value h.new.value
+    ensures asked { Owes (or_else (row_wrong values.now) (entry_wrong key.now (VectorOf (scalar_kind_in values.now.kind)))) result h.old.segment.value h.new.segment.value
         (λ s t. IsStep s t (FindOrConstruct (entry_of key.now (VectorOf (scalar_kind_in values.now.kind))) (Elements (scalar_kind_in values.now.kind) (row_of values.now))) (answer_for result (Found handle.new count_found.new))) }
-    ensures found { IsAsked (or_else (row_wrong values.now) (entry_wrong key.now (VectorOf (scalar_kind_in values.now.kind)))) result h.old.value h.new.value
+    ensures found { IsAsked (or_else (row_wrong values.now) (entry_wrong key.now (VectorOf (scalar_kind_in values.now.kind)))) result h.old.segment.value h.new.segment.value
         (λ s t. KeepsWhere s t (HasKey (entry_of key.now (VectorOf (scalar_kind_in values.now.kind))))) }
-    ensures refused { KeepsRefused result h.old.value h.new.value }
+    ensures refused { KeepsRefused result h.old.segment.value h.new.segment.value }
     ensures results { 1 ≤ result → (handle.new ≡ handle.old) × (count_found.new ≡ count_found.old) }
+    ensures marks { IsMarked result h.old.marks h.new.marks }
 {
     let kind = passed!(values.scalar_kind());
     let (which, mut segment) = passed!(enter_entry(alloc, h, key, Kind::Vector(kind)));
@@ -117,9 +120,10 @@ pub extern "C" fn zx_assign(
     key: &ObjectKey<'_>,
     values: &Values<'_>,
 ) -> u32
-    ensures asked { Owes (or_else (key_wrong key.now) (row_wrong values.now)) result h.old.value h.new.value
+    ensures asked { Owes (or_else (key_wrong key.now) (row_wrong values.now)) result h.old.segment.value h.new.segment.value
         (λ s t. IsStepOfKind s t (key_of key.now) (VectorOf (scalar_kind_in values.now.kind)) (Assign (key_of key.now) (map (literal_of (scalar_kind_in values.now.kind)) (row_of values.now))) (answer_for result Done)) }
-    ensures kept { 1 ≤ result → h.new.value ≡ h.old.value }
+    ensures kept { 1 ≤ result → h.new.segment.value ≡ h.old.segment.value }
+    ensures marks { IsMarked result h.old.marks h.new.marks }
 {
     let (which, kind, mut segment) = passed!(enter_row(alloc, h, key, values));
     done(assign_row(&mut segment, &which, kind, values), h, segment)
@@ -163,10 +167,11 @@ pub extern "C" fn zx_construct_array(
     values: &Values<'_>,
     handle: &mut u64,
 ) -> u32
-    ensures asked { Owes (or_else (row_wrong values.now) (or_else (count_wrong (row_count values.now)) (new_wrong key.now (ScalarOf (scalar_kind_in values.now.kind))))) result h.old.value h.new.value
+    ensures asked { Owes (or_else (row_wrong values.now) (or_else (count_wrong (row_count values.now)) (new_wrong key.now (ScalarOf (scalar_kind_in values.now.kind))))) result h.old.segment.value h.new.segment.value
         (λ s t. IsStep s t (ConstructIt (new_of key.now (ScalarOf (scalar_kind_in values.now.kind))) (scalar_kind_in values.now.kind) (row_count values.now) (row_of values.now)) (answer_for result (Made handle.new))) }
-    ensures refused { KeepsRefused result h.old.value h.new.value }
+    ensures refused { KeepsRefused result h.old.segment.value h.new.segment.value }
     ensures results { 1 ≤ result → handle.new ≡ handle.old }
+    ensures marks { IsMarked result h.old.marks h.new.marks }
 {
     let kind = passed!(array_kind(values));
     let (which, mut segment) = passed!(enter_new(alloc, h, key, Kind::Scalar(kind)));

@@ -1,8 +1,19 @@
 //! The words for the codes.
 ghost use Rattle.std.specs.Prelude.{◌≡◌};
-ghost use Rattle.segment_c.specs.Words.{code_words};
+ghost use Rattle.segment_c.specs.Words.{code_words, version};
 
 use seg_types::Refusal;
+
+/// The version of the library: 10000 for each major one, 100 for each minor one, and 1 for each patch.
+const VERSION: u32 = 900;
+
+/// The version of the library, as a number.
+#[unsafe(no_mangle)]
+pub extern "C" fn zx_version() -> u32
+    ensures { result ≡ version }
+{
+    VERSION
+}
 
 /// The words for a code, which stay as long as the program runs; none where it is no code.
 #[unsafe(no_mangle)]

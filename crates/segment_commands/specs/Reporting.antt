@@ -8,11 +8,12 @@ use Rattle.segment_cli.specs.declared.faults.SessionFault.TheVariants.{WriteFaul
 use Rattle.segment_commands.specs.declared.program_faults.ProgramFault.{ProgramFault}
 use Rattle.segment_commands.specs.declared.program_faults.ProgramFault.TheVariants.{Session}
 use Rattle.segment_commands.specs.declared.reporting.Report.{Report}
-use Rattle.segment_commands.specs.declared.reporting.Report.TheVariants.{Figures, Picture, Dump, Capacities}
+use Rattle.segment_commands.specs.declared.reporting.Report.TheVariants.{Figures, Picture, Page, Dump, Capacities}
 use Rattle.segment_disk.specs.Events.{Event}
 use Rattle.segment_dump.specs.Capacities.{capacities, capacities_text}
 use Rattle.segment_dump.specs.Items.{portable}
 use Rattle.segment_dump.specs.Texts.{dump_text}
+use Rattle.segment_report.specs.Page.{page_of}
 use Rattle.segment_report.specs.Picture.{picture_of}
 use Rattle.segment_report.specs.Stat.{stat_text}
 use Rattle.segment_commands.specs.Commands.{IsUnfit}
@@ -23,6 +24,7 @@ use Rattle.segment_commands.specs.Telling.{Tells}
 abbrev pub text_of : Report → Directory → List ℕ
 text_of Figures = stat_text
 text_of Picture = picture_of
+text_of Page = page_of
 text_of Dump = λ d. dump_text d.size (portable d)
 text_of Capacities = λ d. dump_text d.size (portable d) ++ capacities_text (capacities d)
 

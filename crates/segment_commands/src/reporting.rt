@@ -6,6 +6,7 @@ ghost use Rattle.raw_region.specs.Device.{Writes};
 ghost use Rattle.segment_dump.specs.Capacities.{capacities, capacities_text};
 ghost use Rattle.segment_dump.specs.Items.{portable};
 ghost use Rattle.segment_dump.specs.Texts.{dump_text};
+ghost use Rattle.segment_report.specs.Page.{page_of};
 ghost use Rattle.segment_report.specs.Picture.{picture_of};
 ghost use Rattle.segment_report.specs.Stat.{stat_text};
 ghost use Rattle.segment_commands.specs.Reporting.{IsReport, TellsOf, text_of};
@@ -25,6 +26,8 @@ enum Report {
     Figures,
     /// Its picture.
     Picture,
+    /// A page for a browser.
+    Page,
     /// All that it holds.
     Dump,
     /// All that it holds, and behind it the capacities of what has one.
@@ -40,6 +43,7 @@ fn write_report<O: Output>(out: &mut O, segment: &Segment, what: Report) -> Resu
     match what {
         Report::Figures => segment_report::stat(segment, out),
         Report::Picture => segment_report::draw(segment, out),
+        Report::Page => segment_report::draw_page(segment, out),
         Report::Dump => segment_dump::dump(segment, out),
         Report::Capacities => segment_dump::dump_with_capacities(segment, out),
     }
@@ -104,6 +108,24 @@ pub fn draw<D: Disk, O: Output>(
     ensures { IsReport D.step disk.old disk.new path.now O.history O.flushes out.old out.new picture_of result }
 {
     tell_of_file(alloc, disk, path, out, Report::Picture)
+}
+
+/// Shows the segment in a file, which is opened for reading, as a page for a browser: its picture, its figures, and its
+/// objects as a table.
+///
+/// # Errors
+///
+/// Those of [`check`](crate::check).
+pub fn draw_page<D: Disk, O: Output>(
+    alloc: Global,
+    disk: &mut D,
+    path: &str,
+    out: &mut O,
+) -> Result<(), ProgramFault>
+    requires { (O.history out.old).failures < 2 ^ 64 - 1 }
+    ensures { IsReport D.step disk.old disk.new path.now O.history O.flushes out.old out.new page_of result }
+{
+    tell_of_file(alloc, disk, path, out, Report::Page)
 }
 
 /// Says all that the segment in a file holds as text, line by line. The file is opened for reading.

@@ -6,7 +6,6 @@ mod beside;
 mod disk;
 mod durable;
 mod host;
-mod limits;
 mod locks;
 mod numbering;
 mod outlet;

@@ -1,24 +1,20 @@
 //! Files of the system that keep no place for long runs of zeros.
-ghost use Rattle.std.specs.Prelude.{◌≡◌, ◌<◌, ◌≤◌, length, take, true, false, IfOk};
+ghost use Rattle.std.specs.Prelude.{◌≡◌, ◌<◌, ◌≤◌, length, take, true, false};
 ghost use Rattle.raw_region.specs.Memory.{AreZero, bytes_of};
 
-use crate::limits::longest_file;
 use std::fs::{File, OpenFile};
-use std::io::{self, ErrorKind, Seek, SeekFrom, Write};
+use std::io::{self, Seek, SeekFrom, Write};
 
 /// The most bytes that are passed over or written together as one piece.
 const PIECE: usize = 65_536;
 
 /// A file that is written from its first byte on. Where it is a file of a disk that was empty, pieces of zeros are
-/// passed over: what was never written reads as zeros, and takes no place. What would make it longer than the system lets
-/// it be is an error, since such a write ends the process.
+/// passed over: what was never written reads as zeros, and takes no place.
 #[derive(Drop)]
 pub struct SparseFile {
     file: File,
     /// Whether pieces may be passed over.
     has_holes: bool,
-    /// How many bytes it may still take.
-    room: u64,
 }
 
 impl SparseFile {
@@ -28,12 +24,7 @@ impl SparseFile {
             Ok(found) => found.is_file() && found.len() == 0,
             Err(_) => false,
         };
-        let room = if has_holes { longest_file() } else { u64::MAX };
-        SparseFile {
-            file,
-            has_holes,
-            room,
-        }
+        SparseFile { file, has_holes }
     }
 
     /// Ends the file behind all that it took: what was passed over last is a part of it.
@@ -44,18 +35,6 @@ impl SparseFile {
         let mut file = &self.file;
         let len = file.stream_position()?;
         self.file.set_len(len)
-    }
-
-    /// Passes a piece over, or writes it.
-    fn put(&mut self, piece: &[u8]) -> io::Result<usize>
-        ensures { IfOk result (λ count. count ≤ length piece.now) }
-    {
-        if self.has_holes && are_zeros(piece) {
-            self.file.seek(SeekFrom::Current(piece.len() as i64))?;
-            Ok(piece.len())
-        } else {
-            self.file.write(piece)
-        }
     }
 
     /// The file itself.
@@ -88,12 +67,12 @@ fn are_zeros(bytes: &[u8]) -> bool
 impl Write for SparseFile {
     fn write(&mut self, bytes: &[u8]) -> io::Result<usize> {
         let front = front_piece(bytes);
-        if front.len() as u64 > self.room {
-            return Err(io::Error::from(ErrorKind::FileTooLarge));
+        if self.has_holes && are_zeros(front) {
+            self.file.seek(SeekFrom::Current(front.len() as i64))?;
+            Ok(front.len())
+        } else {
+            self.file.write(front)
         }
-        let count = self.put(front)?;
-        self.room = self.room.saturating_sub(count as u64);
-        Ok(count)
     }
 
     fn flush(&mut self) -> io::Result<()> {

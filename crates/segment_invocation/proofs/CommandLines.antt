@@ -12,13 +12,13 @@ use Rattle.clap.specs.Takes.{built_takes, default_passes, entered_passes, is_val
 use Rattle.clap.specs.Faults.{built_fault, fault_of, is_simple_and_free}
 use Rattle.clap.specs.declared.error.kind.ErrorKind.TheVariants.{DisplayVersion}
 use Rattle.segment_lang.specs.Words.{between, is_digit, is_numeral, number_after, number_of}
-use Rattle.segment_invocation.specs.Invocations.{Asked, create, run, check, explain, grow, shrink, migrate, stat, draw, dump, dump_capacities, load, lint, language, version, IsModePart, IsSizePart, IsWritten, RunWords, asked_in, asked_of, asked_of_run, command_line, flag_words, is_path, is_set, mode_called, mode_of, mode_word, run_sized, saving_of, size_of, wants_size}
+use Rattle.segment_invocation.specs.Invocations.{Asked, create, run, check, explain, grow, shrink, migrate, stat, draw, draw_page, dump, dump_capacities, load, lint, language, version, IsModePart, IsSizePart, IsWritten, RunWords, asked_in, asked_of, asked_of_run, command_line, flag_words, is_path, is_set, mode_called, mode_of, mode_word, run_sized, saving_of, size_of, wants_size}
 use Rattle.segment_invocation.specs.declared.invocations.ModeName.{ModeName}
 use Rattle.segment_invocation.specs.declared.invocations.ModeName.TheVariants.{CreateOnly, OpenOnly, OpenOrCreate, OpenReadOnly, OpenCopyOnWrite}
 use Rattle.segment_invocation.specs.declared.invocations.Saving.{Saving}
 use Rattle.segment_invocation.specs.declared.invocations.Saving.TheVariants.{InPlace, Replacing}
 use Rattle.segment_invocation.proofs.PlainWords.{IsPlain}
-use Rattle.segment_invocation.proofs.Leaves.{IsRead, saving_word, truth_word, capacities-asks, capacities-passes, check-asks, check-passes, dump-asks, dump-passes, explain-asks, explain-passes, file-passes, file-rows, load-asks, load-passes, number-passes, number-rows, run-both, run-file, run-mode, run-size, sized-asks, sized-passes}
+use Rattle.segment_invocation.proofs.Leaves.{IsRead, saving_word, truth_word, capacities-asks, capacities-passes, check-asks, check-passes, draw-asks, draw-passes, dump-asks, dump-passes, explain-asks, explain-passes, file-passes, file-rows, html-asks, html-passes, load-asks, load-passes, number-passes, number-rows, run-both, run-file, run-mode, run-size, sized-asks, sized-passes}
 
 -- ---- words that are no options
 
@@ -114,10 +114,11 @@ behind-stat f p = record {
 
 behind-draw : (f : Text) → IsPlain f → Behind (codes "draw" ∷ f ∷ []) (draw f)
 unfolding clap_on_literals
-behind-draw f p = record {
-  takes = ap (λ b. b && true) (file-passes (codes "draw") f p);
-  asks = ap (asked_in (codes "draw")) (file-rows (codes "draw") f p);
-}
+behind-draw f p = record { takes = ap (λ b. b && true) (draw-passes f p); asks = draw-asks f p }
+
+behind-page : (f : Text) → IsPlain f → Behind (codes "draw" ∷ f ∷ codes "--html" ∷ []) (draw_page f)
+unfolding clap_on_literals
+behind-page f p = record { takes = ap (λ b. b && true) (html-passes f p); asks = html-asks f p }
 
 behind-dump : (f : Text) → IsPlain f → Behind (codes "dump" ∷ f ∷ []) (dump f)
 unfolding clap_on_literals
@@ -258,6 +259,7 @@ behind words (shrink f) (p, e) = inl (rw e (behind-shrink f (path-plain f p)))
 behind words (migrate f) (p, e) = inl (rw e (behind-migrate f (path-plain f p)))
 behind words (stat f) (p, e) = inl (rw e (behind-stat f (path-plain f p)))
 behind words (draw f) (p, e) = inl (rw e (behind-draw f (path-plain f p)))
+behind words (draw_page f) (p, e) = inl (rw e (behind-page f (path-plain f p)))
 behind words (dump f) (p, e) = inl (rw e (behind-dump f (path-plain f p)))
 behind words (dump_capacities f) (p, e) = inl (rw e (behind-capacities f (path-plain f p)))
 behind words (load f None) (p, e) = inl (rw e (behind-load f (path-plain f p)))

@@ -9,7 +9,7 @@ use Rattle.clap.specs.Simple.{Shape, built_leaf, inherited}
 use Rattle.clap.specs.Takes.{default_passes, is_valid, level_passes, settle_passes, turn_passes, walk_passes}
 use Rattle.clap.specs.declared.builder.value_parser.Reading.TheVariants as reading
 use Rattle.clap.specs.declared.parser.matches.ValueSource.TheVariants.{CommandLine, DefaultValue}
-use Rattle.segment_invocation.specs.Invocations.{RunWords, asked_check, asked_dump, asked_load, check, check_command, dump, dump_capacities, dump_command, explain, file_command, flag_words, load, load_command, number_command, program, run_command, run_words, size_of}
+use Rattle.segment_invocation.specs.Invocations.{RunWords, asked_check, asked_draw, asked_dump, asked_load, check, check_command, draw, draw_command, draw_page, dump, dump_capacities, dump_command, explain, file_command, flag_words, load, load_command, number_command, program, run_command, run_words, size_of}
 use Rattle.segment_invocation.specs.declared.invocations.Saving.{Saving}
 use Rattle.segment_invocation.specs.declared.invocations.Saving.TheVariants.{InPlace, Replacing}
 use Rattle.segment_invocation.proofs.PlainWords.{IsPlain, plain_step, turn-plain, walked-plain}
@@ -97,6 +97,34 @@ unfolding clap_on_literals
 explain-passes f p =
     let s : Shape = leaf check_command in
     ap₂ (passes_at s) (ap₂ (λ a b. a && (b && true)) (turn-plain s nothing_held idle 1 f p) (ap (λ (w : Walk). turn_passes s [] w (codes "--explain")) (check-walk f p))) (explain-walk f p)
+
+-- ---- a file, which may have `--html` behind it
+
+draw-walk : (f : Text) → IsPlain f → walk (leaf draw_command).rules [] nothing_held (f ∷ []) ≡ plain_step (leaf draw_command).rules (walk_from nothing_held) f
+draw-walk f p = walked-plain (leaf draw_command).rules nothing_held idle 1 f p
+
+pub draw-asks : (f : Text) → IsPlain f → asked_draw (rows_after (leaf draw_command).rules [] (f ∷ [])) ≡ Some (draw f)
+unfolding clap_on_literals
+draw-asks f p = ap (λ (w : Walk). asked_draw (finished (leaf draw_command).rules w.held)) (draw-walk f p)
+
+pub draw-passes : (f : Text) → IsPlain f → level_passes (leaf draw_command) [] nothing_held (f ∷ []) false ≡ true
+unfolding clap_on_literals
+draw-passes f p = ap₂ (passes_at (leaf draw_command)) (ap (λ b. b && true) (turn-plain (leaf draw_command) nothing_held idle 1 f p)) (draw-walk f p)
+
+html-walk : (f : Text) → IsPlain f
+    → walk (leaf draw_command).rules [] nothing_held (f ∷ codes "--html" ∷ [])
+    ≡ walked (leaf draw_command).rules [] (plain_step (leaf draw_command).rules (walk_from nothing_held) f) (codes "--html")
+html-walk f p = ap (λ (w : Walk). walked (leaf draw_command).rules [] w (codes "--html")) (draw-walk f p)
+
+pub html-asks : (f : Text) → IsPlain f → asked_draw (rows_after (leaf draw_command).rules [] (f ∷ codes "--html" ∷ [])) ≡ Some (draw_page f)
+unfolding clap_on_literals
+html-asks f p = ap (λ (w : Walk). asked_draw (finished (leaf draw_command).rules w.held)) (html-walk f p)
+
+pub html-passes : (f : Text) → IsPlain f → level_passes (leaf draw_command) [] nothing_held (f ∷ codes "--html" ∷ []) false ≡ true
+unfolding clap_on_literals
+html-passes f p =
+    let s : Shape = leaf draw_command in
+    ap₂ (passes_at s) (ap₂ (λ a b. a && (b && true)) (turn-plain s nothing_held idle 1 f p) (ap (λ (w : Walk). turn_passes s [] w (codes "--html")) (draw-walk f p))) (html-walk f p)
 
 -- ---- a file, which may have `--capacities` behind it
 

@@ -12,7 +12,7 @@ use Rattle.clap.specs.declared.error.kind.ErrorKind.TheVariants.{DisplayVersion}
 use Rattle.clap.specs.declared.builder.action.ArgAction.TheVariants.{Set, SetTrue}
 use Rattle.segment_lang.specs.Words.{number_of}
 use Rattle.segment_invocation.specs.declared.invocations.Invocation.{Invocation}
-use Rattle.segment_invocation.specs.declared.invocations.Invocation.TheVariants.{Create, Run, Check, Explain, Grow, Shrink, Migrate, Stat, Draw, Dump, DumpCapacities, Load, Lint, Language, Version}
+use Rattle.segment_invocation.specs.declared.invocations.Invocation.TheVariants.{Create, Run, Check, Explain, Grow, Shrink, Migrate, Stat, Draw, DrawPage, Dump, DumpCapacities, Load, Lint, Language, Version}
 use Rattle.segment_invocation.specs.declared.invocations.ModeName.{ModeName}
 use Rattle.segment_invocation.specs.declared.invocations.ModeName.TheVariants.{CreateOnly, OpenOnly, OpenOrCreate, OpenReadOnly, OpenCopyOnWrite}
 use Rattle.segment_invocation.specs.declared.invocations.Saving.{Saving}
@@ -52,6 +52,9 @@ number_command name = taking name (operand (codes "file") ∷ operand (codes "nu
 abbrev pub check_command : Shape
 check_command = taking (codes "check") (operand (codes "file") ∷ flag (codes "explain") ∷ [])
 
+abbrev pub draw_command : Shape
+draw_command = taking (codes "draw") (operand (codes "file") ∷ flag (codes "html") ∷ [])
+
 abbrev pub dump_command : Shape
 dump_command = taking (codes "dump") (operand (codes "file") ∷ flag (codes "capacities") ∷ [])
 
@@ -66,7 +69,7 @@ run_command = taking (codes "run") (run_options ++ (flag (codes "replace") ∷ f
 
 abbrev pub subcommands : List Shape
 subcommands = number_command (codes "create") ∷ run_command ∷ check_command ∷ number_command (codes "grow") ∷ file_command (codes "shrink")
-    ∷ file_command (codes "migrate") ∷ file_command (codes "stat") ∷ file_command (codes "draw") ∷ dump_command ∷ load_command ∷ taking (codes "lint") [] ∷ taking (codes "language") [] ∷ []
+    ∷ file_command (codes "migrate") ∷ file_command (codes "stat") ∷ draw_command ∷ dump_command ∷ load_command ∷ taking (codes "lint") [] ∷ taking (codes "language") [] ∷ []
 
 abbrev pub command_line : App
 command_line = fold with_subcommand program subcommands
@@ -85,6 +88,7 @@ pub data Asked : Type 0 where
   migrate : Text → Asked
   stat : Text → Asked
   draw : Text → Asked
+  draw_page : Text → Asked
   dump : Text → Asked
   dump_capacities : Text → Asked
   load : Text → Option ℕ → Asked
@@ -102,6 +106,7 @@ asked_by (Shrink file) = shrink file.now
 asked_by (Migrate file) = migrate file.now
 asked_by (Stat file) = stat file.now
 asked_by (Draw file) = draw file.now
+asked_by (DrawPage file) = draw_page file.now
 asked_by (Dump file) = dump file.now
 asked_by (DumpCapacities file) = dump_capacities file.now
 asked_by (Load file size) = load file.now size
@@ -167,6 +172,10 @@ with_number ask words = with_file (λ file. option_map (ask file) (option_and_th
 abbrev pub asked_check : List Row → Option Asked
 asked_check words = with_file (λ file. Some (if is_set (first_of (codes "explain") words) then explain file else check file)) words
 
+-- a picture's file, and its flag --html
+abbrev pub asked_draw : List Row → Option Asked
+asked_draw words = with_file (λ file. Some (if is_set (first_of (codes "html") words) then draw_page file else draw file)) words
+
 -- a dump's file, and its flag --capacities
 abbrev pub asked_dump : List Row → Option Asked
 asked_dump words = with_file (λ file. Some (if is_set (first_of (codes "capacities") words) then dump_capacities file else dump file)) words
@@ -205,7 +214,7 @@ asked_in subcommand words =
     else if bytes_eq subcommand (codes "shrink") then with_file (λ file. Some (shrink file)) words
     else if bytes_eq subcommand (codes "migrate") then with_file (λ file. Some (migrate file)) words
     else if bytes_eq subcommand (codes "stat") then with_file (λ file. Some (stat file)) words
-    else if bytes_eq subcommand (codes "draw") then with_file (λ file. Some (draw file)) words
+    else if bytes_eq subcommand (codes "draw") then asked_draw words
     else if bytes_eq subcommand (codes "dump") then asked_dump words
     else if bytes_eq subcommand (codes "load") then asked_load words
     else if bytes_eq subcommand (codes "lint") then Some lint
@@ -323,6 +332,7 @@ IsWritten (shrink file) words = IsTrue (is_path file) × (words ≡ codes "shrin
 IsWritten (migrate file) words = IsTrue (is_path file) × (words ≡ codes "migrate" ∷ file ∷ [])
 IsWritten (stat file) words = IsTrue (is_path file) × (words ≡ codes "stat" ∷ file ∷ [])
 IsWritten (draw file) words = IsTrue (is_path file) × (words ≡ codes "draw" ∷ file ∷ [])
+IsWritten (draw_page file) words = IsTrue (is_path file) × (words ≡ codes "draw" ∷ file ∷ codes "--html" ∷ [])
 IsWritten (dump file) words = IsTrue (is_path file) × (words ≡ codes "dump" ∷ file ∷ [])
 IsWritten (dump_capacities file) words = IsTrue (is_path file) × (words ≡ codes "dump" ∷ file ∷ codes "--capacities" ∷ [])
 IsWritten (load file None) words = IsTrue (is_path file) × (words ≡ codes "load" ∷ file ∷ [])

@@ -140,6 +140,7 @@ fn read_filed<'a>(
         "shrink" => Ok(Invocation::Shrink(file)),
         "migrate" => Ok(Invocation::Migrate(file)),
         "stat" => Ok(Invocation::Stat(file)),
+        "draw" if is_set(words, "html") => Ok(Invocation::DrawPage(file)),
         "draw" => Ok(Invocation::Draw(file)),
         "dump" if is_set(words, "capacities") => Ok(Invocation::DumpCapacities(file)),
         "dump" => Ok(Invocation::Dump(file)),

@@ -159,6 +159,12 @@ const EXPLAIN: Word = Word::Flag(
     "Where FILE holds no segment, tells in words why, and at which byte, from 0 on, that shows",
 );
 
+/// The option of a picture.
+const HTML: Word = Word::Flag(
+    "html",
+    "Prints a page for a browser: the picture, the figures of stat, and the objects as a table",
+);
+
 /// What a dump has behind its end.
 const CAPACITIES: Word = Word::Flag(
     "capacities",
@@ -192,7 +198,7 @@ static COMMANDS: [Row; 12] = [
     ("shrink", SHRINK, None, &[FILE, VERBOSE]),
     ("migrate", MIGRATE, None, &[FILE, VERBOSE]),
     ("stat", STAT, None, &[FILE, VERBOSE]),
-    ("draw", DRAW, None, &[FILE, VERBOSE]),
+    ("draw", DRAW, None, &[FILE, HTML, VERBOSE]),
     ("dump", DUMP, None, &[FILE, CAPACITIES, VERBOSE]),
     ("load", LOAD, None, &[FILE, LOADED, VERBOSE]),
     ("lint", LINT, None, &[VERBOSE]),

@@ -80,6 +80,8 @@ pub enum Invocation<'a> {
     Stat(&'a str),
     /// To draw the segment in a file.
     Draw(&'a str),
+    /// To show the segment in a file as a page for a browser.
+    DrawPage(&'a str),
     /// To write the objects of the segment in a file as text.
     Dump(&'a str),
     /// To write the same, and behind it the capacities of what has one.

@@ -6,3 +6,4 @@ mod Shaped
 mod Telling
 mod Drawn
 mod Stated
+mod Rows

@@ -6,3 +6,4 @@ pub mod Parts
 pub mod Picture
 pub mod Objects
 pub mod Stat
+pub mod Page

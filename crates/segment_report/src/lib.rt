@@ -4,6 +4,7 @@
 mod entries;
 mod figures;
 mod objects;
+mod page;
 mod parts;
 mod picture;
 mod scale;
@@ -12,4 +13,5 @@ mod sizes;
 mod tallies;
 
 pub use figures::stat;
+pub use page::draw_page;
 pub use picture::draw;

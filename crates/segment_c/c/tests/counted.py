@@ -9,9 +9,12 @@ text = ""
 for header in headers:
     with open(header) as file:
         text += re.sub(r"/\*.*?\*/", "", file.read(), flags=re.DOTALL)
-calls = re.findall(r"^(zx_code|void) (zx_\w+)\(([^()]*)\);", text, flags=re.MULTILINE)
+# a call that looks for null slices is an inline function; what it calls then has the name in the library
+calls = re.findall(r"^(zx_code|void|u?int(?:32|64)_t|const char \*) ?(zx_\w+)\(([^()]*)\)"
+                   r"(?:\s+ZX_NAMED\((\w+)\))?;", text, flags=re.MULTILINE)
 print("""#define _GNU_SOURCE
 #include "zaluxhoni_files.h"
+#include "zaluxhoni_rows.h"
 #include <dlfcn.h>
 #include <stdio.h>
 #include <stdlib.h>
@@ -24,11 +27,11 @@ static void *behind(const char *name) {
     return at;
 }
 """)
-for answer, name, parameters in calls:
-    passed = ", ".join(re.search(r"(\w+)$", each.strip())[1] for each in parameters.split(","))
-    print(f"""#undef {name}
-static int {name}_called;
-{answer} {name}({parameters}) {{
+for answer, called, parameters, name in calls:
+    name = name or called
+    passed = ", ".join(re.search(r"(\w+)$", each.strip())[1] for each in parameters.split(",") if each != "void")
+    print(f"""static int {name}_called;
+{answer} {called}({parameters}) {{
     static {answer} (*call)({parameters});
     if (!call) *(void **)&call = behind("{name}");
     {name}_called = 1;
@@ -38,9 +41,10 @@ static int {name}_called;
 print("""__attribute__((destructor)) static void tell(void) {
     FILE *file = fopen(getenv("CALLED"), "a");
     if (!file) return;""")
-for _, name, _ in calls:
+for _, called, _, name in calls:
+    name = name or called
     print(f'    if ({name}_called) fputs("{name}\\n", file);')
 print("""    fclose(file);
 }""")
 with open(names, "w") as file:
-    file.write("".join(sorted(f"{name}\n" for _, name, _ in calls)))
+    file.write("".join(sorted(f"{name or called}\n" for _, called, _, name in calls)))

@@ -1,6 +1,7 @@
-/* Every call of zaluxhoni.h and of zaluxhoni_files.h, on the worked examples of docs/LANGUAGE.md, section 11, and on what a call refuses. The
+/* Every call of zaluxhoni.h, zaluxhoni_files.h and zaluxhoni_rows.h, on the worked examples of docs/LANGUAGE.md, section 11, and on what a call refuses. The
    images that it makes are saved in the folder that is its one argument. */
 #include "zaluxhoni_files.h"
+#include "zaluxhoni_rows.h"
 
 #include <inttypes.h>
 #include <stdio.h>
@@ -686,6 +687,295 @@ static void modes(void) {
     zx_close(&s);
 }
 
+/* A segment in memory of this program's: it stands there, and is read and changed there. */
+static void in_lent_memory(void) {
+    static uint64_t words_of[1024];
+    uint8_t *const bytes_of = (uint8_t *)words_of;
+    const size_t room = sizeof words_of;
+    zx_segment s = ZX_CLOSED_HANDLE;
+    zx_key a = zx_name("a"), b = zx_name("b");
+    zx_value five = zx_i64(5), seven = zx_i64(7), got;
+    DONE(zx_create(&s, 4096));
+    IS(made(&s, a, 1, five) > 0, true);
+    DONE(zx_save(&s, bytes_of, room));
+
+    /* what is no memory, no size or no mode leaves both as they were */
+    zx_memory none = { NULL, 4096 }, odd = { bytes_of, 4095 }, memory = { bytes_of, 8192 };
+    IS(zx_attach(&s, &none, 4096, ZX_WRITE), ZX_NULL_SLICE);
+    IS(zx_attach(&s, &odd, 4095, ZX_WRITE), ZX_BAD_SIZE);
+    IS(zx_attach(&s, &memory, 8193, ZX_WRITE), ZX_BAD_SIZE);
+    IS(zx_attach(&s, &memory, 4096, 9), ZX_BAD_MODE);
+    IS(zx_attach(&s, &memory, 4080, ZX_WRITE), ZX_TRUNCATED);
+    bytes_of[0] ^= 1;
+    IS(zx_attach(&s, &memory, 4096, ZX_WRITE), ZX_BAD_MAGIC);
+    bytes_of[0] ^= 1;
+    IS(memory.at == bytes_of, true);
+    IS(memory.len, 8192);
+    IS(s.lent, false);
+
+    /* it is opened where it stands; what the handle had is freed */
+    uint64_t changes = s.changes;
+    DONE(zx_attach(&s, &memory, 4096, ZX_WRITE));
+    IS(memory.at == NULL, true);
+    IS(memory.len, 0);
+    IS(s.lent, true);
+    IS(s.changes != changes, true);
+    DONE(zx_get(&s, &a, 0, &got));
+    IS(got.number, 5);
+    DONE(zx_set(&s, &a, 0, &seven));
+    zx_elements there;
+    DONE(zx_view(&s, &a, &there));
+    IS(there.at == bytes_of + there.offset, true);
+    IS(*(const int64_t *)there.at, 7);
+
+    /* it stays in its memory: it grows there, and no further */
+    uint64_t left;
+    DONE(zx_region_left(&s, &left));
+    IS(left, 4096);
+    IS(zx_relocate(&s, 65536), ZX_SHORT_REGION);
+    DONE(zx_grow(&s, 4096));
+    IS(zx_grow(&s, 32), ZX_SHORT_REGION);
+    IS(zx_grow(&s, 31), ZX_BAD_GROWTH);
+    DONE(zx_size(&s, &left));
+    IS(left, 8192);
+    IS(made(&s, b, 500, five) > 0, true);
+    DONE(zx_detach(&s, &memory));
+    IS(memory.at == bytes_of, true);
+    IS(memory.len, 8192);
+    IS(s.lent, false);
+    IS(zx_detach(&s, &memory), ZX_CLOSED);
+    IS(memory.len, 8192);
+    DONE(zx_check(bytes_of, 8192));
+
+    /* open for reading, and closed: nothing of it is freed */
+    static uint8_t before[8192];
+    memcpy(before, bytes_of, room);
+    DONE(zx_attach(&s, &memory, 8192, ZX_READ));
+    IS(zx_set(&s, &a, 0, &five), ZX_READ_ONLY);
+    DONE(zx_get(&s, &b, 499, &got));
+    IS(got.number, 5);
+    zx_close(&s);
+    IS(s.lent, false);
+    IS(memcmp(before, bytes_of, room), 0);
+
+    /* memory that the library took is this program's then */
+    DONE(zx_create(&s, 1024));
+    IS(made(&s, a, 1, five) > 0, true);
+    DONE(zx_detach(&s, &memory));
+    IS(memory.len, 1024);
+    DONE(zx_check(memory.at, 1024));
+    uint8_t *own = memory.at;
+    DONE(zx_attach(&s, &memory, 1024, ZX_WRITE));
+    DONE(zx_get(&s, &a, 0, &got));
+    IS(got.number, 5);
+    DONE(zx_create(&s, 1024));
+    IS(s.lent, false);
+    zx_close(&s);
+    free(own);
+}
+
+/* Where elements stand, and when they stand elsewhere. */
+static void views(void) {
+    zx_segment s = ZX_CLOSED_HANDLE;
+    zx_key array = zx_name("array"), vector = zx_name("vector"), string = zx_name("string"), map = zx_name("map"),
+           truths = zx_name("truths"), none = zx_name("none"), wrong_key = { 9, 0, 0, bytes(""), 0 };
+    zx_elements there = { NULL, 1, 2, 3, 4 };
+    uint64_t handle, changes;
+    IS(zx_view(&s, &array, &there), ZX_CLOSED);
+    DONE(zx_create(&s, 4096));
+    int64_t numbers[] = { -1, 2, -3 };
+    zx_values row = zx_i64s(numbers, 3);
+    DONE(zx_construct_array(&s, &array, &row, &handle));
+    const bool two[] = { true, false };
+    zx_values of_truths = zx_bools(two, 2);
+    DONE(zx_construct_array(&s, &truths, &of_truths, &handle));
+    row = zx_i64s(numbers, 0);
+    DONE(zx_construct_vector(&s, &vector, &row, &handle));
+    DONE(zx_construct_string(&s, &string, bytes("red"), 3, &handle));
+    DONE(zx_construct_map(&s, &map, ZX_I64, ZX_I64, &handle));
+    IS(zx_view(&s, &none, &there), ZX_NOT_FOUND);
+    IS(zx_view(&s, &map, &there), ZX_WRONG_KIND);
+    IS(zx_view(&s, &wrong_key, &there), ZX_BAD_KEY);
+    IS(zx_view_mut(&s, &wrong_key, &there), ZX_BAD_KEY);
+    IS(zx_view_mut(&s, &none, &there), ZX_NOT_FOUND);
+    IS(there.offset * 1000 + there.count * 100 + there.changes * 10 + there.kind, 1234);
+    IS(there.at == NULL, true);
+    IS(s.shared, false);
+
+    DONE(zx_view(&s, &array, &there));
+    IS(there.count, 3);
+    IS(there.kind, ZX_I64);
+    IS(there.changes, s.changes);
+    IS(memcmp(there.at, numbers, sizeof numbers), 0);
+    static uint8_t image[4096];
+    DONE(zx_save(&s, image, sizeof image));
+    IS(memcmp(image + there.offset, numbers, sizeof numbers), 0);
+    DONE(zx_view(&s, &truths, &there));
+    IS(there.count, 2);
+    IS(there.kind, ZX_BOOL);
+    IS(memcmp(there.at, "\1\0", 2), 0);
+    DONE(zx_view(&s, &string, &there));
+    IS(there.kind, ZX_U8);
+    TEXT(there.at, there.count, "red");
+    DONE(zx_view(&s, &vector, &there));
+    IS(there.count, 0);
+
+    /* written where they stand */
+    zx_elements read_only = there;
+    zx_value read;
+    DONE(zx_view(&s, &array, &read_only));
+    IS(s.shared, false);
+    IS(zx_elements_mut(&s, &read_only) == NULL, true);
+    DONE(zx_view_mut(&s, &array, &there));
+    IS(s.shared, true);
+    IS(there.at == read_only.at, true);
+    IS(zx_is_current(&s, &read_only), true);
+    ((int64_t *)zx_elements_mut(&s, &there))[2] = 77;
+    IS(((const int64_t *)read_only.at)[2], 77);
+    DONE(zx_get(&s, &array, 2, &read));
+    IS(read.number, 77);
+    zx_segment opened = ZX_CLOSED_HANDLE;
+    DONE(zx_save(&s, image, sizeof image));
+    DONE(zx_open(&opened, image, sizeof image, sizeof image, ZX_READ));
+    DONE(zx_view(&opened, &array, &read_only));
+    IS(((const int64_t *)read_only.at)[2], 77);
+    IS(zx_view_mut(&opened, &array, &read_only), ZX_READ_ONLY);
+    IS(zx_view_mut(&opened, &none, &read_only), ZX_READ_ONLY);
+    IS(opened.shared, false);
+    zx_close(&opened);
+    IS(zx_view_mut(&opened, &array, &read_only), ZX_CLOSED);
+
+    /* reading leaves the counter, and each call that may move elements raises it */
+    changes = s.changes;
+    IS(zx_view(&s, &none, &there), ZX_NOT_FOUND);
+    zx_value got, six = zx_i64(6);
+    DONE(zx_get(&s, &array, 0, &got));
+    IS(s.changes, changes);
+    for (int i = 0; i < 9; i++) {
+        changes = s.changes;
+        IS(zx_is_current(&s, &there), i == 0);
+        DONE(zx_push(&s, &vector, &six));
+        IS(s.changes != changes, true);
+        IS(s.shared, false);
+        IS(zx_is_current(&s, &there), false);
+        IS(zx_elements_mut(&s, &there) == NULL, true);
+    }
+    DONE(zx_view(&s, &vector, &there));
+    IS(there.count, 9);
+    IS(((const int64_t *)there.at)[8], 6);
+    changes = s.changes;
+    zx_close(&s);
+    IS(s.changes != changes, true);
+    IS(zx_is_current(&s, &there), false);
+}
+
+/* Several calls as one. */
+static void transactions(void) {
+    static uint8_t image[1024], again[1024];
+    zx_segment s = ZX_CLOSED_HANDLE, before = ZX_CLOSED_HANDLE, other = ZX_CLOSED_HANDLE;
+    zx_key a = zx_name("a"), b = zx_name("b");
+    zx_value five = zx_i64(5), six = zx_i64(6), got;
+    bool was_there;
+    uint64_t size;
+    IS(zx_begin(&s, &before), ZX_CLOSED);
+    IS(zx_rollback(&s, &before), ZX_CLOSED);
+    DONE(zx_create(&s, 1024));
+    IS(made(&s, a, 1, five) > 0, true);
+    IS(zx_rollback(&s, &before), ZX_CLOSED);
+    DONE(zx_save(&s, image, sizeof image));
+
+    /* taken back, where the segment lies now */
+    uint64_t changes = s.changes;
+    DONE(zx_begin(&s, &before));
+    IS(s.changes, changes);
+    DONE(zx_get(&before, &a, 0, &got));
+    IS(got.number, 5);
+    DONE(zx_set(&s, &a, 0, &six));
+    IS(made(&s, b, 1, six) > 0, true);
+    DONE(zx_grow(&s, 4096));
+    changes = s.changes;
+    DONE(zx_rollback(&s, &before));
+    IS(s.changes != changes, true);
+    IS(before.at == NULL, true);
+    DONE(zx_size(&s, &size));
+    IS(size, 1024);
+    DONE(zx_save(&s, again, sizeof again));
+    IS(memcmp(image, again, sizeof image), 0);
+    DONE(zx_region_left(&s, &size));
+    IS(size, 4096);
+
+    /* done, one within the other */
+    DONE(zx_begin(&s, &before));
+    DONE(zx_set(&s, &a, 0, &six));
+    DONE(zx_begin(&s, &other));
+    DONE(zx_destroy(&s, &a, &was_there));
+    DONE(zx_rollback(&s, &other));
+    zx_commit(&before);
+    DONE(zx_get(&s, &a, 0, &got));
+    IS(got.number, 6);
+
+    /* where the region became too short, nothing changes */
+    DONE(zx_begin(&s, &before));
+    DONE(zx_shrink(&s));
+    DONE(zx_relocate(&s, 512));
+    IS(zx_rollback(&s, &before), ZX_SHORT_REGION);
+    DONE(zx_get(&before, &a, 0, &got));
+    DONE(zx_relocate(&s, 1024));
+    DONE(zx_rollback(&s, &before));
+    DONE(zx_size(&s, &size));
+    IS(size, 1024);
+
+    /* in lent memory it stays there */
+    zx_memory memory = { image, sizeof image };
+    DONE(zx_attach(&s, &memory, sizeof image, ZX_WRITE));
+    DONE(zx_begin(&s, &before));
+    DONE(zx_set(&s, &a, 0, &six));
+    IS(memcmp(image, again, sizeof image) != 0, true);
+    DONE(zx_rollback(&s, &before));
+    IS(s.lent, true);
+    IS(memcmp(image, again, sizeof image), 0);
+
+    /* not of one that is read alone */
+    DONE(zx_begin(&s, &before));
+    DONE(zx_detach(&s, &memory));
+    DONE(zx_attach(&s, &memory, sizeof image, ZX_READ));
+    IS(zx_begin(&s, &other), ZX_READ_ONLY);
+    IS(zx_rollback(&s, &before), ZX_READ_ONLY);
+    DONE(zx_get(&before, &a, 0, &got));
+    zx_commit(&before);
+    zx_close(&s);
+}
+
+/* The names from a text on. */
+static void names_from(void) {
+    static const char *const of[] = { "ant", "bee/1", "bee/2", "cow" };
+    zx_segment s = ZX_CLOSED_HANDLE;
+    uint64_t index = 77;
+    zx_info info;
+    uint8_t name[255];
+    IS(zx_named_from(&s, bytes("a"), 1, &index), ZX_CLOSED);
+    IS(index, 77);
+    DONE(zx_create(&s, 4096));
+    DONE(zx_named_from(&s, bytes("a"), 1, &index));
+    IS(index, 0);
+    for (int i = 3; i >= 0; i--) IS(made(&s, zx_name(of[i]), 1, zx_bool(true)) > 0, true);
+    IS(zx_named_from(&s, NULL, 0, &index), ZX_NULL_SLICE);
+    DONE(zx_named_from(&s, bytes(""), 0, &index));
+    IS(index, 0);
+    DONE(zx_named_from(&s, bytes("bee/"), 4, &index));
+    IS(index, 1);
+    DONE(zx_named_at(&s, index, &info, name, sizeof name));
+    TEXT(name, info.name_len, "bee/1");
+    DONE(zx_named_from(&s, bytes("bee/2"), 5, &index));
+    IS(index, 2);
+    DONE(zx_named_from(&s, bytes("bee/2\0"), 6, &index));
+    IS(index, 3);
+    DONE(zx_named_from(&s, bytes("d\377"), 2, &index));
+    IS(index, 4);
+    IS(zx_named_at(&s, index, &info, name, sizeof name), ZX_OUT_OF_RANGE);
+    zx_close(&s);
+}
+
 static void what_is_no_image(void) {
     zx_segment s = ZX_CLOSED_HANDLE;
     uint8_t image[1024];
@@ -777,6 +1067,16 @@ static void words(void) {
     }
     zx_words(1000, &text);
     IS(text.len, 0);
+    IS(strcmp(zx_message(ZX_NO_SPACE), "no space"), 0);
+    IS(strcmp(zx_message(ZX_FILE_FOLDER), "is a folder"), 0);
+    IS(strcmp(zx_message(1000), ""), 0);
+    for (zx_code code = 0; code <= ZX_ORPHAN_BLOCK; code++) {
+        zx_file_words(code, &text);
+        IS(strlen(zx_message(code)), text.len);
+        IS(memcmp(zx_message(code), text.at, text.len), 0);
+    }
+    IS(zx_version(), ZX_VERSION);
+    IS(strncmp(zx_state(), "state ", 6), 0);
 }
 
 /* The calls for files, which tests/files.c and others try for themselves. */
@@ -805,9 +1105,128 @@ static void files(void) {
     DONE(zx_get(&file.segment, &a, 0, &got));
     IS(got.number, 5);
     zx_file_discard(&file);
+    DONE(zx_file_open(&file, other, ZX_OPEN_ONLY | ZX_MAPPED, 0));
+    DONE(zx_file_grow(&file, 1024));
+    DONE(zx_get(&file.segment, &a, 0, &got));
+    IS(got.number, 5);
+    DONE(zx_file_shrink(&file));
+    zx_segment before = ZX_CLOSED_HANDLE;
+    DONE(zx_begin(&file.segment, &before));
+    DONE(zx_set(&file.segment, &a, 0, &six));
+    DONE(zx_file_rollback(&file, &before));
+    DONE(zx_get(&file.segment, &a, 0, &got));
+    IS(got.number, 5);
+    DONE(zx_file_flush(&file));
+    DONE(zx_file_close(&file));
     IS(zx_file_open(&file, folder, ZX_OPEN_ONLY, 0), ZX_FILE_FOLDER);
     zx_file_words(ZX_FILE_FOLDER, &text);
     TEXT(text.at, text.len, "is a folder");
+}
+
+/* Rows of elements and of pairs. */
+static void rows_of_numbers(void) {
+    zx_segment s = ZX_CLOSED_HANDLE;
+    zx_key v = zx_name("v"), m = zx_name("m");
+    int32_t few[3] = { 7, -8, 9 }, row[5];
+    int64_t keys[4] = { 3, 1, -2, 3 }, numbers[4] = { 30, 10, 20, 31 };
+    bool truth = true;
+    zx_values values = zx_i32s(few, 3), wrong_kind = zx_bools(&truth, 1), none = zx_i32s(0, 0);
+    zx_value after = zx_i64(1);
+    uint64_t handle, len, places;
+    size_t read;
+    DONE(zx_create(&s, 1024));
+    IS(made_vector(&s, v, zx_i32s(few, 2)), 192);
+    DONE(zx_push_row(&s, &v, 2, &values));
+    DONE(zx_push_row(&s, &v, 2, &values));
+    DONE(zx_read_i32s(&s, &v, 0, row, 5));
+    IS(row[1] == -8 && row[2] == 7 && row[4] == 9, true);
+    IS(zx_push_row(&s, &v, 5, &wrong_kind), ZX_WRONG_KIND);
+    IS(zx_push_row(&s, &v, 5, &none), ZX_NULL_SLICE);
+    values.kind = 9;
+    IS(zx_push_row(&s, &v, 5, &values), ZX_BAD_KIND);
+    DONE(zx_construct_map(&s, &m, ZX_I32, ZX_U64, &handle));
+    DONE(zx_put_pairs(&s, &m, ZX_I32, ZX_U64, keys, numbers, 4));
+    IS(zx_put_pairs(&s, &m, ZX_I32, ZX_U64, 0, numbers, 4), ZX_NULL_SLICE);
+    IS(zx_put_pairs(&s, &m, ZX_BOOL, ZX_U64, keys + 1, numbers, 1), ZX_WRONG_KIND);
+    DONE(zx_read_pairs(&s, &m, 0, keys, numbers, 4, &read));
+    IS(read, 3);
+    IS(keys[0] == -2 && keys[1] == 1 && keys[2] == 3 && numbers[0] == 20 && numbers[2] == 31, true);
+    DONE(zx_read_pairs(&s, &m, 0, keys, numbers, 2, &read));
+    IS(read, 2);
+    DONE(zx_read_pairs(&s, &m, &after, keys, numbers, 4, &read));
+    IS(read == 1 && keys[0] == 3 && numbers[0] == 31, true);
+    IS(zx_read_pairs(&s, &m, 0, keys, 0, 4, &read), ZX_NULL_SLICE);
+    IS(zx_read_pairs(&s, &v, 0, keys, numbers, 4, &read), ZX_WRONG_KIND);
+    IS(zx_clear_map(&s, &v), ZX_WRONG_KIND);
+    DONE(zx_clear_map(&s, &m));
+    DONE(zx_measure(&s, &m, &len, &places));
+    IS(len, 0);
+    zx_close(&s);
+}
+
+/* Rows of texts and of names. */
+static void rows_of_texts(void) {
+    zx_segment s = ZX_CLOSED_HANDLE;
+    zx_key t = zx_name("t");
+    zx_text texts[3] = { text_of("one"), text_of(""), text_of("three") };
+    uint8_t read_texts[100];
+    uint64_t handle, ends[4];
+    zx_info infos[4];
+    zx_value values[4];
+    size_t read;
+    DONE(zx_create(&s, 1024));
+    DONE(zx_construct_strings(&s, &t, texts, 1, &handle));
+    DONE(zx_push_texts(&s, &t, 1, texts + 1, 2));
+    DONE(zx_push_texts(&s, &t, 1, texts + 1, 2));
+    IS(zx_push_texts(&s, &t, 3, 0, 2), ZX_NULL_SLICE);
+    DONE(zx_read_texts(&s, &t, 0, read_texts, 100, ends, 3, &read));
+    IS(read == 3 && ends[0] == 3 && ends[1] == 3 && ends[2] == 8, true);
+    TEXT(read_texts, 8, "onethree");
+    DONE(zx_read_texts(&s, &t, 0, read_texts, 4, ends, 3, &read));
+    IS(read, 2);
+    IS(zx_read_texts(&s, &t, 2, read_texts, 4, ends, 1, &read), ZX_SHORT_BUFFER);
+    IS(zx_read_texts(&s, &t, 3, read_texts, 4, ends, 1, &read), ZX_OUT_OF_RANGE);
+    IS(zx_read_texts(&s, &t, 0, 0, 4, ends, 1, &read), ZX_NULL_SLICE);
+    IS(made(&s, zx_name("aa"), 1, zx_u8(200)) > 0, true);
+    DONE(zx_read_names(&s, 0, infos, values, read_texts, 100, 4, &read));
+    IS(read, 2);
+    IS(infos[0].name_len == 2 && infos[1].name_len == 1 && infos[1].kind == ZX_STRINGS, true);
+    IS(values[0].kind == ZX_U8 && values[0].natural == 200 && values[1].kind == 0, true);
+    TEXT(read_texts, 3, "aat");
+    DONE(zx_read_names(&s, 0, infos, values, read_texts, 2, 4, &read));
+    IS(read, 1);
+    IS(zx_read_names(&s, 0, infos, values, read_texts, 1, 4, &read), ZX_SHORT_BUFFER);
+    DONE(zx_read_names(&s, 2, infos, values, read_texts, 1, 4, &read));
+    IS(read, 0);
+    IS(zx_read_names(&s, 0, infos, 0, read_texts, 1, 4, &read), ZX_NULL_SLICE);
+    zx_close(&s);
+    IS(zx_read_names(&s, 0, infos, values, read_texts, 1, 4, &read), ZX_CLOSED);
+}
+
+/* The calls for one number. */
+static void one_number(void) {
+    zx_segment s = ZX_CLOSED_HANDLE;
+    uint64_t handle, here = zx_thread();
+    zx_place v = { &s, here, zx_name("v") }, m = { &s, 0, zx_name("m") }, elsewhere = { &s, here + 1, zx_name("v") };
+    IS(here > 0 && here == zx_thread(), true);
+    DONE(zx_create(&s, 1024));
+    IS(made_vector(&s, v.key, zx_i64s((const int64_t *)&s, 0)), 192);
+    DONE(zx_construct_map(&s, &m.key, ZX_U8, ZX_I32, &handle));
+    DONE(zx_push_number(&v, -5));
+    DONE(zx_set_at(&v, 0, -6));
+    IS(zx_element_at(&v, 0), -6);
+    IS(zx_element_at(&v, 1), ZX_NO_NUMBER);
+    IS(zx_set_at(&v, 1, 1), ZX_OUT_OF_RANGE);
+    DONE(zx_put_at(&m, 255, -7));
+    IS(zx_put_at(&m, 256, -7), ZX_OUT_OF_RANGE);
+    IS(zx_map_at(&m, 255), -7);
+    IS(zx_map_at(&m, 254), ZX_NO_NUMBER);
+    IS(zx_element_at(&elsewhere, 0), ZX_NO_NUMBER);
+    IS(zx_push_number(&elsewhere, 0), ZX_CLOSED);
+    IS(zx_set_at(&elsewhere, 0, 0), ZX_CLOSED);
+    zx_close(&s);
+    IS(zx_put_at(&m, 1, 1), ZX_CLOSED);
+    IS(zx_map_at(&m, 1), ZX_NO_NUMBER);
 }
 
 int main(int count, char **arguments) {
@@ -831,10 +1250,17 @@ int main(int count, char **arguments) {
     one_of_each();
     size_and_region();
     modes();
+    in_lent_memory();
+    views();
+    transactions();
+    names_from();
     what_is_no_image();
     what_is_passed_wrongly();
     words();
     files();
+    rows_of_numbers();
+    rows_of_texts();
+    one_number();
     printf("every_call.c: %d checks, %d wrong\n", checks, wrong);
     return wrong != 0;
 }

@@ -50,7 +50,7 @@ template <class Error, class Call> void throws(int line, const char *what, Call 
 }
 
 #define IS(got, wanted) is(__LINE__, #got, got, wanted)
-#define THROWS(error, call) throws<zaluxhoni::error>(__LINE__, #call, [&] { (void)(call); })
+#define THROWS(error, ...) throws<zaluxhoni::error>(__LINE__, #__VA_ARGS__, [&] { (void)(__VA_ARGS__); })
 
 std::string path_of(const std::string &name) { return folder + "/cpp-" + name + ".seg"; }
 
@@ -118,9 +118,9 @@ void files() {
     IS(segment::open_file(path, zaluxhoni::mode::copy_on_write).mode() == zaluxhoni::mode::copy_on_write, true);
     THROWS(bad_mode, segment::open_file(path, static_cast<zaluxhoni::mode>(3)));
     // it is held until it is closed
-    fails(__LINE__, [&] { segment::open_file(path); }, ZX_FILE_IN_USE, std::errc::operation_would_block);
-    fails(__LINE__, [&] { segment::open_or_create_file(path, 7); }, ZX_FILE_IN_USE, std::errc::operation_would_block);
-    fails(__LINE__, [&] { segment::create_file(path, 1024); }, ZX_FILE_EXISTS, std::errc::file_exists);
+    fails(__LINE__, [&] { return segment::open_file(path); }, ZX_FILE_IN_USE, std::errc::operation_would_block);
+    fails(__LINE__, [&] { return segment::open_or_create_file(path, 7); }, ZX_FILE_IN_USE, std::errc::operation_would_block);
+    fails(__LINE__, [&] { return segment::create_file(path, 1024); }, ZX_FILE_EXISTS, std::errc::file_exists);
     segment other = segment::create(1024);
     fails(__LINE__, [&] { other.save_file(path); }, ZX_FILE_IN_USE, std::errc::operation_would_block);
     THROWS(no_file, other.save_file());
@@ -160,19 +160,65 @@ void files() {
     { segment::create_file(path, 1024).construct<i64>("a", 5); }
     IS(std::filesystem::exists(path), false);
     IS(std::filesystem::exists(link), false);
-    fails(__LINE__, [&] { segment::open_file(link); }, ZX_FILE_DANGLES, std::errc::no_such_file_or_directory);
-    fails(__LINE__, [&] { segment::open_or_create_file(link, 1024); }, ZX_FILE_DANGLES, std::errc::no_such_file_or_directory);
+    fails(__LINE__, [&] { return segment::open_file(link); }, ZX_FILE_DANGLES, std::errc::no_such_file_or_directory);
+    fails(__LINE__, [&] { return segment::open_or_create_file(link, 1024); }, ZX_FILE_DANGLES, std::errc::no_such_file_or_directory);
     std::filesystem::remove(link);
     const std::string none = folder + "/none/a.seg", cut = path + '\0' + "more";
     segment s2 = segment::create(1024);
     fails(__LINE__, [&] { s2.save_file(none); }, ZX_FILE_MISSING, std::errc::no_such_file_or_directory);
     fails(__LINE__, [&] { s2.save_file(cut); }, ZX_FILE_FAULT, std::errc::invalid_argument);
-    fails(__LINE__, [&] { segment::open_file(path_of("none")); }, ZX_FILE_MISSING, std::errc::no_such_file_or_directory);
-    fails(__LINE__, [&] { segment::open_file(folder); }, ZX_FILE_FOLDER, std::errc::is_a_directory);
-    fails(__LINE__, [&] { segment::open_or_create_file(folder, 1024); }, ZX_FILE_FOLDER, std::errc::is_a_directory);
-    fails(__LINE__, [&] { segment::open_file("/dev/null"); }, ZX_FILE_DEVICE, std::errc::invalid_argument);
+    fails(__LINE__, [&] { return segment::open_file(path_of("none")); }, ZX_FILE_MISSING, std::errc::no_such_file_or_directory);
+    fails(__LINE__, [&] { return segment::open_file(folder); }, ZX_FILE_FOLDER, std::errc::is_a_directory);
+    fails(__LINE__, [&] { return segment::open_or_create_file(folder, 1024); }, ZX_FILE_FOLDER, std::errc::is_a_directory);
+    fails(__LINE__, [&] { return segment::open_file("/dev/null"); }, ZX_FILE_DEVICE, std::errc::invalid_argument);
     THROWS(bad_size, segment::create_file(path, 7));
     IS(std::filesystem::exists(path), false);
+}
+
+void mapped_files() {
+    const std::string path = path_of("mapped");
+    std::filesystem::remove(path);
+    {
+        segment s = segment::create_mapped_file(path, 1024);
+        s.construct<i64>("a", 5);
+        IS(segment::open_file(path, zaluxhoni::mode::read).get<i64>("a"), 5);
+        fails(__LINE__, [&] { return segment::map_file(path); }, ZX_FILE_IN_USE, std::errc::operation_would_block);
+        s.grow(1024);
+        IS(std::filesystem::file_size(path), 2048);
+        zaluxhoni::vector<i64> v = s.vector<i64>("v");
+        for (i64 i = 0; i < 1000; i++) s.growing([&] { v.push_back(i); });
+        IS(std::filesystem::file_size(path), s.size());
+        IS(v.get(999), 999);
+        s.destroy("v");
+        s.shrink();
+        IS(std::filesystem::file_size(path), s.size());
+        s.set_growing(true);
+        s.vector<i64>("w").resize(5000);
+        IS(std::filesystem::file_size(path), s.size());
+        const u64 before = s.size();
+        THROWS(absent, s.transaction([&] {
+            s.vector<i64>("w").resize(20000);
+            s.vector<i64>("w").view()[0] = 7;
+            throw zaluxhoni::absent();
+        }));
+        IS(s.size(), before);
+        IS(std::filesystem::file_size(path), before);
+        IS(i64{s.vector<i64>("w")[0]}, 0);
+        s.vector<i64>("w").view()[0] = 8;
+        IS(segment::open_file(path, zaluxhoni::mode::read).vector<i64>("w").cview()[0], 8);
+        s.set<i64>("a", 0, 6);
+        s.flush_file();
+    }
+    segment one = segment::map_file(path, zaluxhoni::mode::read);
+    segment other = segment::map_file(path, zaluxhoni::mode::copy_on_write);
+    other.set<i64>("a", 0, 7);
+    IS(one.get<i64>("a"), 6);
+    fails(__LINE__, [&] { return segment::open_file(path); }, ZX_FILE_IN_USE, std::errc::operation_would_block);
+    one.close();
+    other.close();
+    segment last = segment::map_or_create_file(path, 1024);
+    IS(last.get<i64>("a"), 6);
+    last.close_file();
 }
 
 void index_and_object_do_not_both_fit() {
@@ -487,33 +533,57 @@ void many_at_once() {
     THROWS(read_only, s.write<i64>("a", 0, {1}));
 }
 
-/// Under a name another object may have come, of another kind: what was asked of the first one reads nothing of it.
-void another_kind_under_the_name() {
+/// What was asked of an object is for that one. When it is destroyed and another one gets its handle, what is read is of
+/// that one, or nothing is read.
+void another_kind_under_the_handle() {
     segment s = segment::create(4096);
     const zaluxhoni::vector<i64> v = s.vector<i64>("v");
     const zaluxhoni::map<i64, i64> m = s.map<i64, i64>("m");
     s.construct<i64>("a", 1);
     const zaluxhoni::array<i64> a = s.array<i64>("a");
     for (const char *name : {"v", "m", "a"}) IS(s.destroy(name), true);
-    s.construct_vector<u64>("v", {7, UINT64_MAX});
-    s.construct<u64>("a", UINT64_MAX);
-    s.map<i64, u64>("m").put(1, UINT64_MAX);
-    const std::vector<u8> before = s.save();
-    THROWS(wrong_kind, v.get(1));
-    THROWS(wrong_kind, i64{v[1]});
-    THROWS(wrong_kind, *v.begin());
-    THROWS(wrong_kind, v.pop_back());
-    THROWS(wrong_kind, v.to_vector());
-    THROWS(wrong_kind, a.get(0));
-    THROWS(wrong_kind, m.find(1));
-    THROWS(wrong_kind, m.first());
-    THROWS(wrong_kind, m.next(0));
-    THROWS(wrong_kind, (zaluxhoni::map<u8, u64>(s, "m").first()));
-    THROWS(wrong_kind, zaluxhoni::vector<i32>(s, "v").pop_back());
-    THROWS(wrong_kind, zaluxhoni::vector<u64>(s, "a").pop_back());
-    IS((s.save() == before), true);
-    IS(s.vector<u64>("v").pop_back(), UINT64_MAX);
-    IS(s.vector<u64>("v").size(), 1);
+    THROWS(not_found, v.get(1));
+    THROWS(not_found, v.push_back(1));
+    THROWS(not_found, v.pop_back());
+    THROWS(not_found, v.size());
+    THROWS(not_found, v.to_vector());
+    THROWS(not_found, a.get(0));
+    THROWS(not_found, a.size());
+    THROWS(not_found, m.find(1));
+    THROWS(not_found, m.first());
+    THROWS(not_found, m.put(1, 1));
+    // the free places are those that they had
+    const u64 handle = s.construct_vector<u64>(key::anonymous(), {7, UINT64_MAX});
+    IS(handle == v.handle() || handle == m.handle() || handle == a.handle(), true);
+    const segment &kept = s;
+    IS(zaluxhoni::vector<u64>(kept, key::by_handle(handle)).size(), 2);
+    THROWS(wrong_kind, zaluxhoni::vector<i64>(kept, key::by_handle(handle)));
+
+    segment one = segment::create(4096), two = segment::create(4096), three = segment::create(4096);
+    const zaluxhoni::vector<i64> first = one.vector<i64>("v");
+    const zaluxhoni::map<i64, i64> second = two.map<i64, i64>("m");
+    three.construct<i64>("a", 1);
+    const zaluxhoni::array<i64> third = three.array<i64>("a");
+    IS(one.destroy("v") && two.destroy("m") && three.destroy("a"), true);
+    IS(one.construct_vector<u64>("v", {7, UINT64_MAX}), first.handle());
+    IS((two.construct_map<i64, u64>("m")), second.handle());
+    IS(three.construct<u64>("a", UINT64_MAX), third.handle());
+    two.map<i64, u64>("m").put(1, UINT64_MAX);
+    const std::vector<u8> before = one.save();
+    THROWS(wrong_kind, first.get(1));
+    THROWS(wrong_kind, i64{first[1]});
+    THROWS(wrong_kind, first.begin()[0].value());
+    THROWS(wrong_kind, first.pop_back());
+    THROWS(wrong_kind, first.to_vector());
+    THROWS(wrong_kind, second.find(1));
+    THROWS(wrong_kind, second.first());
+    THROWS(wrong_kind, second.next(0));
+    THROWS(wrong_kind, (zaluxhoni::map<u8, u64>(two, "m")));
+    THROWS(wrong_kind, third.get(0));
+    THROWS(wrong_kind, third.size());
+    IS((one.save() == before), true);
+    IS(one.vector<u64>("v").pop_back(), UINT64_MAX);
+    IS(one.vector<u64>("v").size(), 1);
 }
 
 /// One object of each kind, by the calls that every_call.c makes: all three programs save the same bytes.
@@ -588,6 +658,38 @@ void modes() {
     IS(s.region_left(), 3072);
 }
 
+/// The calls that C++ has no names of its own for.
+void calls_of_c() {
+    segment made = segment::create(1024);
+    made.construct<i64>("a/1", 5);
+    std::vector<u8> image = made.save();
+    zx_segment s = ZX_CLOSED_HANDLE;
+    zx_memory memory = {image.data(), image.size()};
+    IS(zx_attach(&s, &memory, image.size(), ZX_WRITE), u64{ZX_DONE});
+    const zx_key name = zx_name("a/1");
+    zx_elements there;
+    IS(zx_view(&s, &name, &there), u64{ZX_DONE});
+    IS(*static_cast<const i64 *>(there.at), 5);
+    zx_segment before = ZX_CLOSED_HANDLE;
+    IS(zx_begin(&s, &before), u64{ZX_DONE});
+    IS(zx_view_mut(&s, &name, &there), u64{ZX_DONE});
+    *static_cast<i64 *>(zx_elements_mut(&s, &there)) = 6;
+    IS(zx_rollback(&s, &before), u64{ZX_DONE});
+    IS(zx_is_current(&s, &there), false);
+    zx_file none = ZX_CLOSED_FILE;
+    IS(zx_file_rollback(&none, &before), u64{ZX_CLOSED});
+    IS(zx_version(), u64{ZX_VERSION});
+    IS(std::string_view{zx_state()}.substr(0, 6) == "state ", true);
+    IS(std::string(zx_message(ZX_NO_SPACE)) == "no space", true);
+    IS(zx_view(&s, &name, &there), u64{ZX_DONE});
+    IS(*static_cast<const i64 *>(there.at), 5);
+    u64 index = 7;
+    IS(zx_named_from(&s, reinterpret_cast<const u8 *>("a/"), 2, &index), u64{ZX_DONE});
+    IS(index, 0);
+    IS(zx_detach(&s, &memory), u64{ZX_DONE});
+    IS(memory.at == image.data(), true);
+}
+
 void what_is_refused() {
     segment s = segment::create(1024);
     std::vector<u8> image = s.save();
@@ -596,15 +698,15 @@ void what_is_refused() {
     THROWS(bad_size, segment::open(image, zaluxhoni::mode::write, 1025));
     THROWS(bad_mode, segment::open(image, static_cast<zaluxhoni::mode>(3)));
     THROWS(null_slice, segment::open({nullptr, 1024}));
-    const zaluxhoni::slice<std::string_view> no_texts(nullptr, 2);
-    THROWS(null_slice, s.construct_strings("t", no_texts));
-    THROWS(null_slice, s.find_or_construct_strings("t", no_texts));
-    THROWS(null_slice, s.strings("t").assign(no_texts));
+    throws<zaluxhoni::null_slice>(__LINE__, "null texts", [&] { s.construct_strings("t", {nullptr, 2}); });
+    throws<zaluxhoni::null_slice>(__LINE__, "null texts", [&] { s.find_or_construct_strings("t", {nullptr, 2}); });
+    throws<zaluxhoni::null_slice>(__LINE__, "null texts", [&] { s.strings("t").assign({nullptr, 2}); });
+    throws<zaluxhoni::null_slice>(__LINE__, "null row", [&] { s.vector<i64>("v").append_range({nullptr, 2}); });
     THROWS(short_buffer, s.save(image.data(), 1023));
     const std::vector<u8> half(image.begin(), image.begin() + 512);
     IS(zaluxhoni::check_image(half), u64{ZX_TRUNCATED});
     try {
-        segment::open(half);
+        static_cast<void>(segment::open(half));
         IS("half an image is opened"s, ""s);
     } catch (const zaluxhoni::bad_image &error) {
         IS(error.number(), 1);
@@ -675,10 +777,10 @@ int main(int count, char **arguments) {
     if (count != 2) return 2;
     folder = arguments[1];
     void (*const cases[])() = {
-        an_anonymous_object, names, files, index_and_object_do_not_both_fit, arrays, the_only_object_of_its_kind,
-        places_reserved_in_the_indexes, best_fit, storage_is_lengthened_then_replaced, a_string_grows_and_shrinks,
-        a_map, refusals_of_a_vector, a_vector_of_strings, objects_found_or_made, many_at_once,
-        another_kind_under_the_name, one_of_each, size_and_region, modes, what_is_refused, segments_move,
+        an_anonymous_object, names, files, mapped_files, index_and_object_do_not_both_fit, arrays,
+        the_only_object_of_its_kind, places_reserved_in_the_indexes, best_fit, storage_is_lengthened_then_replaced,
+        a_string_grows_and_shrinks, a_map, refusals_of_a_vector, a_vector_of_strings, objects_found_or_made, many_at_once,
+        another_kind_under_the_handle, one_of_each, size_and_region, modes, calls_of_c, what_is_refused, segments_move,
         segments_end_before_their_objects, errors_say_what};
     for (void (*each)() : cases) {
         try {

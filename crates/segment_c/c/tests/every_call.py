@@ -1,7 +1,9 @@
-"""Every call of zaluxhoni.py, and by it each of zaluxhoni.h, on the worked examples of docs/LANGUAGE.md, section 11,
-and on what is raised. The files that it makes are in the folder that is its one argument."""
+"""Every call of the package zaluxhoni, and by it each of zaluxhoni.h, on the worked examples of docs/LANGUAGE.md,
+section 11, and on what is raised. The files that it makes are in the folder that is its one argument."""
 import copy
+import ctypes
 import gc
+import json
 import os
 import pickle
 import resource
@@ -20,7 +22,7 @@ checks = wrong = 0
 def fails(what):
     global wrong
     wrong += 1
-    print(f"every_call.py:{sys._getframe(2).f_lineno}: WRONG {what}")
+    print(f"every_call.py:{sys._getframe(2).f_lineno}: WRONG {what}"[:400])
 
 
 def same(got, wanted):
@@ -183,8 +185,10 @@ def storage_is_lengthened_then_replaced():
     same(s.free, 688)
     same((len(v), v.capacity), (5, 8))
     same(s.construct("i64", None, 9).handle, 336)
-    v.extend(range(6, 10))
-    same(s.tiles(), [(128, 48, "index"), (176, 64, "object"), (240, 80, "gap"), (320, 48, "object"), (368, 144, "storage"),
+    for number in range(6, 10):
+        v.append(number)
+    same(s.tiles(), [(128, 48, "index"), (176, 64, "object"), (240, 80, "gap"), (320, 48, "object"),
+                     (368, 144, "storage"),
                      (512, 496, "gap")])
     s = saved(s, "storage")
     same(list(s["v"]), [1, 2, 3, 4, 5, 6, 7, 8, 9])
@@ -211,7 +215,8 @@ def a_string_grows_and_shrinks():
     same(text[-3:], b"789")
     same(("g01" in text, 65 in text, list(text)[:2]), (True, True, [65, 98]))
     s = saved(s, "string")
-    text = s["s"]
+    same(s["s"], "Abcdefg0123456789")
+    text = s.string("s")
     text.clear()
     same(bytes(text), b"")
     text.trim()
@@ -256,6 +261,16 @@ def a_map():
     raises(zaluxhoni.WrongKind, set_item, m, 7, 1.5)
     raises(zaluxhoni.OutOfRange, set_item, m, 2**63, 1)
     same(m.pop(7), 71)
+    # what is changed while it is gone over is seen: it goes on with the next key above
+    s.growing = True
+    m.update({key: 0 for key in range(20)})
+    seen = []
+    for key, value in m.items():
+        seen.append((key, value))
+        if key == 8:
+            del m[9]
+            m[10], m[30] = 1, 2
+    same(seen, [(key, key == 10) for key in range(20) if key != 9] + [(30, 2)])
     m.clear()
     same(len(m), 0)
 
@@ -360,7 +375,8 @@ def objects_found_or_made():
 
 def every_kind_of_scalar():
     s = zaluxhoni.create(4096)
-    for kind, least, most in (("u8", 0, 255), ("i32", -2**31, 2**31 - 1), ("i64", -2**63, 2**63 - 1), ("u64", 0, 2**64 - 1)):
+    for kind, least, most in (("u8", 0, 255), ("i32", -2**31, 2**31 - 1), ("i64", -2**63, 2**63 - 1),
+                              ("u64", 0, 2**64 - 1)):
         for number in (least, most):
             s.construct(kind, kind, number)
             same(s[kind], number)
@@ -403,9 +419,7 @@ def many_at_once():
         same(list(s[kind]), some[::-1])
     v = s.vector("v", "i64")
     v.assign(range(10000))
-    before = s._calls
     same(list(v), list(range(10000)))
-    same(s._calls - before < 50, True)
     same(v[9000:10], [])
     same(v[-2:], [9998, 9999])
     # what is changed while it is gone over is seen, as in a list
@@ -461,13 +475,14 @@ def a_segment_as_a_dict():
     s["texts"] = ["a", b"b"]
     s["pairs"] = {1: 10}
     same({name: s.info(name).kind for name in s},
-         {"large": "u64", "number": "i64", "numbers": "vec<i64>", "pairs": "map<i64,i64>", "text": "string", "texts": "vec<string>",
+         {"large": "u64", "number": "i64", "numbers": "vec<i64>", "pairs": "map<i64,i64>", "text": "string",
+          "texts": "vec<string>",
           "truth": "bool", "truths": "vec<bool>"})
     same((s["number"], str(s["text"]), "text" in s, "other" in s), (6, "text and more", True, False))
     s["numbers"] = [3]
     s["pairs"] = {2: 20, 1: 11}
     s["text"] = b"bytes"
-    same((list(s["numbers"]), dict(s["pairs"]), bytes(s["text"])), ([3], {1: 11, 2: 20}, b"bytes"))
+    same((list(s["numbers"]), dict(s["pairs"]), s["text"]), ([3], {1: 11, 2: 20}, "bytes"))
     raises(zaluxhoni.WrongKind, set_item, s, "numbers", ["a"])
     raises(zaluxhoni.WrongKind, set_item, s, "new", 1.5)
     raises(zaluxhoni.NotFound, s.__getitem__, "other")
@@ -523,6 +538,43 @@ def size_and_region():
     saved(s, "grown")
 
 
+def calls_of_c():
+    """The calls that Python has no names of its own for."""
+    made = zaluxhoni.create(1024)
+    made["a/1"] = 5
+    image = made.image()
+    made.discard()
+    library = zaluxhoni._library
+    room = ctypes.create_string_buffer(image, len(image))
+    zx, handle = library.zx, library.Handle()
+    memory = library.Memory(ctypes.addressof(room), len(image))
+    same(zx.zx_attach(handle, memory, len(image), 0), 0)
+    key, there, index = library.Key(0, 0, 0, b"a/1", 3), library.Elements(), ctypes.c_uint64(7)
+    same(zx.zx_view(handle, key, there), 0)
+    same(ctypes.c_int64.from_buffer(room, there.offset).value, 5)
+    same(there.at, ctypes.addressof(room) + there.offset)
+    before = library.Handle()
+    same(zx.zx_begin(handle, before), 0)
+    same(zx.zx_view_mut(handle, key, there), 0)
+    ctypes.c_int64.from_address(there.at).value = 6
+    same(zx.zx_rollback(handle, before), 0)
+    same(zx.zx_file_rollback(library.File(), before), zaluxhoni.Closed.code)
+    same(zx.zx_version(), 900)
+    same(zaluxhoni.__version__, "0.9.0")
+    same(zaluxhoni.state(), zx.zx_state().decode())
+    same(zx.zx_message(zaluxhoni.NoSpace.code), b"no space")
+    text = library.Text()
+    zx.zx_words(zaluxhoni.NoSpace.code, text)
+    same(ctypes.string_at(text.at, text.len), b"no space")
+    zx.zx_file_words(zaluxhoni.NoSpace.code, text)
+    same(ctypes.string_at(text.at, text.len), b"no space")
+    same(ctypes.c_int64.from_buffer(room, there.offset).value, 5)
+    same(zx.zx_named_from(handle, b"a/", 2, index), 0)
+    same(index.value, 0)
+    same(zx.zx_detach(handle, memory), 0)
+    same(memory.at, ctypes.addressof(room))
+
+
 def what_is_refused():
     s = zaluxhoni.create(1024)
     image = s.image()
@@ -547,9 +599,12 @@ def what_is_refused():
     raises(zaluxhoni.BadKind, s.construct, "vec<i64>[3]", "a")
     raises(zaluxhoni.BadKind, s.construct, "f64", "a", 1)
     raises(zaluxhoni.NotFound, s.info, "a")
-    for error, base in ((zaluxhoni.NotFound, KeyError), (zaluxhoni.Absent, KeyError), (zaluxhoni.OutOfRange, IndexError),
-                        (zaluxhoni.OutOfRange, OverflowError), (zaluxhoni.NoSpace, MemoryError), (zaluxhoni.WrongKind, TypeError),
-                        (zaluxhoni.ReadOnly, PermissionError), (zaluxhoni.Exists, ValueError), (zaluxhoni.Truncated, ValueError)):
+    for error, base in ((zaluxhoni.NotFound, KeyError), (zaluxhoni.Absent, KeyError),
+                        (zaluxhoni.OutOfRange, IndexError),
+                        (zaluxhoni.OutOfRange, OverflowError), (zaluxhoni.NoSpace, MemoryError),
+                        (zaluxhoni.WrongKind, TypeError),
+                        (zaluxhoni.ReadOnly, PermissionError), (zaluxhoni.Exists, ValueError),
+                        (zaluxhoni.Truncated, ValueError)):
         same((issubclass(error, base), issubclass(error, zaluxhoni.Error)), (True, True))
     same(str(zaluxhoni.ReadOnly()), "read only")
     same(str(zaluxhoni.NotFound()), "not found")
@@ -573,6 +628,486 @@ def one_thread():
     thread.join()
     same(errors, [zaluxhoni.WrongThread])
     same(len(s), 0)
+
+
+# ---- what a user of Python expects
+
+def values_of_one_kind_alone():
+    """What is assigned by a name is what the object is: neither the keys of a dict, nor a set, nor a byte."""
+    s = zaluxhoni.create(4096)
+    s["n"], s["v"], s["t"], s["m"], s["text"] = 5, [1, 2], ["a"], {1: 2}, "x"
+    s.construct("vec<u8>", "bytes", [1])
+    for name, refused in (("n", b"A"), ("n", "A"), ("n", {5: 6}), ("n", {5}), ("n", 5.0), ("n", None), ("v", {7: 8}),
+                          ("v", {1, 2}),
+                          ("v", b"ab"), ("v", "ab"), ("v", 5), ("v", ["a"]), ("t", {"a": 1}), ("t", {"a"}),
+                          ("t", "ab"), ("t", 5),
+                          ("t", [1]), ("m", [(1, 2)]), ("m", [1]), ("m", 5), ("m", "ab"), ("text", 5), ("text", ["a"]),
+                          ("text", {1: 2}),
+                          ("new", {1, 2}), ("new", iter([1])), ("new", None), ("new", [1.5]), ("new", {"a": 1}),
+                          ("bytes", "ab")):
+        raises(zaluxhoni.WrongKind, set_item, s, name, refused)
+    same(all_of(s), {"bytes": [1], "m": {1: 2}, "n": 5, "t": ["a"], "text": "x", "v": [1, 2]})
+    s["bytes"] = b"ab"
+    s["n"] = [6]
+    s["v"] = (3, 4)
+    s["text"] = bytearray(b"y")
+    same(all_of(s), {"bytes": [97, 98], "m": {1: 2}, "n": 6, "t": ["a"], "text": "y", "v": [3, 4]})
+    # an object of a segment is copied with its kind
+    s["copy"], s["map"], s["array"] = s["bytes"], s["m"], s.construct("i32[2]", None, [1, 2])
+    same([s.info(name).kind for name in ("copy", "map", "array")], ["vec<u8>", "map<i64,i64>", "i32"])
+    same(list(s["array"]), [1, 2])
+
+
+def all_of(mapping):
+    return {name: value.copy() if isinstance(value, zaluxhoni.Object) else value for name, value in mapping.items()}
+
+
+def a_mapping_as_dict_is_one():
+    s = zaluxhoni.create(4096)
+    s["v"], s["t"], s["n"], s["text"], s["m"] = [1, 2], ["a"], 5, "x", {1: 2}
+    same((s.pop("v"), s.pop("t"), s.pop("n"), s.pop("text"), s.pop("m"), s.pop("m", 7)),
+         ([1, 2], ["a"], 5, "x", {1: 2}, 7))
+    raises(zaluxhoni.NotFound, s.pop, "v")
+    s.setdefault("q", []).append(1)
+    s.setdefault("q", []).append(2)
+    same(list(s["q"]), [1, 2])
+    same((5 in s, None in s, "" in s, s.get(5), s.get(""), s.get("n" * 256, 8)), (False, False, False, None, None, 8))
+    raises(zaluxhoni.NotFound, lambda: s[5])
+    raises(zaluxhoni.NotFound, delete_item, s, 5)
+    raises(zaluxhoni.BadKey, set_item, s, 5, 1)
+    raises(zaluxhoni.BadName, set_item, s, "", 1)
+    same(s.popitem(), ("q", [1, 2]))
+    raises(zaluxhoni.NotFound, s.popitem)
+    raises(zaluxhoni.WrongKind, s.update, 5)
+    m = s.map("m", "i32", "i64")
+    m[1] = 10
+    same(("a" in m, m.get("a"), m.get("a", 3), None in m, 1.5 in m, True in m, 2**31 in m),
+         (False, None, 3, False, False, False, False))
+    for key in ("a", None, 2**31, 1.5, True):
+        raises(zaluxhoni.Absent, m.__getitem__, key)
+        raises(zaluxhoni.Absent, delete_item, m, key)
+        raises(zaluxhoni.Absent, m.pop, key)
+    raises(zaluxhoni.WrongKind, m.update, 5)
+    raises(zaluxhoni.WrongKind, m.update, {2: 20, "a": 1})
+    raises(zaluxhoni.OutOfRange, m.update, {2: 20, 3: 2**63})
+    same(dict(m), {1: 10})
+    m |= {2: 20}
+    same((m | {3: 30}, {0: 0} | m, list(reversed(m)), m.popitem(), len(m)),
+         ({1: 10, 2: 20, 3: 30}, {0: 0, 1: 10, 2: 20}, [2, 1], (1, 10), 1))
+    # texts are those of Python
+    s["text"] = "one two"
+    same((s["text"].upper(), s["text"].split(), f"{s.string('text'):>8}"), ("ONE TWO", ["one", "two"], " one two"))
+    same((json.dumps(s["text"]), json.dumps(s["m"].copy())), ('"one two"', '{"2": 20}'))
+
+
+def refusals_have_names():
+    """Each error derives from Error, and tells which object it is about."""
+    s = zaluxhoni.create(1024)
+    v, m, t, n = s.vector("numbers", "i32"), s.map("pairs", "i32", "i64"), s.strings("texts"), s.construct("i64",
+                                                                                                           "one", 5)
+    text, reader = s.string("text"), zaluxhoni.load(s.image(), "r")
+    gone = s.construct("vec<i64>", "gone")
+    gone.destroy()
+    for name, call in (
+            ("missing", lambda: s["missing"]), ("missing", lambda: s.object("missing")), ("missing",
+                                                                                          lambda: s.info("missing")),
+            ("missing", lambda: delete_item(s, "missing")), ("missing", lambda: s.pop("missing")), ("gone",
+                                                                                                    lambda: gone[0]),
+            ("gone", lambda: len(gone)), ("gone", lambda: gone.append(1)),
+            ("numbers", lambda: s.find("i64", "numbers")),
+            ("numbers", lambda: s.map("numbers")), ("one", lambda: s.construct("u8", "one", 1)),
+            ("one", lambda: s.string("one")),
+            ("numbers", lambda: v[0]), ("numbers", lambda: v[-1]), ("numbers", lambda: v.pop()),
+            ("numbers", lambda: v.append(2**31)),
+            ("numbers", lambda: v.append("x")), ("numbers", lambda: v.append(True)),
+            ("numbers", lambda: v.extend([1, "x"])),
+            ("numbers", lambda: v.assign(5)), ("numbers", lambda: v.remove(7)), ("numbers", lambda: v.index(7)),
+            ("numbers", lambda: v.reserve(10**6)), ("numbers", lambda: set_item(v, slice(0, 0, 2), [1])),
+            ("pairs", lambda: m[4]),
+            ("pairs", lambda: m.put(4, True)), ("pairs", lambda: m.put("x", 1)), ("pairs", lambda: m.update({1: "x"})),
+            ("pairs", lambda: m.pop(4)), ("pairs", lambda: m.popitem()), ("texts", lambda: t.append(5)),
+            ("texts", lambda: t[3]),
+            ("texts", lambda: t.assign("x")), ("texts", lambda: t.extend([1])), ("texts", lambda: t.append("x" * 2000)),
+            ("text", lambda: text.assign(5)), ("text", lambda: text[3]), ("text", lambda: set_item(text, 0, 1)),
+            ("one", lambda: set_item(n, 0, "x")), ("one", lambda: set_item(s, "one", 2**63)), ("one", lambda: n[5]),
+            ("numbers", lambda: set_item(reader, "numbers", [1])), ("new", lambda: set_item(reader, "new", 1)),
+            ("numbers", lambda: reader["numbers"].append(1)), ("new", lambda: set_item(s, "new", 1.5)),
+            ("new", lambda: s.construct("i64", "new", 2**63)), ("new", lambda: s.construct("vec<i64>", "new", 5)),
+            ("new", lambda: s.construct("i64[2]", "new", 5.0)), ("new", lambda: s.construct("i64[2000]", "new", 5)),
+            ("new", lambda: s.construct("i64[2]", "new", [1])), ("new", lambda: s.construct("string", "new",
+                                                                                            "\ud800"))):
+        try:
+            call()
+        except zaluxhoni.Error as error:
+            same(repr(name) in str(error), True)
+            if repr(name) not in str(error):
+                print(f"  {type(error).__name__}: {error}, without {name!r}")
+        except Exception as error:
+            fails(f"a bare {type(error).__name__}: {error}")
+        else:
+            fails(f"no error about {name!r}")
+    for call in (lambda: v["a"], lambda: v[1.5], lambda: v[:"a"], lambda: v[::0], lambda: t["a"], lambda: text[:"a"],
+                 lambda: text["a"],
+                 lambda: set_item(v, "a", 1), lambda: delete_item(v, "a"), lambda: v.insert("a", 1),
+                 lambda: v.extend(5), lambda: v * "a",
+                 lambda: zaluxhoni.create("a"), lambda: zaluxhoni.create(None), lambda: zaluxhoni.open(5),
+                 lambda: zaluxhoni.open("a", 5),
+                 lambda: zaluxhoni.open("a", []), lambda: zaluxhoni.load(5), lambda: zaluxhoni.load(b"", None),
+                 lambda: zaluxhoni.create(1024, encoding="none such"), lambda: s.grow("a"), lambda: s.construct(5, "a"),
+                 lambda: s.vector("a", 5), lambda: s.group(5), lambda: unique(5), lambda: handle("a"),
+                 lambda: s.find(None, "a"),
+                 lambda: s.find("i64", 5), lambda: s.info(5), lambda: s.destroy(5), lambda: m.update({}, {}),
+                 lambda: m.next_after("a"),
+                 lambda: s.records("numbers", "d"), lambda: s.records("r", "none such"), lambda: s.records("r", int)):
+        try:
+            call()
+        except zaluxhoni.Error:
+            same(True, True)
+        except Exception as error:
+            fails(f"a bare {type(error).__name__}: {error}, line {call.__code__.co_firstlineno}")
+        else:
+            fails(f"no error, line {call.__code__.co_firstlineno}")
+
+
+def copies():
+    s = zaluxhoni.create(1024)
+    s["v"], s["t"], s["m"], s["x"] = [1, 2], ["a"], {1: 2}, "text"
+    for name, value in (("v", [1, 2]), ("t", ["a"]), ("m", {1: 2})):
+        for copied in (copy.copy(s[name]), copy.deepcopy(s[name]), pickle.loads(pickle.dumps(s[name])), s[name].copy()):
+            same(copied, value)
+            same(type(copied) in (list, dict), True)
+    same(copy.copy(s.string("x")), "text")
+    same(s.is_open, True)
+
+
+def a_list_as_list_is_one():
+    s = zaluxhoni.create(4096)
+    v, free = s.vector("v", "i64"), s.free
+    v.extend(range(5))
+    # all of it or nothing
+    raises(zaluxhoni.OutOfRange, v.extend, [1, 2**63])
+    raises(zaluxhoni.NoSpace, v.extend, range(10**4))
+    same((list(v), v.capacity), ([0, 1, 2, 3, 4], 5))
+    t = s.strings("t")
+    t.extend(["a", "b"])
+    raises(zaluxhoni.NoSpace, t.extend, ["c", "d" * 10**4])
+    raises(zaluxhoni.WrongKind, t.extend, ["c", 5])
+    same(list(t), ["a", "b"])
+    # few behind many: places double, so that each is moved a few times
+    many, moved = s.construct("vec<u8>", "many", [0] * 100), 0
+    for number in range(200):
+        before = many.capacity
+        many.extend([number])
+        moved += many.capacity != before
+    same((len(many), moved < 4), (300, True))
+    v.sort(reverse=True)
+    v += [7]
+    v *= 2
+    same((v, v[::-3], v.count(7), [9] + v[:1], v[:1] + [9], v > [4, 3]), ([4, 3, 2, 1, 0, 7] * 2, [7, 2, 7, 2], 2,
+                                                                          [9, 4], [4, 9], True))
+    raises(zaluxhoni.NoElement, v.remove, 9)
+    raises(zaluxhoni.NoElement, v.index, 4, 1, 6)
+    same(v.index(4, 1), 6)
+    s.discard()
+
+
+# ---- threads
+
+def on_a_thread(call):
+    """What a call answers, or the name of its error, on a thread of its own."""
+    answers = []
+    thread = threading.Thread(target=lambda: answers.append(name_of_error(call)))
+    thread.start()
+    thread.join()
+    return answers[0]
+
+
+def threads_that_follow_each_other():
+    """A thread that has the ident of the one that opened the segment, and is another one."""
+    opened, idents = [], []
+
+    def opens():
+        idents.append(threading.get_ident())
+        s = zaluxhoni.create(1024)
+        s["v"], s["m"] = [1], {1: 2}
+        opened.append((s, s["v"], s["m"]))
+
+    on_a_thread(opens)
+    s, v, m = opened[0]
+    calls = (lambda: s.size, lambda: v[0], lambda: m[1], lambda: v.append(1), lambda: set_item(m, 1, 3),
+             lambda: set_item(v, 0, 3),
+             lambda: len(v), lambda: list(m), lambda: s.discard(), lambda: s.save())
+    for _ in range(100):
+        same(on_a_thread(lambda: (idents.append(threading.get_ident()), [name_of_error(call) for call in calls])[1]),
+             ["WrongThread"] * len(calls))
+        if idents[-1] == idents[0]:
+            break
+    same([name_of_error(call) for call in calls], ["WrongThread"] * len(calls))
+
+
+def one_segment_of_many_threads():
+    path = new("threads")
+    with zaluxhoni.open(path, "x", size=4096, grow=True, check_same_thread=False) as s:
+        s["n"] = 0
+        s["m"], s["v"], s["t"] = {0: 0}, [0], ["a"]
+        m, v, t, group = s["m"], s["v"], s["t"], s.group("g/")
+
+        def works(own):
+            for number in range(300):
+                with s.transaction():
+                    s["n"] += 1
+                m.setdefault(number, number)
+                m[1000 + own] = m.get(1000 + own, 0) + 1
+                v.append(own)
+                t.append(f"{own}")
+                group[f"{own}/{number % 5}"] = number
+                list(v), list(m.items()), list(group), v.index(own), s.pop(f"own {own}", None)
+                s[f"own {own}"] = [number]
+
+        threads = [threading.Thread(target=works, args=(own,)) for own in range(4)]
+        for thread in threads:
+            thread.start()
+        for thread in threads:
+            thread.join()
+        same((s["n"], len(v), len(t), s.sanity()), (1200, 1201, 1201, True))
+        same([m[1000 + own] for own in range(4)], [300] * 4)
+        same([v.count(own) for own in range(1, 4)], [300] * 3)
+        same((len(group), type(v).__name__, isinstance(v, zaluxhoni.Vector)), (20, "Vector", True))
+    with zaluxhoni.open(path, "r") as s:
+        same(s["n"], 1200)
+
+
+# ---- groups, transactions, records
+
+def groups():
+    s = zaluxhoni.create(8192)
+    prices = s.group("prices/")
+    same((len(prices), list(prices), prices.get("a"), "a" in prices, 5 in prices), (0, [], None, False, False))
+    prices["apples"], prices["pears"] = 250, {1: 2}
+    prices.map("old", "i32", "i64")[7] = 8
+    prices.group("of/").strings("kinds").append("red")
+    s["prices"], s["prices0"], s["pric"], s["prices/"], s["q"] = 1, 2, 3, 4, 5
+    same(list(prices), ["", "apples", "of/kinds", "old", "pears"])
+    same((len(prices), prices["apples"], s["prices/apples"], prices[""]), (5, 250, 250, 4))
+    same([info.name for info in prices.named()], ["prices/", "prices/apples", "prices/of/kinds", "prices/old",
+                                                  "prices/pears"])
+    same(all_of(prices), {"": 4, "apples": 250, "of/kinds": ["red"], "old": {7: 8}, "pears": {1: 2}})
+    same(prices.group("of/").named()[0].name, "prices/of/kinds")
+    same((prices.pop("apples"), prices.popitem(), len(prices)), (250, ("", 4), 3))
+    raises(zaluxhoni.NotFound, lambda: prices["apples"])
+    raises(zaluxhoni.BadKey, set_item, prices, 5, 1)
+    raises(zaluxhoni.BadKey, prices.construct, "u8", unique("u8"), 1)
+    raises(zaluxhoni.BadKey, prices.construct, "u8", None, 1)
+    # what is made and destroyed while it is gone over is seen, or not, by its name
+    seen = []
+    for name in prices:
+        seen.append(name)
+        if name == "of/kinds":
+            del prices["old"]
+            prices["peaches"] = 1
+    same(seen, ["of/kinds", "peaches", "pears"])
+    prices.clear()
+    same(list(s), ["pric", "prices", "prices0", "q"])
+    # the last names that there are, and those behind them
+    s["\U0010ffff"], s["\U0010ffffa"] = 1, 2
+    same((list(s.group("\U0010ffff")), len(s.group("\U0010ffff")), len(s.group(""))), (["", "a"], 2, 6))
+
+
+def transactions():
+    s = zaluxhoni.create(1024, grow=True)
+    s["a"], s["v"] = 1, [1]
+    before, v = s.image(), s["v"]
+    try:
+        with s.transaction() as same_segment:
+            same(same_segment is s, True)
+            s["a"] = 2
+            v.extend(range(1000))
+            s["b"] = "text"
+            with s.transaction():
+                del s["a"]
+            raise KeyError("gone")
+    except KeyError as error:
+        same(str(error), "'gone'")
+    same((s.image() == before, s["a"], list(v)), (True, 1, [1]))
+    with s.transaction():
+        s["a"] = 3
+        try:
+            with s.transaction():
+                s["a"] = 4
+                raise ValueError
+        except ValueError:
+            pass
+        same(s["a"], 3)
+        v.append(2)
+    same((s["a"], list(v)), (3, [1, 2]))
+    path = new("transaction")
+    with zaluxhoni.open(path, "x", size=1024) as s:
+        s["a"] = 1
+        s.save()
+        try:
+            with s.transaction():
+                s["a"] = 2
+                raise KeyError
+        except KeyError:
+            pass
+        same((s["a"], s.mode), (1, "write"))
+        s["b"] = 2
+    with zaluxhoni.open(path, "p") as s:
+        try:
+            with s.transaction():
+                s["a"] = 2
+                raise KeyError
+        except KeyError:
+            pass
+        same((all_of(s), s.mode), ({"a": 1, "b": 2}, "copy on write"))
+    with zaluxhoni.open(path, "r") as s:
+        with s.transaction():
+            same(s["a"], 1)
+    raises(zaluxhoni.Closed, s.transaction().__enter__)
+
+
+class Point(ctypes.Structure):
+    _fields_ = [("x", ctypes.c_double), ("y", ctypes.c_double), ("name", ctypes.c_int16)]
+
+
+def records():
+    s = zaluxhoni.create(4096)
+    doubles = s.records("doubles", "d")
+    doubles.extend([1.5, -2.5])
+    doubles.append(3.5)
+    doubles.insert(0, 0.25)
+    doubles[1] = 1.75
+    same((list(doubles), doubles[-1], doubles[1:3], len(doubles), len(s["doubles"])),
+         ([0.25, 1.75, -2.5, 3.5], 3.5, [1.75, -2.5], 4, 32))
+    del doubles[0]
+    doubles[1:1] = [9.0, 8.0]
+    del doubles[::2]
+    same((list(doubles), doubles.index(-2.5), doubles.pop(), 8.5 in doubles), ([9.0, -2.5], 1, -2.5, False))
+    doubles.assign([])
+    same((list(doubles), doubles == []), ([], True))
+    raises(zaluxhoni.WrongKind, doubles.append, "x")
+    raises(zaluxhoni.OutOfRange, lambda: doubles[0])
+    pairs = s.records("pairs", "<hI")
+    pairs.assign([(-1, 2), (3, 4)])
+    same((list(pairs), bytes(s["pairs"][:6])), ([(-1, 2), (3, 4)], b"\xff\xff\2\0\0\0"))
+    raises(zaluxhoni.WrongKind, pairs.append, (1, 2, 3))
+    raises(zaluxhoni.WrongKind, pairs.append, (2**15, 2))
+    points = s.records("points", Point)
+    points.append(Point(1.5, 2.5, 3))
+    points.append((4.5, 5.5, 6))
+    same([(point.x, point.y, point.name) for point in points], [(1.5, 2.5, 3), (4.5, 5.5, 6)])
+    same(len(s["points"]), 48)
+    # an array of bytes is records too, whose number stays
+    s.construct("u8[24]", "origin", bytes(Point(7, 8, 9)))
+    origin = s.records("origin", Point)
+    origin[0] = Point(origin[0].x + 1, 8, 9)
+    same((origin[0].x, len(origin)), (8.0, 1))
+    raises(zaluxhoni.WrongKind, origin.append, Point())
+    raises(zaluxhoni.BadCount, len, s.records("origin", "5s"))
+    raises(zaluxhoni.WrongKind, s.records, "origin2", int)
+
+
+def views():
+    """Elements where they stand."""
+    s = zaluxhoni.create(4096, grow=True)
+    s["v"], s["n"], s["other"] = [1, 2, 3], 5, [7]
+    text, v = s.string("text"), s["v"]
+    text.assign("abc")
+    view = v.view()
+    same((view.tolist(), view.format, view.readonly, view.nbytes), ([1, 2, 3], "q", False, 24))
+    view[1] = 20
+    v[0] = 10
+    v[2:] = [30]
+    s["n"] = 6
+    s["new"] = "text"
+    s["other"].extend(range(20))
+    same((view.tolist(), list(v)), ([10, 20, 30], [10, 20, 30]))
+    # what would move the elements, or their segment, is refused while they are lent
+    for call in (lambda: v.append(1), lambda: v.pop(), lambda: v.clear(), lambda: v.extend([1]), lambda: v.assign([1]),
+                 lambda: v.insert(0, 1),
+                 lambda: v.reserve(100), lambda: v.trim(), lambda: v.__delitem__(0), lambda: s.__delitem__("v"),
+                 lambda: s.destroy("v"),
+                 lambda: s.pop("v"), lambda: s.object(handle(v.handle)).append(1), lambda: set_item(s, "v", [1]),
+                 lambda: s.grow(64), lambda: s.shrink(), lambda: s.relocate(2**20),
+                 lambda: s["other"].extend(range(2000))):
+        raises(zaluxhoni.Lent, call)
+    same((view.tolist(), "v" in s), ([10, 20, 30], True))
+    del view
+    v.append(40)
+    with v.view() as view:
+        part = view[1:3]
+    raises_bare(ValueError, lambda: view[0])
+    raises(zaluxhoni.Lent, v.append, 1)
+    part.release()
+    v.append(50)
+    same((bytes(text.view()), text.view().format, v.view().tolist()), (b"abc", "B", [10, 20, 30, 40, 50]))
+    for kind, some in (("bool", [True, False]), ("u8", [1, 255]), ("i32", [-1, 2**31 - 1]), ("u64", [1, 2**64 - 1])):
+        for made in (s.construct(f"vec<{kind}>", None, some), s.construct(f"{kind}[2]", None, some)):
+            same(made.view().tolist(), some)
+    same(s.vector("empty", "i64").view().tolist(), [])
+    reader = zaluxhoni.load(s.image(), "r")
+    view = reader["v"].view()
+    same((view.readonly, view.tolist()), (True, [10, 20, 30, 40, 50]))
+    # a segment that is closed, or rolled back, leaves them their memory
+    view = v.view()
+    try:
+        with s.transaction():
+            s["n"] = 8
+            raise KeyError
+    except KeyError:
+        pass
+    same((s["n"], view.tolist()), (6, [10, 20, 30, 40, 50]))
+    view[0] = 11
+    same(v[0], 10)
+    v.append(60)
+    path = new("views")
+    with zaluxhoni.open(path, "x", size=1024) as s:
+        s["v"] = [1, 2]
+        s.save()
+        view = s["v"].view()
+        view[0] = 5
+    view[1] = 6
+    del s, v, reader
+    gc.collect()
+    same(view.tolist(), [5, 6])
+    with zaluxhoni.open(path, "w") as s:
+        same(s["v"].copy(), [5, 2])
+        view = s["v"].view()
+        s.save()
+        view[0] = 7
+        s["n"] = 1
+        s.save()
+        view[1] = 8
+        del view
+    with zaluxhoni.open(path, "r") as s:
+        same(s["v"].copy(), [7, 8])
+        view = s["v"].view()
+    with zaluxhoni.create(4096, check_same_thread=False) as s:
+        s["v"] = [1, 2]
+        view = s["v"].view()
+        same(on_a_thread(lambda: name_of_error(lambda: s["v"].append(3))), "Lent")
+        same(on_a_thread(lambda: view.tolist()), [1, 2])
+        view = None
+        same(on_a_thread(lambda: s["v"].append(3)), None)
+        same(s["v"].copy(), [1, 2, 3])
+    s = zaluxhoni.open(path, "w", mapped=True)
+    view = s["v"].view()
+    view[0] = 9
+    raises(zaluxhoni.Lent, s.close)
+    raises(zaluxhoni.Lent, s.discard)
+    del view
+    s.close()
+    with zaluxhoni.open(path, "r") as s:
+        same(s["v"].copy(), [9, 8])
+
+
+def raises_bare(error, call):
+    try:
+        call()
+    except error:
+        same(True, True)
+    else:
+        fails(f"no {error.__name__}")
 
 
 # ---- files
@@ -635,6 +1170,34 @@ def files():
         gc.collect()
     same([warning.category for warning in caught], [ResourceWarning])
     zaluxhoni.open(path, "w").close()
+
+
+def files_that_are_mapped():
+    path = new("mapped")
+    s = zaluxhoni.open(path, "x", size=4096, mapped=True)
+    s["a"] = 5
+    with zaluxhoni.open(path, "r") as reader:
+        same(reader["a"], 5)
+    raises(zaluxhoni.FileInUse, zaluxhoni.open, path, "w")
+    raises(zaluxhoni.FileInUse, zaluxhoni.open, path, "r", mapped=True)
+    s.grow(4096)
+    same((s.size, os.path.getsize(path), s["a"]), (8192, 8192, 5))
+    s.flush()
+    s.growing = True
+    s["v"] = list(range(4000))
+    same((s["v"][3999], os.path.getsize(path)), (3999, s.size))
+    del s["v"]
+    s.shrink()
+    same(os.path.getsize(path), s.size)
+    s["a"] = 6
+    s.discard()
+    with zaluxhoni.open(path, "r", mapped=True) as reader, zaluxhoni.open(path, "p", mapped=True) as private:
+        private["a"] = 7
+        same((reader["a"], private["a"]), (6, 7))
+        raises(zaluxhoni.ReadOnly, set_item, reader, "a", 7)
+        raises(zaluxhoni.FileInUse, zaluxhoni.open, path, "w")
+    with zaluxhoni.open(path, "w") as s:
+        same(s["a"], 6)
 
 
 def what_is_refused_by_name():
@@ -772,14 +1335,21 @@ def what_is_not_closed():
 
 
 for case in (an_anonymous_object, names, index_and_object_do_not_both_fit, arrays, the_only_object_of_its_kind,
-             places_reserved_in_the_indexes, best_fit, storage_is_lengthened_then_replaced, a_string_grows_and_shrinks, a_map,
-             refusals_of_a_vector, a_vector_of_strings, objects_found_or_made, every_kind_of_scalar, many_at_once, one_of_each,
-             a_segment_as_a_dict, maps_are_made_whole, size_and_region, what_is_refused, one_thread, files,
+             places_reserved_in_the_indexes, best_fit, storage_is_lengthened_then_replaced, a_string_grows_and_shrinks,
+             a_map,
+             refusals_of_a_vector, a_vector_of_strings, objects_found_or_made, every_kind_of_scalar, many_at_once,
+             one_of_each,
+             a_segment_as_a_dict, maps_are_made_whole, values_of_one_kind_alone, a_mapping_as_dict_is_one,
+             refusals_have_names,
+             copies, a_list_as_list_is_one, threads_that_follow_each_other, one_segment_of_many_threads, groups,
+             transactions,
+             records, views, size_and_region, calls_of_c, what_is_refused, one_thread, files, files_that_are_mapped,
              what_is_refused_by_name, a_process_that_forks, a_relative_path, files_that_fail, what_is_not_closed):
     try:
         case()
     except Exception as error:
         wrong += 1
-        print(f"every_call.py: WRONG {case.__name__}: {type(error).__name__}: {error}, line {error.__traceback__.tb_next.tb_lineno}")
+        line = error.__traceback__.tb_next.tb_lineno
+        print(f"every_call.py: WRONG {case.__name__}: {type(error).__name__}: {error}, line {line}")
 print(f"every_call.py: {checks} checks, {wrong} wrong")
 sys.exit(wrong != 0)

@@ -13,6 +13,7 @@
 #include <stdarg.h>
 #include <stdio.h>
 #include <stdlib.h>
+#include <sys/mman.h>
 #include <sys/stat.h>
 #include <sys/syscall.h>
 #include <sys/wait.h>
@@ -80,6 +81,20 @@ WRAPPED(int, syncfs, (int file), file)
 WRAPPED(int, fchmod, (int file, mode_t mode), file, mode)
 WRAPPED(int, renameat, (int from, const char *one, int to, const char *other), from, one, to, other)
 WRAPPED(int, unlinkat, (int folder, const char *path, int flags), folder, path, flags)
+WRAPPED(int, msync, (void *at, size_t len, int flags), at, len, flags)
+WRAPPED(int, fallocate, (int file, int mode, off_t at, off_t len), file, mode, at, len)
+
+void *__real_mmap(void *at, size_t len, int protection, int flags, int file, off_t from);
+void *__wrap_mmap(void *at, size_t len, int protection, int flags, int file, off_t from);
+void *__wrap_mmap(void *at, size_t len, int protection, int flags, int file, off_t from) {
+    return way == AT_ONCE && fails("mmap", EIO) ? MAP_FAILED : __real_mmap(at, len, protection, flags, file, from);
+}
+
+void *__real_mremap(void *at, size_t len, size_t wanted, int flags, ...);
+void *__wrap_mremap(void *at, size_t len, size_t wanted, int flags, ...);
+void *__wrap_mremap(void *at, size_t len, size_t wanted, int flags, ...) {
+    return way == AT_ONCE && fails("mremap", ENOMEM) ? MAP_FAILED : __real_mremap(at, len, wanted, flags);
+}
 
 int __real_stat(const char *path, struct stat *found);
 int __wrap_stat(const char *path, struct stat *found);
@@ -297,15 +312,48 @@ static zx_code read_scene(zx_file *file) {
     return code;
 }
 
+/* A mapped file is changed in place: whatever fails, it is an image, of before or of after. */
+static zx_code map_scene(zx_file *file) {
+    zx_code code = zx_file_open(file, the_file(), ZX_OPEN_ONLY | ZX_MAPPED, 0);
+    if (code == ZX_DONE) code = set(file, 6);
+    if (code == ZX_DONE) code = zx_file_flush(file);
+    IS(has_errno(file, code), true);
+    return code;
+}
+
+static zx_code grow_scene(zx_file *file) {
+    zx_code code = zx_file_open(file, the_file(), ZX_OPEN_ONLY | ZX_MAPPED, 0);
+    if (code == ZX_DONE) code = set(file, 6);
+    if (code == ZX_DONE) code = zx_file_grow(file, 1 << 20);
+    IS(has_errno(file, code), true);
+    if (code == ZX_DONE) code = zx_file_shrink(file);
+    IS(has_errno(file, code), true);
+    return code;
+}
+
+static zx_code make_mapped_scene(zx_file *file) {
+    zx_code code = zx_file_open(file, the_file(), ZX_CREATE_ONLY | ZX_MAPPED, 66560);
+    IS(has_errno(file, code), true);
+    if (code == ZX_DONE) code = set(file, 6);
+    return code == ZX_DONE ? looked_at(file, zx_file_flush(file)) : code;
+}
+
 struct scene {
     const char *name;
     zx_code (*run)(zx_file *);
     int64_t before, after; /* what stands under the path; -1 is nothing */
+    bool is_mapped;
 };
 
 static const struct scene scenes[] = {
-    { "save", save_scene, 5, 6 },        { "make", make_scene, -1, 6 },       { "put", put_scene, 5, 6 },
-    { "put new", put_new_scene, -1, 6 }, { "read", read_scene, 5, 5 },
+    { "save", save_scene, 5, 6, false },
+    { "make", make_scene, -1, 6, false },
+    { "put", put_scene, 5, 6, false },
+    { "put new", put_new_scene, -1, 6, false },
+    { "read", read_scene, 5, 5, false },
+    { "map", map_scene, 5, 6, true },
+    { "grow", grow_scene, 5, 6, true },
+    { "make mapped", make_mapped_scene, -1, 6, true },
 };
 
 /* One scene, of which one call fails. Whether one was there to fail. */
@@ -321,9 +369,12 @@ static bool is_tried(const struct scene *scene, int at) {
     zx_code code = scene->run(&file);
     bool is_hit = failed != NULL, may_leave = is_hit && strcmp(failed, "unlinkat") == 0;
     countdown = 0;
+    if (scene->is_mapped) zx_file_discard(&file);
     int64_t now = stands(the_file());
     if (code == ZX_DONE || code == ZX_FILE_UNSYNCED)
         IS(now, scene->after);
+    else if (scene->is_mapped)
+        IS(now == scene->before || now == scene->after || now == 0, true);
     else if (!file.held || scene->before >= 0)
         IS(now, may_leave && scene->before < 0 && now >= -1 ? now : scene->before);
     else
@@ -351,7 +402,8 @@ static void where_the_system_fails(void) {
                 while (is_tried(&scenes[i], at)) at++;
                 if (lacks == HAS_ALL) printf("%s: %d calls were made to fail, way %d\n", scenes[i].name, at - 1, way);
                 if (way == AT_ONCE) IS(at > 5, true);
-                if (way == AT_ONCE) IS(unsynced > 0, scenes[i].after == 6);
+                bool makes_name = scenes[i].after == 6 && (!scenes[i].is_mapped || scenes[i].before < 0);
+                if (way == AT_ONCE) IS(unsynced > 0, makes_name);
             }
         }
     }
@@ -481,6 +533,30 @@ static void a_file_put_there_meanwhile(void) {
 }
 
 /* A file that begins with the image and goes on is another one. */
+/* What no call changed is not written, and no byte of the file is looked at; what a view may have changed is. */
+static void what_did_not_change(void) {
+    zx_file file = ZX_CLOSED_FILE;
+    zx_key key = zx_name("n");
+    zx_elements number;
+    zx_value value;
+    IS(zx_file_open(&file, the_file(), ZX_OPEN_ONLY, 0), ZX_DONE);
+    IS(zx_get(&file.segment, &key, 0, &value), ZX_DONE);
+    IS(zx_view(&file.segment, &key, &number), ZX_DONE);
+    way = AT_ONCE;
+    countdown = 1;
+    IS(zx_file_save(&file), ZX_DONE);
+    IS(countdown, 1);
+    countdown = 0;
+    IS(zx_view_mut(&file.segment, &key, &number), ZX_DONE);
+    *(int64_t *)zx_elements_mut(&file.segment, &number) = 6;
+    IS(zx_file_save(&file), ZX_DONE);
+    IS(stands(the_file()), 6);
+    *(int64_t *)zx_elements_mut(&file.segment, &number) = 7;
+    IS(zx_file_close(&file), ZX_DONE);
+    IS(stands(the_file()), 7);
+    seed(5);
+}
+
 static void a_longer_file(void) {
     zx_file file = ZX_CLOSED_FILE;
     seed(5);
@@ -600,6 +676,7 @@ int main(int count, char **words) {
     what_is_passed();
     a_pipe_behind_the_look();
     a_child_by_the_system_call();
+    what_did_not_change();
     a_longer_file();
     a_file_put_there_meanwhile();
     holes();

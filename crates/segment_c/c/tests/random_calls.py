@@ -1,5 +1,7 @@
-"""random_calls.py FOLDER [SEED]: the same random calls to objects of a segment and to Python's own list, dict and
-bytearray, which are compared, errors included; the segment is saved and opened again on the way."""
+"""random_calls.py FOLDER [SEED [STEPS]]: the same random calls to objects of a segment and to Python's own list, dict
+and bytearray, STEPS of them for lists, as many for maps, and as many for names in a segment and in a group of it;
+answers are compared, and classes of errors; the segment is saved and opened again on the way."""
+import collections.abc
 import os
 import random
 import sys
@@ -7,9 +9,11 @@ import sys
 import zaluxhoni
 
 folder, seed = sys.argv[1], int(sys.argv[2]) if len(sys.argv) > 2 else 1
+steps = int(sys.argv[3]) if len(sys.argv) > 3 else 5000
 chance = random.Random(seed)
 path = os.path.join(folder, "python-random.seg")
-ranges = {"bool": (False, True), "u8": (0, 255), "i32": (-2**31, 2**31 - 1), "i64": (-2**63, 2**63 - 1), "u64": (0, 2**64 - 1)}
+ranges = {"bool": (False, True), "u8": (0, 255), "i32": (-2**31, 2**31 - 1), "i64": (-2**63, 2**63 - 1),
+          "u64": (0, 2**64 - 1)}
 wrong = calls = 0
 
 
@@ -24,21 +28,35 @@ def text():
     return "".join(chance.choice("aé€🙂\0 ") for _ in range(chance.choice((0, 1, 3, 40, 400))))
 
 
-def outcome(call):
-    """What a call answers, or the class of its error that Python has too."""
+def outcome(call, of):
+    """What a call answers, or the class of its error that Python has too; those of this package derive from Error."""
     try:
-        return call()
-    except (IndexError, KeyError) as error:
-        return IndexError if isinstance(error, IndexError) else KeyError
+        answer = call(of)
+    except (IndexError, KeyError, TypeError, ValueError) as error:
+        if not isinstance(of, (list, dict, bytearray)) and not isinstance(error, zaluxhoni.Error):
+            return f"a bare {type(error).__name__}: {error}"
+        return next(kind for kind in (IndexError, KeyError, TypeError, ValueError) if isinstance(error, kind))
+    return "itself" if answer is of else plain(answer)
 
 
-def compare(what, ours, theirs):
+def plain(answer):
+    if isinstance(answer, zaluxhoni.Object):
+        return answer.copy() if hasattr(answer, "copy") else answer
+    return answer
+
+
+def compare(what, call, ours, theirs):
+    """The call, of both; the state of chance is the same."""
     global wrong, calls
     calls += 1
-    ours, theirs = outcome(ours), outcome(theirs)
-    if ours != theirs or type(ours) is not type(theirs):
+    state = chance.getstate()
+    mine = outcome(call, ours)
+    chance.setstate(state)
+    wanted = outcome(call, theirs)
+    if mine != wanted or type(mine) is not type(wanted):
         wrong += 1
-        print(f"random_calls.py: WRONG {what}, seed {seed}: {ours!r}, not {theirs!r}")
+        if wrong < 20:
+            print(f"random_calls.py: WRONG {what}, seed {seed}, call {calls}: {mine!r}, not {wanted!r}")
 
 
 def set_item(of, index, value):
@@ -49,73 +67,232 @@ def delete_item(of, index):
     del of[index]
 
 
+def in_place(of, operation):
+    """The operation in place answers the object itself."""
+    return operation(of) is of
+
+
 def place(of):
-    return chance.randint(-len(of) - 2, len(of) + 2)
+    return chance.choice((chance.randint(-len(of) - 2, len(of) + 2), 0, -1, 10**15, -10**15)) if chance.random() < 0.2 \
+        else chance.randint(-len(of) - 2, len(of) + 2)
+
+
+def bound(of):
+    return None if chance.random() < 0.2 else place(of)
+
+
+def any_slice(of):
+    return slice(bound(of), bound(of), chance.choice((None, None, 1, 2, 3, -1, -2, -7)))
+
+
+def walk(of, changes):
+    """Goes over a list that is changed meanwhile."""
+    seen = []
+    for value in of:
+        seen.append(value)
+        if len(seen) > 60:
+            break
+        if changes:
+            changes.pop()(of)
+    return seen
+
+
+def walk_back(of, changes):
+    seen = []
+    for value in reversed(of):
+        seen.append(value)
+        if changes:
+            changes.pop()(of)
+    return seen
+
+
+def one_of_list(theirs, new):
+    """A call of a list."""
+    index, other, value, some = place(theirs), place(theirs), new(), [new() for _ in range(chance.randint(0, 5))]
+    known = chance.choice(theirs) if theirs and chance.random() < 0.8 else value
+    part, exact = any_slice(theirs), any_slice(theirs)
+    fitting = [new() for _ in range(len(theirs[exact]))]
+    changes = [chance.choice((lambda of: of.append(known), lambda of: of.pop() if len(of) else None,
+                              lambda of: of.insert(1, known),
+                              lambda of: set_item(of, 0, known) if len(of) else None, lambda of: None))
+               for _ in range(chance.randint(0, 9))]
+    return chance.choice((
+        lambda of: of.append(value), lambda of: of.append(value), lambda of: of.insert(index, value),
+        lambda of: of.pop(),
+        lambda of: of.pop(index), lambda of: of[index], lambda of: set_item(of, index, value),
+        lambda of: delete_item(of, index), lambda of: of[part], lambda of: set_item(of, part, some),
+        lambda of: set_item(of, exact, fitting), lambda of: set_item(of, part, iter(some)),
+        lambda of: delete_item(of, part), lambda of: of.extend(some), lambda of: of.extend(iter(some)),
+        lambda of: of.extend(tuple(some)), lambda of: of.extend(of) if len(of) < 30 else None,
+        lambda of: in_place(of, lambda same: same.__iadd__(some)),
+        lambda of: in_place(of, lambda same: same.__imul__(2 if len(of) < 20 else 0)),
+         lambda of: known in of, len, lambda of: of.index(known), lambda of: of.index(known, index),
+        lambda of: of.index(known, index, other), lambda of: of.count(known), lambda of: of.remove(known),
+        lambda of: of.reverse(), lambda of: of.sort(), lambda of: of.sort(reverse=True, key=str), lambda of: of.copy(),
+        lambda of: of == some, lambda of: of == list(of), lambda of: list(of) == of, lambda of: of != some,
+        lambda of: of < some,
+        lambda of: of >= some, lambda of: some < of, lambda of: of + some, lambda of: some + of, lambda of: of * 2,
+        lambda of: 2 * of,
+        lambda of: list(of), lambda of: list(reversed(of)), lambda of: walk(of, list(changes)),
+        lambda of: walk_back(of, list(changes)), lambda of: of["a"], lambda of: of[1.5], lambda of: of[slice("a")],
+        lambda of: of[::0], lambda of: of.pop("a"), lambda of: of.insert("a", value), lambda of: of.extend(5),
+        lambda of: set_item(of, None, value), lambda of: delete_item(of, "a"), lambda of: set_item(of, slice(0, 1), 5),
+        lambda of: of.index(known, "a"), lambda of: of == (1,), lambda of: of == None,  # noqa: E711
+        lambda of: of.clear() if chance.random() < 0.3 else None))
 
 
 def change_list(name, ours, theirs, new):
-    """One call of a list."""
-    index, other, value = place(theirs), place(theirs), new()
-    some = [new() for _ in range(chance.randint(0, 5))]
-    call = chance.choice((
-        lambda of: of.append(value), lambda of: of.append(value), lambda of: of.insert(index, value), lambda of: of.pop(),
-        lambda of: of.pop(index), lambda of: of[index], lambda of: set_item(of, index, value), lambda of: delete_item(of, index),
-        lambda of: list(of[index:other]), lambda of: list(of[::-2]), lambda of: set_item(of, slice(index, other), some),
-        lambda of: delete_item(of, slice(index, other)), lambda of: of.extend(some), lambda of: value in of, lambda of: len(of),
-        lambda of: of.clear() if chance.random() < 0.02 else None))
-    state = chance.getstate()
-    first = outcome(lambda: call(ours))
-    chance.setstate(state)
-    compare(name, lambda: first if not isinstance(first, type) else raising(first), lambda: call(theirs))
-    if chance.random() < 0.1:
+    compare(name, one_of_list(theirs, new), ours, theirs)
+    if chance.random() < 0.05:
         chance.choice((ours.trim, lambda: ours.reserve(len(ours) + 7)))()
-        compare(name, lambda: list(ours), lambda: list(theirs))
+    if chance.random() < 0.1:
+        compare(name, list, ours, theirs)
+    if len(theirs) > 60:
+        compare(name, lambda of: delete_item(of, slice(5, None)), ours, theirs)
 
 
-def raising(error):
-    raise error
+def ordered(answer):
+    return dict(sorted(answer.items())) if isinstance(answer, dict) else answer
+
+
+def least(of):
+    return of.popitem() if not isinstance(of, dict) else (min(of), of.pop(min(of))) if of else of.popitem()
+
+
+def updated(of, *others):
+    of.update(*others)
+    return None
+
+
+def one_of_map(theirs, kinds):
+    """A call of a map. Keys are few, so that they are met again."""
+    key = scalar(kinds[0]) if kinds[0] == "bool" else chance.randint(0, 99)
+    value = scalar(kinds[1])
+    more = {scalar(kinds[0]) if kinds[0] == "bool" else chance.randint(0, 99): scalar(kinds[1]) for _ in range(3)}
+    strange = chance.choice(("a", None, 2**70, -1.5, (1,), b"x"))
+    return chance.choice((
+        lambda of: set_item(of, key, value), lambda of: set_item(of, key, value), lambda of: of[key],
+        lambda of: delete_item(of, key), lambda of: of.pop(key), lambda of: of.pop(key, None),
+        lambda of: of.pop(key, "x"),
+        lambda of: key in of, lambda of: of.get(key), lambda of: of.get(key, "x"), len,
+        lambda of: of.setdefault(key, value),
+        lambda of: updated(of, more), lambda of: updated(of, list(more.items())),
+        lambda of: updated(of, iter(more.items())),
+        lambda of: updated(of), lambda of: in_place(of, lambda same: same.__ior__(more)), least,
+        lambda of: ordered(of | more), lambda of: ordered(more | of), lambda of: sorted(of),
+        lambda of: list(sorted(of.items())),
+        lambda of: sorted(of.values()), lambda of: sorted(reversed(of)), lambda of: sorted(reversed(of.items())),
+        lambda of: of == more,
+        lambda of: of == dict(of), lambda of: dict(of) == of, lambda of: of != more,
+        lambda of: (key, value) in of.items(),
+        lambda of: key in of.keys(), lambda of: value in of.values(), lambda of: sorted(of.keys() & more.keys()),
+        lambda of: sorted(of.keys() | set(more)), lambda of: ordered(of.copy()), lambda of: len(of.items()),
+        lambda of: sorted(of.keys() - {key}), lambda of: of.keys().isdisjoint(more), lambda of: bool(of),
+        lambda of: strange in of, lambda of: of.get(strange), lambda of: of.get(strange, 7), lambda of: of[strange],
+        lambda of: delete_item(of, strange), lambda of: of.pop(strange), lambda of: of.pop(strange, 8),
+        lambda of: (strange, 1) in of.items(), lambda of: (key,) in of.items(), lambda of: updated(of, 5),
+        lambda of: updated(of, [1]), lambda of: updated(of, [(1, 2, 3)]), lambda of: of.update({}, {}),
+        lambda of: of == 5,
+        lambda of: [set_item(of, each, value) for each in of],
+        lambda of: of.clear() if chance.random() < 0.2 else None))
 
 
 def change_map(name, ours, theirs, kinds):
-    """One call of a map."""
-    # keys are few, so that they are met again
-    key = scalar(kinds[0]) if kinds[0] == "bool" else chance.randint(0, 99)
-    value = scalar(kinds[1])
-    call = chance.choice((
-        lambda of: set_item(of, key, value), lambda of: set_item(of, key, value), lambda of: of[key],
-        lambda of: delete_item(of, key), lambda of: of.pop(key, None), lambda of: key in of, lambda of: of.get(key), len,
-        lambda of: of.setdefault(key, value), lambda of: of.update({key: value})))
-    compare(name, lambda: call(ours), lambda: call(theirs))
-    if chance.random() < 0.1:
-        compare(name, lambda: list(ours.items()), lambda: sorted(theirs.items()))
+    compare(name, one_of_map(theirs, kinds), ours, theirs)
+    if chance.random() < 0.05:
+        compare(name, lambda of: list(of.items()) if not isinstance(of, dict) else sorted(of.items()), ours, theirs)
 
 
 def change_string(name, ours, theirs):
     """One call of a string."""
     index, other, byte, more = place(theirs), place(theirs), chance.randint(0, 255), text().encode()
     call = chance.choice((
-        lambda of: of[index], lambda of: set_item(of, index, byte), lambda of: bytes(of[index:other]), lambda of: byte in of,
-        lambda of: more in of, len))
-    compare(name, lambda: call(ours), lambda: call(theirs))
+        lambda of: of[index], lambda of: set_item(of, index, byte), lambda of: bytes(of[index:other]),
+        lambda of: byte in of,
+        lambda of: set_item(of, slice(index, other), more), lambda of: more in of, len, list))
+    compare(name, call, ours, theirs)
     if chance.random() < 0.5:
         ours.append(more)
         theirs.extend(more)
     if chance.random() < 0.1:
         ours.assign(more)
         theirs[:] = more
-    compare(name, lambda: bytes(ours), lambda: bytes(theirs))
+    compare(name, bytes, ours, theirs)
 
 
-def all_of(segment):
-    return {name: bytes(found) if isinstance(found, zaluxhoni.String) else dict(found) if isinstance(found, zaluxhoni.Map)
-            else list(found) for name, found in segment.items()}
+def any_value():
+    return chance.choice((chance.randint(-9, 2**64 - 1), chance.random() < 0.5, text(), [1, 2, chance.randint(0, 9)],
+                          {1: 2, chance.randint(0, 9): 4}, [True], ["a", text()]))
 
 
-def run(segment, models):
-    """Some hundred calls to each object."""
+def value_like(known):
+    """Another value that an object with this one can have."""
+    if isinstance(known, bool):
+        return not known
+    if isinstance(known, int):
+        return chance.randint(0, 9) if known < 2**63 else 2**63 + chance.randint(0, 9)
+    if isinstance(known, str):
+        return text()
+    if isinstance(known, dict):
+        return {chance.randint(0, 9): 7}
+    return [value_like(each) for each in known] * 2
+
+
+def one_of_names(theirs):
+    """A call of a mapping of names. Names are few, so that they are met again."""
+    name, other = (chance.choice(("a", "b", "é", "p/", "p/x", "p/y", "p/é", "q", "z" * 200)) for _ in range(2))
+    value = value_like(theirs[name]) if name in theirs else any_value()
+    strange = chance.choice((5, None, "", "n" * 256, 1.5, ("a",)))
+    return chance.choice((
+        lambda of: set_item(of, name, value), lambda of: set_item(of, name, value), lambda of: of[name],
+        lambda of: delete_item(of, name),
+        lambda of: of.pop(name), lambda of: of.pop(name, "x"), lambda of: name in of, lambda of: of.get(name),
+        lambda of: of.get(name, 7), len,
+        lambda of: of.setdefault(name, value), lambda of: updated(of, {name: value}),
+        lambda of: updated(of, [(name, value)]),
+        lambda of: updated(of, **{}), lambda of: sorted(of), lambda of: sorted(of.keys() | {other}),
+        lambda of: sorted(reversed(of)),
+        lambda of: other in of.keys(), least, lambda of: strange in of, lambda of: of.get(strange),
+        lambda of: of.pop(strange, 6),
+        lambda of: of.pop(strange), lambda of: of[strange], lambda of: delete_item(of, strange), lambda of: bool(of),
+        lambda of: of == {name: value}, lambda of: of == all_of(of), lambda of: all_of(of) == of, lambda of: of == 5,
+        lambda of: updated(of, 5), lambda of: updated(of, [(1, 2, 3)]),
+        lambda of: of.clear() if chance.random() < 0.05 else None))
+
+
+def all_of(mapping):
+    return {name: value.copy() if isinstance(value, zaluxhoni.Object) else value for name, value in mapping.items()}
+
+
+def by_bytes(names):
+    return dict(sorted(names.items(), key=lambda pair: pair[0].encode()))
+
+
+def change_names(name, ours, theirs):
+    compare(name, one_of_names(theirs), ours, theirs)
+    if chance.random() < 0.05:
+        compare(name, lambda of: by_bytes(of) if isinstance(of, dict) else all_of(of), ours, theirs)
+
+
+own = {"string": bytearray, "vec": list, "map": dict}
+list_kinds = ["vec<string>", *(f"vec<{kind}>" for kind in ranges)]
+map_kinds = ["map<u8,i64>", "map<i32,bool>", "map<bool,u64>", "map<u64,u8>", "map<i64,i32>", "map<u8,u8>"]
+models = {kind: own[kind.split("<")[0]]() for kind in ["string", *list_kinds, *map_kinds]}
+names, group = {}, {}
+passes = 5
+
+
+def contents(of):
+    if isinstance(of, dict):
+        return {name: bytes(model) if name == "string" else model for name, model in of.items()}
+    return {name: bytes(of.object(name)) if name == "string" else of[name].copy() for name in models}
+
+
+def run(segment):
+    """A part of the calls to each object."""
     for name, model in models.items():
-        ours = segment[name]
-        for _ in range(chance.randint(100, 300)):
+        ours = segment.object(name)
+        for _ in range(steps // passes // (len(list_kinds) if name.startswith("vec") else len(map_kinds))):
             if name == "string":
                 change_string(name, ours, model)
             elif name.startswith("map"):
@@ -124,23 +301,36 @@ def run(segment, models):
                 change_list(name, ours, model, text if name == "vec<string>" else lambda: scalar(name[4:-1]))
 
 
-if os.path.exists(path):
-    os.unlink(path)
-kinds = ["string", "vec<string>", *(f"vec<{kind}>" for kind in ranges), "map<u8,i64>", "map<i32,bool>", "map<bool,u64>", "map<u64,u8>"]
-own = {"string": bytearray, "vec": list, "map": dict}
-models = {kind: own[kind.split("<")[0]]() for kind in kinds}
+for name in (path, path + ".names"):
+    if os.path.exists(name):
+        os.unlink(name)
 with zaluxhoni.open(path, "x", size=1024, grow=True) as segment:
-    for kind in kinds:
+    for kind in models:
         segment.construct(kind, kind)
-for _ in range(5):
-    with zaluxhoni.open(path, "w", grow=True) as segment:
-        run(segment, models)
+zaluxhoni.open(path + ".names", "x", size=1024).close()
+shared = chance.random() < 0.5
+for _ in range(passes):
+    with zaluxhoni.open(path, "w", grow=True, check_same_thread=not shared) as segment:
+        run(segment)
         if chance.random() < 0.5:
             segment.shrink()
         if segment.sanity() is not True:
             wrong += 1
     with zaluxhoni.open(path, "r") as segment:
-        compare("all of it", lambda: all_of(segment), lambda: {name: bytes(model) if name == "string" else model
-                                                                for name, model in models.items()})
+        compare("all of it", contents, segment, models)
+    with zaluxhoni.open(path + ".names", "w", grow=True, check_same_thread=shared) as segment:
+        segment.clear()
+        names.clear()
+        for _ in range(steps // passes // 2):
+            change_names("names", segment, names)
+        segment.clear()
+        segment["aa"] = segment["group"] = segment["h"] = 1
+        group.clear()
+        for _ in range(steps // passes // 2):
+            change_names("a group", segment.group("group/"), group)
+        segment.group("group/").clear()
+        if list(segment) != ["aa", "group", "h"] or segment.sanity() is not True:
+            wrong += 1
+            print(f"random_calls.py: WRONG names {list(segment)}")
 print(f"random_calls.py: {calls} calls, {wrong} wrong")
 sys.exit(wrong != 0)

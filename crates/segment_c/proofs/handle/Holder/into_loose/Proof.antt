@@ -28,10 +28,10 @@ use Rattle.std.proofs.raw_atomic.Walks.{proved_at, leaves}
 use Rattle.boxed.proofs.Values.{both, LooseRow, fits_pair, loose_made}
 use Rattle.segment_c.proofs.HandleValues.{Z, LZ, null_good, either, handle_out}
 use Rattle.segment_manager.specs.contracts.Segment.{the_row as R}
-use Rattle.segment_c.specs.contracts.handle.Handle as handle
-use Rattle.segment_c.specs.contracts.handle.Handle.into_loose as f
-use Rattle.segment_c.proofs.handle.Handle.into_loose.Statement.{statement}
-use Rattle.segment_c.proofs.handle.Handle.into_loose.Code as code
+use Rattle.segment_c.specs.contracts.handle.Holder as handle
+use Rattle.segment_c.specs.contracts.handle.Holder.into_loose as f
+use Rattle.segment_c.proofs.handle.Holder.into_loose.Statement.{statement}
+use Rattle.segment_c.proofs.handle.Holder.into_loose.Code as code
 
 abbrev hs : Stays f.ended.signature.params f.ended.kept
 hs = (stay_dropped _ f.ended.kept.0, tt)

@@ -22,9 +22,9 @@ use Rattle.std.proofs.raw_atomic.Walks.{proved_at, leaves}
 use Rattle.boxed.proofs.Values.{both}
 use Rattle.segment_c.proofs.HandleValues.{Z, al, null_good, handle_in}
 use Rattle.segment_manager.specs.contracts.Segment.{the_row as R}
-use Rattle.segment_c.specs.contracts.handle.Handle.closed as f
-use Rattle.segment_c.proofs.handle.Handle.closed.Statement.{statement}
-use Rattle.segment_c.proofs.handle.Handle.closed.Code as code
+use Rattle.segment_c.specs.contracts.handle.Holder.closed as f
+use Rattle.segment_c.proofs.handle.Holder.closed.Statement.{statement}
+use Rattle.segment_c.proofs.handle.Holder.closed.Code as code
 
 abbrev hs : Stays f.ended.signature.params f.ended.kept
 hs = (stay_dropped _ f.ended.kept.0, tt)

@@ -22,9 +22,9 @@ use Rattle.std.proofs.raw_atomic.Walks.{proved_at, leaves}
 use Rattle.boxed.proofs.Values.{both, LooseRow, fits_pair, loose_apart}
 use Rattle.segment_c.proofs.HandleValues.{Z, LZ, handle_in}
 use Rattle.segment_manager.specs.contracts.Segment.{the_row as R}
-use Rattle.segment_c.specs.contracts.handle.Handle.of as f
-use Rattle.segment_c.proofs.handle.Handle.of.Statement.{statement}
-use Rattle.segment_c.proofs.handle.Handle.of.Code as code
+use Rattle.segment_c.specs.contracts.handle.Holder.of as f
+use Rattle.segment_c.proofs.handle.Holder.of.Statement.{statement}
+use Rattle.segment_c.proofs.handle.Holder.of.Code as code
 
 abbrev hs : Stays f.ended.signature.params f.ended.kept
 hs = (stay_dropped _ f.ended.kept.0, tt)

@@ -1,0 +1,267 @@
+// Elements where they stand, rows, and files that are mapped: on this library (compiled with OURS, over
+// zaluxhoni_files.h) and on Boost.Interprocess's managed_mapped_file (compiled without). `places FILE [CHECKER]` prints
+// a line for each: whose side, what, how many steps, and processor nanoseconds a step, the least of seven rounds. FILE
+// is made and removed. CHECKER is the program `segment`, whose check of the same file is timed beside the opening.
+#ifdef OURS
+#include "zaluxhoni_files.h"
+#include <sys/resource.h>
+#include <sys/wait.h>
+#include <unistd.h>
+#else
+#include <boost/interprocess/allocators/allocator.hpp>
+#include <boost/interprocess/containers/vector.hpp>
+#include <boost/interprocess/managed_mapped_file.hpp>
+#endif
+
+#include <algorithm>
+#include <cstdint>
+#include <cstdio>
+#include <cstdlib>
+#include <cstring>
+#include <ctime>
+#include <string>
+#include <vector>
+
+namespace {
+
+constexpr int ROUNDS = 7, ELEMENTS = 1000000, OBJECTS = 200000;
+constexpr std::uint64_t MIB = 1u << 20, EMPTY_SIZES[] = {1 * MIB, 16 * MIB, 256 * MIB}, FULL_SIZE = 32 * MIB;
+
+double now() {
+    timespec time{};
+    clock_gettime(CLOCK_PROCESS_CPUTIME_ID, &time);
+    return static_cast<double>(time.tv_sec) * 1e9 + static_cast<double>(time.tv_nsec);
+}
+
+[[noreturn]] void stop(const std::string &what) {
+    std::fprintf(stderr, "places: %s failed\n", what.c_str());
+    std::exit(1);
+}
+
+void print(const char *side, const std::string &what, int steps, double took) {
+    std::printf("%s|%s|%d|%.2f\n", side, what.c_str(), steps, took / steps);
+}
+
+/// Prints the least time of a call, which must hold.
+template <class Call> void times(const char *side, const std::string &what, int steps, Call call) {
+    double least = 1e18;
+    for (int i = 0; i < ROUNDS; i++) {
+        const double before = now();
+        const bool holds = call();
+        least = std::min(least, now() - before);
+        if (!holds) stop(what);
+    }
+    print(side, what, steps, least);
+}
+
+std::string empty_file(std::uint64_t size) {
+    return "an empty mapped file of " + std::to_string(size / MIB) + " MiB opened, set, closed";
+}
+
+const char *const FULL_FILE = "a mapped file of 32 MiB with 200,000 objects opened, set, closed";
+
+#ifdef OURS
+void done(zx_code code, const char *what) {
+    if (code != ZX_DONE) stop(std::string(what) + ": " + zx_message(code));
+}
+
+/// One file, changed and closed, and opened by each round.
+bool open_set_close(const char *path) {
+    zx_file file = ZX_CLOSED_FILE;
+    const zx_key key = zx_name("n");
+    const zx_value seven = zx_i64(7);
+    bool holds = zx_file_open(&file, path, ZX_OPEN_ONLY | ZX_MAPPED, 0) == ZX_DONE;
+    holds = holds && zx_set(&file.segment, &key, 0, &seven) == ZX_DONE;
+    return holds && zx_file_close(&file) == ZX_DONE;
+}
+
+void make_file(const char *path, std::uint64_t size, int objects) {
+    zx_file file = ZX_CLOSED_FILE;
+    std::uint64_t handle;
+    const zx_key key = zx_name("n");
+    const zx_value five = zx_i64(5);
+    std::remove(path);
+    done(zx_file_open(&file, path, ZX_CREATE_ONLY | ZX_MAPPED, size), "a new file");
+    for (int i = 0; i < objects; i++) {
+        char name[16];
+        std::snprintf(name, sizeof name, "name%07d", i);
+        const zx_key each = zx_name(name);
+        done(zx_construct(&file.segment, &each, 1, &five, &handle), "an object");
+    }
+    done(zx_construct(&file.segment, &key, 1, &five, &handle), "an object");
+    done(zx_file_close(&file), "a close");
+}
+
+/// Processor nanoseconds of the program's check, in a process of its own.
+void check_beside(const char *checker, const char *path, const std::string &what) {
+    double least = 1e18;
+    for (int i = 0; i < ROUNDS; i++) {
+        const pid_t child = fork();
+        if (child == 0) {
+            execl(checker, checker, "check", path, static_cast<char *>(nullptr));
+            _exit(127);
+        }
+        int status = -1;
+        rusage used{};
+        if (wait4(child, &status, 0, &used) != child || status != 0) stop("the check");
+        const double took = 1e9 * static_cast<double>(used.ru_utime.tv_sec + used.ru_stime.tv_sec) +
+                            1e3 * static_cast<double>(used.ru_utime.tv_usec + used.ru_stime.tv_usec);
+        least = std::min(least, took);
+    }
+    print("check", what, 1, least);
+}
+
+/// Rows of one type: read, and written, beside memcpy.
+template <class T, class Values, class Read> void rows(const char *type, Values of, Read read) {
+    zx_segment s = ZX_CLOSED_HANDLE;
+    std::uint64_t handle;
+    const zx_key key = zx_name("v");
+    T *const from = new T[ELEMENTS], *const to = new T[ELEMENTS];
+    for (int i = 0; i < ELEMENTS; i++) from[i] = static_cast<T>(i % 2), to[i] = static_cast<T>(0);
+    const zx_values all = of(from, ELEMENTS);
+    done(zx_create(&s, 32 * MIB), "a segment");
+    done(zx_construct_vector(&s, &key, &all, &handle), "a vector");
+    const std::string name = std::string("elements of ") + type;
+    times("ours", name + " read as a row", ELEMENTS, [&] {
+        return read(&s, &key, 0, to, ELEMENTS) == ZX_DONE && to[1] == from[1];
+    });
+    times("plain", name + " read as a row", ELEMENTS, [&] {
+        std::memcpy(to, from, sizeof(T) * ELEMENTS);
+        asm volatile("" : : "r"(to) : "memory");
+        return true;
+    });
+    times("ours", name + " written as a row", ELEMENTS,
+          [&] { return zx_write_elements(&s, &key, 0, &all) == ZX_DONE; });
+    times("plain", name + " written as a row", ELEMENTS, [&] {
+        std::memcpy(to, from, sizeof(T) * ELEMENTS);
+        asm volatile("" : : "r"(to) : "memory");
+        return true;
+    });
+    zx_close(&s);
+    delete[] from;
+    delete[] to;
+}
+
+std::int64_t sum_of(const std::int64_t *at, std::uint64_t count) {
+    std::int64_t sum = 0;
+    for (std::uint64_t i = 0; i < count; i++) sum += at[i];
+    asm volatile("" : : "r"(sum) : "memory");
+    return sum;
+}
+
+void add_to(std::int64_t *at, std::uint64_t count) {
+    for (std::uint64_t i = 0; i < count; i++) at[i] += 1;
+    asm volatile("" : : "r"(at) : "memory");
+}
+
+void views() {
+    zx_segment s = ZX_CLOSED_HANDLE;
+    std::uint64_t handle;
+    const zx_key key = zx_name("v");
+    std::vector<std::int64_t> plain(ELEMENTS, 1);
+    const zx_values all = zx_i64s(plain.data(), plain.size());
+    done(zx_create(&s, 32 * MIB), "a segment");
+    done(zx_construct_vector(&s, &key, &all, &handle), "a vector");
+    times("ours", "elements read by a view", ELEMENTS, [&] {
+        zx_elements found;
+        if (zx_view(&s, &key, &found) != ZX_DONE) return false;
+        return sum_of(static_cast<const std::int64_t *>(found.at), found.count) > 0;
+    });
+    times("plain", "elements read by a view", ELEMENTS, [&] { return sum_of(plain.data(), plain.size()) > 0; });
+    times("ours", "elements written by a view", ELEMENTS, [&] {
+        zx_elements found;
+        if (zx_view_mut(&s, &key, &found) != ZX_DONE) return false;
+        add_to(static_cast<std::int64_t *>(zx_elements_mut(&s, &found)), found.count);
+        return true;
+    });
+    times("plain", "elements written by a view", ELEMENTS, [&] { return add_to(plain.data(), plain.size()), true; });
+    zx_close(&s);
+}
+
+void pushes() {
+    double least = 1e18;
+    for (int round = 0; round < ROUNDS; round++) {
+        zx_segment s = ZX_CLOSED_HANDLE;
+        std::uint64_t handle;
+        const zx_key key = zx_name("v");
+        const zx_values none = zx_i64s(reinterpret_cast<const std::int64_t *>(&handle), 0);
+        done(zx_create(&s, 64 * MIB), "a segment");
+        done(zx_construct_vector(&s, &key, &none, &handle), "a vector");
+        const zx_key by_handle = zx_handle(handle);
+        const double before = now();
+        for (int i = 0; i < ELEMENTS; i++) {
+            const zx_value value = zx_i64(i);
+            if (zx_push(&s, &by_handle, &value) != ZX_DONE) stop("a push");
+        }
+        least = std::min(least, now() - before);
+        zx_close(&s);
+    }
+    print("ours", "pushes into a vector, by handle", ELEMENTS, least);
+}
+
+void run(const char *path, const char *checker) {
+    views();
+    rows<std::uint8_t>("u8", zx_u8s, zx_read_u8s);
+    rows<std::int32_t>("i32", zx_i32s, zx_read_i32s);
+    rows<std::int64_t>("i64", zx_i64s, zx_read_i64s);
+    pushes();
+    for (const std::uint64_t size : EMPTY_SIZES) {
+        make_file(path, size, 0);
+        times("ours", empty_file(size), 1, [&] { return open_set_close(path); });
+    }
+    make_file(path, FULL_SIZE, OBJECTS);
+    times("ours", FULL_FILE, 1, [&] { return open_set_close(path); });
+    if (checker) check_beside(checker, path, FULL_FILE);
+    std::remove(path);
+}
+#else
+namespace ipc = boost::interprocess;
+using File = ipc::managed_mapped_file;
+using Vector = ipc::vector<std::int64_t, ipc::allocator<std::int64_t, File::segment_manager>>;
+
+bool open_set_close(const char *path) {
+    File file(ipc::open_only, path);
+    std::int64_t *const found = file.find<std::int64_t>("n").first;
+    if (!found) return false;
+    *found = 7;
+    return true;
+}
+
+void make_file(const char *path, std::uint64_t size, int objects) {
+    std::remove(path);
+    File file(ipc::create_only, path, size);
+    for (int i = 0; i < objects; i++) {
+        char name[16];
+        std::snprintf(name, sizeof name, "name%07d", i);
+        file.construct<std::int64_t>(name)(5);
+    }
+    file.construct<std::int64_t>("n")(5);
+}
+
+void run(const char *path, const char *) {
+    double least = 1e18;
+    for (int round = 0; round < ROUNDS; round++) {
+        std::remove(path);
+        File file(ipc::create_only, path, 64 * MIB);
+        Vector &vector = *file.construct<Vector>("v")(file.get_allocator<std::int64_t>());
+        const double before = now();
+        for (int i = 0; i < ELEMENTS; i++) vector.push_back(i);
+        least = std::min(least, now() - before);
+    }
+    print("Boost", "pushes into a vector, by handle", ELEMENTS, least);
+    for (const std::uint64_t size : EMPTY_SIZES) {
+        make_file(path, size, 0);
+        times("Boost", empty_file(size), 1, [&] { return open_set_close(path); });
+    }
+    make_file(path, FULL_SIZE, OBJECTS);
+    times("Boost", FULL_FILE, 1, [&] { return open_set_close(path); });
+    std::remove(path);
+}
+#endif
+
+} // namespace
+
+int main(int count, char **words) {
+    if (count < 2) return 2;
+    run(words[1], count > 2 ? words[2] : nullptr);
+}

@@ -1,0 +1,161 @@
+/* The calls of zaluxhoni_rows.h, over those of zaluxhoni.h. */
+#include "zaluxhoni_rows.h"
+
+#include <stdatomic.h>
+
+static zx_value word_of(uint32_t kind, int64_t word) {
+    return kind == ZX_I32 || kind == ZX_I64 ? zx_number(kind, word) : zx_natural(kind, (uint64_t)word);
+}
+
+static int64_t word_in(const zx_value *value) {
+    return value->kind == ZX_I32 || value->kind == ZX_I64 ? value->number : (int64_t)value->natural;
+}
+
+/* ---- rows */
+
+static size_t count_of(const zx_values *values) {
+    return values->truth_count + values->byte_count + values->i32_count + values->i64_count + values->u64_count;
+}
+
+static zx_value element_of(const zx_values *values, size_t at) {
+    switch (values->kind) {
+    case ZX_BOOL: return zx_bool(values->truths[at]);
+    case ZX_U8: return zx_u8(values->bytes[at]);
+    case ZX_I32: return zx_i32(values->i32s[at]);
+    case ZX_I64: return zx_i64(values->i64s[at]);
+    default: return zx_u64(values->u64s[at]);
+    }
+}
+
+zx_code zx_push_row(zx_segment *segment, const zx_key *key, uint64_t first, const zx_values *values) {
+    uint64_t len, places;
+    if (values->kind < ZX_BOOL || values->kind > ZX_U64) return values->kind ? ZX_BAD_KIND : ZX_NULL_SLICE;
+    zx_code code = zx_measure(segment, key, &len, &places);
+    for (; !code && len - first < count_of(values); len++) {
+        zx_value value = element_of(values, len - first);
+        code = zx_push(segment, key, &value);
+    }
+    return code;
+}
+
+zx_code zx_read_pairs(zx_segment *segment, const zx_key *key, const zx_value *after, int64_t *keys, int64_t *values,
+                      size_t count, size_t *read) {
+    zx_value last, at, value;
+    *read = 0;
+    if (!keys || !values) return ZX_NULL_SLICE;
+    for (; *read < count; ++*read) {
+        zx_code code = after ? zx_map_next(segment, key, after, &at, &value) : zx_map_first(segment, key, &at, &value);
+        if (code) return code == ZX_ABSENT ? (zx_code)ZX_DONE : code;
+        keys[*read] = word_in(&at);
+        values[*read] = word_in(&value);
+        last = at;
+        after = &last;
+    }
+    return ZX_DONE;
+}
+
+zx_code zx_put_pairs(zx_segment *segment, const zx_key *key, uint32_t key_kind, uint32_t value_kind,
+                     const int64_t *keys, const int64_t *values, size_t count) {
+    zx_code code = ZX_DONE;
+    bool is_new;
+    if (!keys || !values) return ZX_NULL_SLICE;
+    for (size_t i = 0; !code && i < count; i++) {
+        zx_value at = word_of(key_kind, keys[i]), value = word_of(value_kind, values[i]);
+        code = zx_map_put(segment, key, &at, &value, &is_new);
+    }
+    return code;
+}
+
+zx_code zx_clear_map(zx_segment *segment, const zx_key *key) {
+    zx_value at, value;
+    bool was_there;
+    zx_code code;
+    while (!(code = zx_map_first(segment, key, &at, &value))) {
+        code = zx_map_erase(segment, key, &at, &was_there);
+        if (code) return code;
+    }
+    return code == ZX_ABSENT ? (zx_code)ZX_DONE : code;
+}
+
+zx_code zx_read_texts(zx_segment *segment, const zx_key *key, uint64_t first, uint8_t *texts, size_t room,
+                      uint64_t *ends, size_t count, size_t *read) {
+    uint64_t end = 0, len;
+    *read = 0;
+    if (!texts || !ends) return ZX_NULL_SLICE;
+    for (; *read < count; ++*read) {
+        zx_code code = zx_read_text(segment, key, first + *read, texts + end, room - end, &len);
+        if (code) return *read && code == ZX_SHORT_BUFFER ? (zx_code)ZX_DONE : code;
+        ends[*read] = end += len;
+    }
+    return ZX_DONE;
+}
+
+zx_code zx_push_texts(zx_segment *segment, const zx_key *key, uint64_t first, const zx_text *texts, size_t count) {
+    uint64_t len, places;
+    if (!texts) return ZX_NULL_SLICE;
+    zx_code code = zx_measure(segment, key, &len, &places);
+    for (; !code && len - first < count; len++)
+        code = zx_push_text(segment, key, texts[len - first].at, texts[len - first].len);
+    return code;
+}
+
+zx_code zx_read_names(zx_segment *segment, uint64_t first, zx_info *infos, zx_value *values, uint8_t *names,
+                      size_t room, size_t count, size_t *read) {
+    size_t end = 0;
+    *read = 0;
+    if (!infos || !values || !names) return ZX_NULL_SLICE;
+    for (; *read < count; ++*read) {
+        zx_info *info = infos + *read;
+        zx_code code = zx_named_at(segment, first + *read, info, names + end, room - end);
+        if (code == ZX_OUT_OF_RANGE || (*read && code == ZX_SHORT_BUFFER)) return ZX_DONE;
+        if (code) return code;
+        end += info->name_len;
+        values[*read].kind = 0;
+        if (info->kind <= ZX_U64 && info->count == 1) {
+            zx_key key = zx_handle(info->handle);
+            code = zx_get(segment, &key, 0, values + *read);
+            if (code) return code;
+        }
+    }
+    return ZX_DONE;
+}
+
+/* ---- one number */
+
+uint64_t zx_thread(void) {
+    static atomic_uint_fast64_t threads;
+    static _Thread_local uint64_t own;
+    if (!own) own = atomic_fetch_add(&threads, 1) + 1;
+    return own;
+}
+
+static bool is_here(const zx_place *place) { return !place->thread || place->thread == zx_thread(); }
+
+int64_t zx_map_at(const zx_place *place, int32_t at) {
+    zx_value key = zx_i32(at), value;
+    if (!is_here(place) || zx_map_get(place->segment, &place->key, &key, &value)) return ZX_NO_NUMBER;
+    return word_in(&value);
+}
+
+int64_t zx_element_at(const zx_place *place, int32_t index) {
+    zx_value value;
+    if (index < 0 || !is_here(place)) return ZX_NO_NUMBER;
+    return zx_get(place->segment, &place->key, (uint64_t)index, &value) ? ZX_NO_NUMBER : word_in(&value);
+}
+
+zx_code zx_put_at(const zx_place *place, int32_t at, int32_t number) {
+    zx_value key = zx_i32(at), value = zx_i32(number);
+    bool is_new;
+    return is_here(place) ? zx_map_put(place->segment, &place->key, &key, &value, &is_new) : (zx_code)ZX_CLOSED;
+}
+
+zx_code zx_push_number(const zx_place *place, int32_t number) {
+    zx_value value = zx_i32(number);
+    return is_here(place) ? zx_push(place->segment, &place->key, &value) : (zx_code)ZX_CLOSED;
+}
+
+zx_code zx_set_at(const zx_place *place, int32_t index, int32_t number) {
+    zx_value value = zx_i32(number);
+    if (index < 0) return ZX_OUT_OF_RANGE;
+    return is_here(place) ? zx_set(place->segment, &place->key, (uint64_t)index, &value) : (zx_code)ZX_CLOSED;
+}

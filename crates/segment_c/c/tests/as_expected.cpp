@@ -1,0 +1,650 @@
+/* What programmers of C++ expect of zaluxhoni.hpp: numbers that fit, their own types, views as containers of std are,
+   algorithms, hashes, groups and segments that grow. every_call.cpp has the calls. */
+#include "zaluxhoni.hpp"
+
+#include <algorithm>
+#include <atomic>
+#include <deque>
+#include <iostream>
+#include <limits>
+#include <list>
+#include <numeric>
+#include <set>
+#include <sstream>
+#include <thread>
+#include <unordered_set>
+
+#if __cplusplus >= 202002L
+#include <ranges>
+#endif
+
+using namespace std::string_literals;
+using zaluxhoni::key;
+using zaluxhoni::segment;
+using i8 = std::int8_t;
+using i32 = std::int32_t;
+using i64 = std::int64_t;
+using u8 = std::uint8_t;
+using u16 = std::uint16_t;
+using u32 = std::uint32_t;
+using u64 = std::uint64_t;
+
+namespace {
+
+std::atomic<int> checks, wrong;
+
+void is(int line, const char *what, bool truth) {
+    checks++;
+    if (truth) return;
+    wrong++;
+    std::cout << "as_expected.cpp:" << line << ": WRONG " << what << '\n';
+}
+
+template <class Error, class Call> void throws(int line, const char *what, Call call) {
+    checks++;
+    try {
+        call();
+    } catch (const Error &) {
+        return;
+    } catch (const std::exception &other) {
+        std::cout << "as_expected.cpp:" << line << ": WRONG " << what << ": '" << other.what() << "'\n";
+        wrong++;
+        return;
+    } catch (...) {
+    }
+    wrong++;
+    std::cout << "as_expected.cpp:" << line << ": WRONG " << what << ": no error\n";
+}
+
+#define IS(...) is(__LINE__, #__VA_ARGS__, __VA_ARGS__)
+#define THROWS(error, ...) throws<zaluxhoni::error>(__LINE__, #__VA_ARGS__, [&] { return (__VA_ARGS__); })
+
+/// A record of a program's own: 24 bytes, and none between its fields.
+struct item {
+    double price;
+    i64 article;
+    i32 stock;
+    i32 shelf;
+
+    friend bool operator==(const item &a, const item &b) {
+        return a.price == b.price && a.article == b.article && a.stock == b.stock && a.shelf == b.shelf;
+    }
+};
+static_assert(sizeof(item) == 24);
+
+enum colour { red, green };
+enum class unit : u16 { piece = 7, metre = 300 };
+
+// -- what can be stored, and what a number can be made of
+
+static_assert(zaluxhoni::is_scalar<i64> && zaluxhoni::is_scalar<long long> && zaluxhoni::is_scalar<unsigned long long>);
+static_assert(!zaluxhoni::is_scalar<double> && zaluxhoni::is_storable<double> && zaluxhoni::is_storable<item>);
+static_assert(zaluxhoni::is_storable<i8> && zaluxhoni::is_storable<u16> && zaluxhoni::is_storable<char>);
+static_assert(!zaluxhoni::is_storable<const char *> && !zaluxhoni::is_storable<std::string>);
+static_assert(!zaluxhoni::is_storable<std::string_view> && !zaluxhoni::is_storable<std::vector<int>>);
+static_assert(!zaluxhoni::is_storable<int item::*> && !zaluxhoni::is_storable<std::nullptr_t>);
+
+template <class T, class U> constexpr bool takes = std::is_convertible_v<U, zaluxhoni::number<T>>;
+static_assert(takes<i32, long> && takes<u64, int> && takes<double, float> && takes<float, int> && takes<i64, colour>);
+static_assert(!takes<i64, double> && !takes<bool, int> && !takes<bool, double> && !takes<i64, bool> &&
+              !takes<double, bool>);
+static_assert(!takes<bool, const bool *> && !takes<bool, const char *> && !takes<i64, unit> && !takes<u8, void *>);
+static_assert(takes<bool, std::vector<bool>::reference> && takes<bool, std::true_type>);
+
+void an_array_that_is_made_anew() {
+    segment s = segment::create(4096);
+    s.construct<i64>("a", 7, 3);
+    const zaluxhoni::array<i64> a = s.array<i64>("a");
+    IS(!a.empty());
+    IS(a.measure() == (zaluxhoni::measures{3, 3}));
+    s.destroy("a");
+    THROWS(not_found, a.size());
+    THROWS(not_found, a.to_vector());
+    THROWS(not_found, a.get(0));
+    s.construct<i64>("a", 7, 5);
+    IS(a.size() == 5);
+    IS(a.to_vector().size() == 5);
+    IS(std::distance(a.begin(), a.end()) == 5);
+    // it holds the object: another one under its name is another one
+    s.construct<i64>("b", 1);
+    const zaluxhoni::array<i64> b = s.array<i64>("b");
+    s.construct<u8>(key::anonymous(), 1, 200);
+    s.destroy("b");
+    s.construct_array<i64>("b", {1, 2, 3, 4, 5, 6, 7, 8, 9, 10, 11, 12});
+    THROWS(not_found, b.size());
+}
+
+void numbers_that_do_not_fit() {
+    segment s = segment::create(8192);
+    const auto v = s.vector<i32>("i32");
+    THROWS(out_of_range, v.push_back(3000000000L));
+    THROWS(out_of_range, v.push_back(-2147483649LL));
+    v.push_back(2147483647L);
+    v.push_back(-2147483648LL);
+    IS(v.to_vector() == (std::vector<i32>{INT32_MAX, INT32_MIN}));
+    THROWS(out_of_range, v[0] = 3000000000u);
+    THROWS(out_of_range, v.insert(0, u64{1} << 32));
+    THROWS(out_of_range, v.set(0, i64{1} << 31));
+    THROWS(out_of_range, v.assign({1, 3000000000L}));
+    THROWS(out_of_range, v.assign(std::vector<i64>{1, -3000000000}));
+    THROWS(out_of_range, v.write(0, {1L << 40}));
+    IS(v.size() == 2 && v[0] == INT32_MAX);
+    const auto natural = s.vector<u64>("u64");
+    THROWS(out_of_range, natural.push_back(-1));
+    int minus = -1;
+    THROWS(out_of_range, natural.assign({minus}));
+    natural.push_back(UINT64_MAX);
+    IS(natural.back() == UINT64_MAX);
+    THROWS(out_of_range, s.construct<u8>("n", 256));
+    THROWS(out_of_range, s.construct<u8>("n", -1));
+    THROWS(out_of_range, s.construct_vector<u8>("n", {1, 256}));
+    THROWS(out_of_range, s.find_or_construct<i32>("n", 1L << 31));
+    THROWS(out_of_range, (s.set<i32>("i32", 0, 1L << 31)));
+    THROWS(bad_count, s.construct<u8>("n", 1, (u64{1} << 32) + 1));
+    IS(!s.contains("n"));
+    const auto m = s.map<u8, i32>("m");
+    THROWS(out_of_range, m.put(256, 0));
+    THROWS(out_of_range, m.put(-1, 0));
+    THROWS(out_of_range, m.put(1, 1L << 31));
+    THROWS(out_of_range, m[300] = 1);
+    THROWS(out_of_range, m.find(-1));
+    IS(m.empty());
+    // of one element into another of another kind
+    s.vector<i64>("i64").assign({5, 1L << 40});
+    const auto wide = s.vector<i64>("i64");
+    v[0] = wide[0];
+    IS(v[0] == 5);
+    THROWS(out_of_range, v[0] = wide[1]);
+    IS(v[0] == 5);
+    v.push_back(green);
+    IS(v.back() == 1);
+    // floating numbers
+    const auto f = s.vector<float>("f32");
+    f.push_back(16777216);
+    THROWS(out_of_range, f.push_back(16777217));
+    THROWS(out_of_range, f.push_back(1e300));
+    f.push_back(std::numeric_limits<double>::infinity());
+    const auto d = s.vector<double>("f64");
+    d.push_back(i64{1} << 62);
+    THROWS(out_of_range, d.push_back((i64{1} << 62) + 1));
+    d.push_back(0.1f);
+    d.push_back(INT64_MIN);
+    IS(d[2] == -9223372036854775808.0);
+}
+
+void truths() {
+    segment s = segment::create(4096);
+    const bool both[] = {true, false, true};
+    std::size_t count = 2;
+    s.construct_vector<bool>("pointer", {both, count});
+    IS(s.vector<bool>("pointer").to_vector() == (std::vector<bool>{true, false}));
+    s.construct_vector<bool>("list", {true, false, true});
+    IS(s.vector<bool>("list").size() == 3);
+    const std::vector<bool> kept{false, true};
+    s.construct_vector<bool>("vector", kept);
+    IS(s.vector<bool>("vector") == kept);
+    s.vector<bool>("list").assign(s.vector<bool>("vector").to_vector());
+    IS(s.vector<bool>("list") == kept);
+    s.construct_array<bool>("array", both);
+    IS(s.array<bool>("array")[0] && !s.array<bool>("array")[1]);
+    s.vector<bool>("list").push_back(kept[1]);
+    IS(s.vector<bool>("list").back() == true);
+}
+
+void texts_that_are_stored() {
+    segment s = segment::create(8192);
+    const std::vector<std::string> kept{"a", "", "gr\xc3\xbc\xc3\x9f" "e"};
+    s.construct_strings("x", kept);
+    const auto x = s.strings("x");
+    IS(x.to_vector() == kept);
+    IS(x == kept);
+    s.strings("y").assign(x.to_vector());
+    IS(s.strings("y") == x);
+    s.strings("y").assign(std::vector<std::string_view>{"b", "c"});
+    s.strings("y").append_range({"d"s, std::string_view("e"), "f"});
+    IS(s.strings("y") == (std::list<std::string>{"b", "c", "d", "e", "f"}));
+    const char *const literals[] = {"one", "two"};
+    s.strings("y").assign(literals);
+    IS(s.strings("y").back() == "two");
+    s.construct_strings("none", {nullptr, 0});
+    IS(s.strings("none").empty());
+    s.construct_strings("none too", {});
+    const char *null = nullptr;
+    THROWS(null_slice, s.construct_strings("null", {"a", null}));
+    IS(!s.contains("null"));
+    s.strings("none").assign(std::set<std::string>{"q", "p"});
+    IS(s.strings("none").front() == "p");
+}
+
+/// Elements are read, set and changed as variables are.
+void elements() {
+    segment s = segment::create(8192);
+    const auto v = s.vector<i64>("v");
+    v.assign({1, 2, 3});
+    v[0] += 1;
+    v[1] -= 5;
+    v[2] *= 7;
+    IS(v == (std::vector<i64>{2, -3, 21}));
+    v[2] /= 2;
+    IS(v[2]++ == 10);
+    IS(++v[2] == 12);
+    IS(v[2]-- == 12);
+    IS(--v[2] == 10);
+    IS(v[2] == 10 && v[2] != 11 && v[2] < 11 && v[0] < v[2] && 9 < v[2]);
+    v[0] = v[2];
+    IS(v.front() == 10 && v.back() == 10);
+    v.back() = 4;
+    v.front() += 1;
+    IS(v == (std::vector<i64>{11, -3, 4}));
+    swap(v[0], v[2]);
+    IS(v == (std::vector<i64>{4, -3, 11}));
+    const zaluxhoni::const_vector<i64> read = v;
+    IS(read[0] + read.back() == 15);
+    IS(read.at(1) == -3);
+    THROWS(out_of_range, read.at(3));
+    THROWS(out_of_range, s.vector<u8>("empty").back().value());
+    v[0] = INT64_MAX;
+    THROWS(out_of_range, v[0] += 1);
+    THROWS(out_of_range, v[0]++);
+    THROWS(out_of_range, v[0] /= 0);
+    IS(v[0] == INT64_MAX);
+    s.vector<u8>("u8").assign({255, 0});
+    THROWS(out_of_range, s.vector<u8>("u8")[0] += 1);
+    THROWS(out_of_range, s.vector<u8>("u8")[1]--);
+    const auto m = s.map<i64, i64>("m");
+    m[1]++;
+    m[1] += 4;
+    IS(m[1] == 5);
+    IS(m.at(1) == 5);
+    THROWS(absent, m[2].value());
+    IS(!m.contains(2));
+    std::ostringstream out;
+    out << v[1] << ' ' << m[1];
+    IS(out.str() == "-3 5");
+}
+
+void texts() {
+    segment s = segment::create(8192);
+    const auto t = s.string("t");
+    t.assign("abc");
+    IS(t == "abc" && "abc" == t && t == "abc"s && t == std::string_view("abc") && t != "abd" && t < "abd");
+    std::ostringstream out;
+    out << t << '|';
+    const auto l = s.strings("l");
+    l.assign({"x", "yy"});
+    out << l[0] << l.back();
+    IS(out.str() == "abc|xyy");
+    IS(l[0] == "x" && l[0] != l[1] && l[0] < l[1] && "z"s > l[1] && l[0]->size() == 1);
+    l[0] += "tra";
+    IS(l[0] == "xtra");
+    l[0] = l[1];
+    IS(l.front() == "yy");
+    swap(l[0], l[1]);
+    const std::string whole = t;
+    IS(whole == "abc");
+    IS(t.front() == 'a' && t.back() == 'c');
+    IS(std::hash<zaluxhoni::string>()(t) == std::hash<std::string>()("abc"));
+    IS(std::unordered_set<key>({"a", "b", "a"}).size() == 2);
+    IS(key("a") == key("a"s) && key("a") != key::unique<u8>() && key::by_handle(7) == key::by_handle(7));
+    IS(s.tell("t") == s.tell(key::by_handle(t.handle())));
+    IS(s.find<std::string>("t") == s.find<std::string>(key::by_handle(t.handle())));
+}
+
+void algorithms() {
+    segment s = segment::create(65536);
+    const auto v = s.vector<i64>("v");
+    v.assign({5, 3, 9, -1, 7});
+    std::sort(v.begin(), v.end());
+    IS(v == (std::deque<i64>{-1, 3, 5, 7, 9}));
+    IS(std::accumulate(v.begin(), v.end(), i64{0}) == 23);
+    IS(std::lower_bound(v.begin(), v.end(), 5) - v.begin() == 2);
+    std::reverse(v.begin(), v.end());
+    IS(v[0] == 9 && *(v.end() - 1) == -1 && v.begin()[1] == 7 && v.begin() < v.end());
+    v.erase(static_cast<u64>(std::remove(v.begin(), v.end(), 5) - v.begin()), v.size());
+    IS(v == (std::vector<i64>{9, 7, 3, -1}));
+    const auto l = s.strings("l");
+    l.assign({"pear", "apple", "fig"});
+    std::sort(l.begin(), l.end());
+    IS(l == (std::vector<std::string>{"apple", "fig", "pear"}));
+    IS(std::find(l.begin(), l.end(), "fig") - l.begin() == 1);
+    const auto a = s.vector<item>("items");
+    a.assign({{3.5, 1, 0, 0}, {1.25, 2, 0, 0}, {2, 3, 0, 0}});
+    std::sort(a.begin(), a.end(), [](const item &x, const item &y) { return x.price < y.price; });
+    IS(a[0]->article == 2 && a[1]->article == 3 && a[2]->article == 1 && a.begin()->price == 1.25);
+    const auto m = s.map<i32, i64>("m");
+    m.put_range({{1, 10}, {2, 20}});
+    IS(std::count_if(m.begin(), m.end(), [](const auto &pair) { return pair.second > 10; }) == 1);
+    using category = std::iterator_traits<zaluxhoni::vector<i64>::iterator>::iterator_category;
+    static_assert(std::is_same_v<category, std::random_access_iterator_tag>);
+#if __cplusplus >= 202002L
+    std::ranges::sort(v);
+    IS(v == (std::vector<i64>{-1, 3, 7, 9}));
+    std::ranges::sort(l, std::ranges::greater());
+    IS(l.front() == "pear");
+    std::ranges::sort(a, {}, [](const item &each) { return each.article; });
+    IS(a[0]->article == 1);
+#if !defined(__clang__) || __clang_major__ >= 16 // before, clang refuses the views of libstdc++
+    i64 sum = 0;
+    for (const i64 each : v | std::views::reverse | std::views::take(2)) sum = 10 * sum + each;
+    IS(sum == 97);
+#endif
+    IS(*std::ranges::find(s.vector<i64>("v"), 7) == 7);
+#endif
+}
+
+#if __cplusplus >= 202002L
+template <class R> constexpr bool is_random = std::ranges::random_access_range<R> && std::ranges::sized_range<R>;
+static_assert(is_random<zaluxhoni::vector<i64>> && is_random<zaluxhoni::const_vector<i64>>);
+static_assert(is_random<zaluxhoni::vector<bool>> && is_random<zaluxhoni::vector<item>>);
+static_assert(is_random<zaluxhoni::array<u8>> && is_random<zaluxhoni::const_array<double>>);
+static_assert(is_random<zaluxhoni::string> && is_random<zaluxhoni::const_strings> && is_random<zaluxhoni::strings>);
+static_assert(std::sortable<zaluxhoni::vector<i64>::iterator> && std::sortable<zaluxhoni::strings::iterator>);
+static_assert(std::sortable<zaluxhoni::array<double>::iterator>);
+static_assert(std::ranges::input_range<zaluxhoni::map<i32, i64>> &&
+              std::ranges::input_range<zaluxhoni::const_map<u8, bool>>);
+static_assert(!std::ranges::output_range<zaluxhoni::const_vector<i64>, i64>);
+#endif
+
+void bulk() {
+    segment s = segment::create(65536);
+    const auto v = s.vector<i32>("v");
+    v.append_range({1, 2, 3});
+    v.insert_range(1, {7, 8});
+    v.insert_range(5, std::set<int>{10, 9});
+    IS(v == (std::vector<i32>{1, 7, 8, 2, 3, 9, 10}));
+    v.erase(1, 3);
+    v.erase(2, 2);
+    IS(v == (std::vector<i32>{1, 2, 3, 9, 10}));
+    THROWS(out_of_range, v.erase(4, 6));
+    THROWS(out_of_range, v.erase(3, 2));
+    THROWS(out_of_range, v.insert_range(6, {1}));
+    v.append_range(v);
+    IS(v.size() == 10 && v[9] == 10);
+    v.resize(2);
+    v.resize(4, -1);
+    IS(v == (std::vector<i32>{1, 2, -1, -1}));
+    THROWS(no_space, v.append_range(std::vector<i32>(100000)));
+    IS(v.size() == 4);
+    const auto l = s.strings("l");
+    l.append_range({"a", "d"});
+    l.insert_range(1, std::vector<std::string>{"b", "c"});
+    l.erase(0, 2);
+    IS(l == (std::vector<std::string>{"c", "d"}));
+    const auto m = s.map<i32, i64>("m");
+    IS(!m.last() && !m.previous(0) && m.lower_bound(0) == m.end());
+    m.put_range(std::map<int, int>{{-2000000000, 1}, {5, 2}, {INT32_MAX, 3}});
+    IS(m.last()->first == INT32_MAX && m.previous(INT32_MAX)->first == 5 && m.previous(5)->first == -2000000000);
+    IS(!m.previous(-2000000000) && !m.previous(INT32_MIN));
+    IS(m.lower_bound(5)->first == 5 && m.lower_bound(6)->first == INT32_MAX && m.upper_bound(5)->second == 3);
+    IS(m.upper_bound(INT32_MAX) == m.end());
+    IS(m == (std::map<i32, i64>{{-2000000000, 1}, {5, 2}, {INT32_MAX, 3}}));
+    IS(m.to_vector().size() == 3);
+    m.clear();
+    IS(m.empty() && m.first() == std::nullopt);
+    const auto b = s.map<bool, u64>("b");
+    b[true] = 1;
+    IS(b.last()->second == 1 && !b.previous(true));
+    b[false] = 2;
+    IS(b.previous(true)->second == 2 && b.last()->first);
+    const auto u = s.map<u64, u8>("u");
+    u.put_range({{0, 1}, {UINT64_MAX, 2}, {UINT64_MAX - 1, 3}});
+    IS(u.last()->second == 2 && u.previous(UINT64_MAX)->second == 3 && u.previous(UINT64_MAX - 1)->first == 0);
+    const auto i = s.map<i64, u8>("i");
+    i.put_range({{INT64_MIN, 1}, {INT64_MAX, 2}, {0, 3}});
+    IS(i.last()->second == 2 && i.previous(INT64_MAX)->second == 3 && i.previous(0)->first == INT64_MIN);
+    IS(!i.previous(INT64_MIN));
+}
+
+/// A program's own types, and the numbers that the library has no kind for.
+void own_types() {
+    segment s = segment::create(65536);
+    const item first{1.5, 7, 3, 4}, second{2.5, 8, 0, -1};
+    s.construct<item>("one", first);
+    IS(s.get<item>("one") == first);
+    s.set<item>("one", 0, second);
+    IS(s.get<item>("one") == second);
+    IS(s.tell("one").kind == ZX_U8 && s.tell("one").count == 24);
+    IS(s.find<item>("one")->count == 1);
+    THROWS(out_of_range, s.get<item>("one", 1));
+    THROWS(out_of_range, s.get<item>("one", UINT64_MAX / 8 + 1));
+    THROWS(wrong_kind, s.get<i64>("one"));
+    s.construct<item>("three", first, 3);
+    s.construct_array<item>("two", {first, second});
+    const auto two = s.array<item>("two");
+    IS(two.size() == 2 && two[1] == second);
+    two[0] = {9, 9, 9, 9};
+    two.write(1, {first});
+    IS(two == (std::vector<item>{{9, 9, 9, 9}, first}));
+    IS(s.find_or_construct<item>("two", first) == (zaluxhoni::found{two.handle(), 2}));
+    IS(s.find_or_construct<item>("four", first, 4).count == 4);
+    const auto v = s.vector<item>("items");
+    for (i32 n = 0; n < 100; n++) v.push_back({0.5 * n, n, n, n});
+    IS(v.size() == 100 && v.capacity() >= 100 && v.back()->stock == 99);
+    IS(v.pop_back().article == 99);
+    v.erase(0);
+    v.insert(1, first);
+    IS(v[1] == first && v.size() == 99);
+    v.erase(2, 99);
+    IS(v == (std::vector<item>{{0.5, 1, 1, 1}, first}));
+    v.resize(3);
+    IS(v.back() == item{});
+    for (const item &each : v) IS(each.shelf >= 0);
+    THROWS(no_space, v.reserve(100000));
+    THROWS(out_of_range, s.vector<item>("empty").pop_back());
+    // bytes that are no whole records
+    s.construct_vector<u8>("bytes", {1, 2, 3});
+    THROWS(wrong_kind, s.vector<item>("bytes").size());
+    s.construct_array<u8>("more bytes", {1, 2, 3});
+    THROWS(wrong_kind, s.array<item>("more bytes"));
+    THROWS(wrong_kind, s.find<item>("more bytes"));
+
+    const double numbers[] = {0.1, -0.0, 1e300, std::numeric_limits<double>::infinity()};
+    s.construct_array<double>("doubles", numbers);
+    IS(s.get<double>("doubles", 2) == 1e300 && s.array<double>("doubles").size() == 4);
+    s.array<double>("doubles")[0] *= 2;
+    IS(s.array<double>("doubles")[0] == 0.2);
+    s.vector<i8>("i8").assign({-128, 127});
+    s.vector<i8>("i8").push_back(-1);
+    IS(s.vector<i8>("i8") == (std::vector<i8>{-128, 127, -1}));
+    THROWS(out_of_range, s.vector<i8>("i8").push_back(128));
+    THROWS(out_of_range, s.vector<i8>("i8")[1]++);
+    s.vector<u16>("u16").assign({65535});
+    s.vector<u32>("u32").assign({4000000000u});
+    IS(s.vector<u32>("u32").pop_back() == 4000000000u);
+    s.construct<unit>("unit", unit::metre);
+    IS(s.get<unit>("unit") == unit::metre);
+    s.vector<char>("chars").assign({'a', 'b'});
+    IS(s.vector<char>("chars")[1] == 'b');
+    s.construct<long long>("wide", -5);
+    IS(s.get<i64>("wide") == -5 && s.tell("wide").kind == ZX_I64);
+    std::vector<long long> row(1);
+    s.read<long long>("wide", 0, row.data(), 1);
+    IS(row[0] == -5);
+}
+
+/// Elements where they stand, read and changed there.
+void views_without_a_copy() {
+    segment s = segment::create(65536);
+    const auto v = s.vector<i64>("v");
+    v.assign({3, 1, 2});
+    const auto there = v.view();
+    IS(there.size() == 3 && there[2] == 2 && !there.empty() && there.is_current());
+    THROWS(out_of_range, there[3]);
+    std::sort(there.begin(), there.end());
+    there[0] = 7;
+    IS(v == (std::vector<i64>{7, 2, 3}));
+    IS(std::accumulate(there.begin(), there.end(), i64{0}) == 12);
+    v.push_back(4);
+    IS(!there.is_current());
+    throws<zaluxhoni::outdated>(__LINE__, "outdated", [&] { return there[0]; });
+    const segment &kept = s;
+    const auto read = kept.vector<i64>("v").view();
+    static_assert(std::is_same_v<decltype(read.data()), const i64 *>);
+    IS(read.size() == 4 && read[3] == 4);
+    s.construct_array<bool>("b", {true, false});
+    s.array<bool>("b").view()[1] = true;
+    IS(s.array<bool>("b") == (std::vector<bool>{true, true}));
+    s.string("t").assign("text");
+    IS(s.string("t").view() == "text");
+    s.vector<item>("items").assign({{1.5, 1, 2, 3}, {2.5, 4, 5, 6}});
+    for (item &each : s.vector<item>("items").view()) each.price *= 2;
+    IS(s.vector<item>("items")[1]->price == 5);
+    s.vector<double>("d").assign({0.5, 0.25});
+    IS(s.vector<double>("d").view()[1] == 0.25);
+    IS(s.vector<i64>("none").view().empty());
+    s.construct_vector<u8>("odd", {1, 2, 3});
+    THROWS(wrong_kind, s.vector<item>("odd").view());
+    segment only = segment::open(s.save(), zaluxhoni::mode::read);
+    THROWS(read_only, only.vector<i64>("v").view());
+    IS(std::as_const(only).vector<i64>("v").view()[0] == 7);
+    const auto last = std::as_const(only).vector<i64>("v").view();
+    only.close();
+    IS(!last.is_current());
+    throws<zaluxhoni::outdated>(__LINE__, "outdated", [&] { return last.data(); });
+#if __cplusplus >= 202002L
+    static_assert(std::ranges::contiguous_range<zaluxhoni::view<i64>> &&
+                  std::ranges::sized_range<zaluxhoni::view<i64>>);
+    const std::span<const i64> span = kept.vector<i64>("v").view();
+    IS(span.back() == 4);
+    const std::span<i64> changed = v.view();
+    changed[0] = 9;
+    IS(v[0] == 9);
+#endif
+}
+
+void several_calls_as_one() {
+    segment s = segment::create(8192);
+    const auto v = s.vector<i64>("v");
+    v.assign({1, 2});
+    const std::vector<u8> before = s.save();
+    const auto fails = [&] {
+        s.transaction([&] {
+            v.push_back(3);
+            s.construct<i64>("new", 1);
+            s.destroy("v");
+            throw std::out_of_range("of the program's own");
+        });
+    };
+    throws<std::out_of_range>(__LINE__, "transaction", fails);
+    IS(s.save() == before);
+    IS(v == (std::vector<i64>{1, 2}));
+    IS(s.transaction([&] { return v.push_back(5), v.size(); }) == 3);
+    s.transaction([&] {
+        v.push_back(6);
+        THROWS(no_space, s.transaction([&] {
+            v.push_back(7);
+            v.reserve(100000);
+        }));
+        v.push_back(8);
+    });
+    IS(v == (std::vector<i64>{1, 2, 5, 6, 8}));
+    s.set_growing(true);
+    const std::vector<u8> small = s.save();
+    throws<int>(__LINE__, "transaction", [&] {
+        s.transaction([&] {
+            v.resize(10000);
+            throw 7;
+        });
+    });
+    IS(s.save() == small);
+    segment read = segment::open(s.save(), zaluxhoni::mode::read);
+    THROWS(read_only, read.transaction([] {}));
+    segment gone = segment::create(1024);
+    THROWS(no_space, gone.transaction([&] {
+        gone.close();
+        throw zaluxhoni::no_space();
+    }));
+    IS(!gone.is_open());
+}
+
+void const_segments() {
+    segment s = segment::create(8192);
+    s.vector<i64>("v").assign({1, 2});
+    s.map<u8, u8>("m").put(1, 2);
+    s.string("t").assign("text");
+    s.strings("l").assign({"a"});
+    s.construct<double>("d", 0.5);
+    const segment &kept = s;
+    IS(kept.vector<i64>("v")[1] == 2 && kept.map<u8, u8>("m")[1] == 2 && kept.string("t") == "text");
+    IS(kept.strings("l")[0] == "a" && kept.array<double>("d")[0] == 0.5);
+    static_assert(std::is_same_v<decltype(kept.vector<i64>("v")), zaluxhoni::const_vector<i64>>);
+    static_assert(!std::is_assignable_v<decltype(kept.vector<i64>("v")[1]) &&, std::string>);
+    THROWS(not_found, kept.vector<i64>("none"));
+    THROWS(not_found, (kept.map<u8, u8>("none")));
+    THROWS(not_found, kept.string("none"));
+    THROWS(not_found, s.vector<i64>(key::by_handle(16)));
+    IS(!s.contains("none"));
+}
+
+void groups() {
+    segment s = segment::create(8192);
+    for (const char *name : {"a", "prices/fig", "prices/apple", "prices", "prices0", "q"}) s.construct<i64>(name, 1);
+    const zaluxhoni::group prices = s.group("prices/");
+    IS(prices.size() == 2 && !prices.empty());
+    IS(prices.named()[0].name == "apple" && prices.named()[1].name == "fig");
+    s.set<i64>(prices["fig"], 0, 7);
+    IS(s.get<i64>("prices/fig") == 7);
+    s.destroy(prices["apple"]);
+    IS(prices.named().size() == 1);
+    IS(s.group("").size() == 5 && s.group("r").empty() && s.group("prices").size() == 3);
+    const segment moved = std::move(s);
+    IS(prices.size() == 1);
+}
+
+void segments_that_grow() {
+    segment s = segment::create(208);
+    THROWS(no_space, s.construct<i64>("n", 0, 100));
+    s.set_growing(true);
+    IS(s.is_growing());
+    s.construct<i64>("n", 0, 100);
+    const auto v = s.vector<i64>("v");
+    for (i64 n = 0; n < 10000; n++) v.push_back(n);
+    s.strings("l").append_range(std::vector<std::string>(1000, std::string(50, 'x')));
+    const auto m = s.map<i64, i64>("m");
+    for (i64 n = 0; n < 1000; n++) m[n] = n;
+    for (int n = 0; n < 10; n++) s.construct_string("t" + std::to_string(n), std::string(3000, 't'));
+    s.string("t0").append(std::string(10000, 'u'));
+    s.strings("l")[5] = std::string(20000, 'v');
+    s.vector<item>("items").resize(1000);
+    s.reserve_named(1000);
+    IS(v.size() == 10000 && v[9999] == 9999 && s.sanity());
+    const u64 before = s.size();
+    THROWS(out_of_range, v.insert(20000, 1));
+    IS(s.size() == before);
+    s.set_growing(false);
+    THROWS(no_space, v.reserve(u64{1} << 20));
+}
+
+/// Where a segment cannot be long enough, it is as long as before. This takes 1 GiB of memory.
+void the_longest_segment() {
+    segment s = segment::create(1024);
+    s.set_growing(true);
+    THROWS(too_large, s.vector<i64>("v").reserve(u64{1} << 28));
+    IS(s.size() == 1024 && s.vector<i64>("v").empty());
+}
+
+void every_case() {
+    void (*const cases[])() = {an_array_that_is_made_anew, numbers_that_do_not_fit, truths, texts_that_are_stored,
+                               elements, texts, algorithms, bulk, own_types, views_without_a_copy,
+                               several_calls_as_one, const_segments, groups, segments_that_grow};
+    for (void (*each)() : cases) {
+        try {
+            each();
+        } catch (const std::exception &error) {
+            wrong++;
+            std::cout << "as_expected.cpp: WRONG, a case ends with '" << error.what() << "'\n";
+        }
+    }
+}
+
+} // namespace
+
+/* Two threads at once, which have their own segments. With an argument the longest segment is tried too. */
+int main(int arguments, char **) {
+    std::thread other(every_case);
+    every_case();
+    other.join();
+    if (arguments > 1) the_longest_segment();
+    std::cout << "as_expected.cpp: " << checks << " checks, " << wrong << " wrong\n";
+    return wrong != 0;
+}

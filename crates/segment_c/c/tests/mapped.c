@@ -1,0 +1,455 @@
+/* mapped FOLDER KILLS [SMALL]: files that are mapped, by zaluxhoni_files.h. So many processes are killed within a call.
+   SMALL is a folder on a disk of 1 MiB. */
+#define _GNU_SOURCE
+#include "zaluxhoni_files.h"
+
+#include <errno.h>
+#include <fcntl.h>
+#include <signal.h>
+#include <stdio.h>
+#include <stdlib.h>
+#include <sys/resource.h>
+#include <sys/stat.h>
+#include <sys/wait.h>
+#include <unistd.h>
+
+static int wrong, cases;
+static char path[420];
+
+#define IS(got, wanted) \
+    do { \
+        long long is = (long long)(got), should = (long long)(wanted); \
+        cases++; \
+        if (is != should) { \
+            printf("mapped.c:%d: WRONG %s: %lld, not %lld\n", __LINE__, #got, is, should); \
+            wrong++; \
+        } \
+    } while (0)
+#define DONE(call) IS(call, ZX_DONE)
+
+enum { CREATE = ZX_CREATE_ONLY | ZX_MAPPED, WRITE = ZX_OPEN_ONLY | ZX_MAPPED, READ = ZX_OPEN_READ_ONLY | ZX_MAPPED,
+       COPY = ZX_OPEN_COPY_ON_WRITE | ZX_MAPPED };
+
+static zx_code set(zx_file *file, int64_t number) {
+    zx_key key = zx_name("n");
+    zx_value value = zx_i64(number);
+    uint64_t handle;
+    uint32_t found;
+    zx_code code = zx_find_or_construct(&file->segment, &key, 1, &value, &handle, &found);
+    return code == ZX_DONE ? zx_set(&file->segment, &key, 0, &value) : code;
+}
+
+static int64_t get(zx_file *file) {
+    zx_key key = zx_name("n");
+    zx_value value;
+    zx_code code = zx_get(&file->segment, &key, 0, &value);
+    return code == ZX_DONE ? value.number : -(int64_t)code;
+}
+
+/* What a reader by copy finds; -1000 and the code if it is refused. */
+static int64_t stands(void) {
+    zx_file file = ZX_CLOSED_FILE;
+    zx_code code = zx_file_open(&file, path, ZX_OPEN_READ_ONLY, 0);
+    int64_t number = code == ZX_DONE ? get(&file) : -1000 - (int64_t)code;
+    zx_file_discard(&file);
+    return number;
+}
+
+static int64_t length(void) {
+    struct stat found;
+    return stat(path, &found) == 0 ? (int64_t)found.st_size : -1;
+}
+
+static void seed(int64_t number) {
+    zx_file file = ZX_CLOSED_FILE;
+    unlink(path);
+    DONE(zx_file_open(&file, path, CREATE, 8192));
+    DONE(set(&file, number));
+    DONE(zx_file_close(&file));
+}
+
+/* A change is in the file at once; saving waits for the disk; closing and discarding leave what is there. */
+static void in_place(void) {
+    zx_file file = ZX_CLOSED_FILE;
+    struct stat before, after;
+    unlink(path);
+    DONE(zx_file_open(&file, path, CREATE, 8192));
+    IS(length(), 8192);
+    DONE(set(&file, 5));
+    IS(stands(), 5);
+    DONE(zx_file_flush(&file));
+    DONE(set(&file, 6));
+    zx_file_discard(&file);
+    IS(stands(), 6);
+    stat(path, &before);
+    DONE(zx_file_open(&file, path, WRITE, 0));
+    IS(get(&file), 6);
+    DONE(set(&file, 7));
+    DONE(zx_file_save(&file));
+    DONE(zx_file_close(&file));
+    IS(stands(), 7);
+    stat(path, &after);
+    IS(before.st_ino == after.st_ino, true);
+    IS(zx_file_open(&file, path, CREATE, 8192), ZX_FILE_EXISTS);
+    DONE(zx_file_open(&file, path, ZX_OPEN_OR_CREATE | ZX_MAPPED, 0));
+    DONE(zx_file_close(&file));
+    IS(zx_file_open(&file, path, ZX_MAPPED, 0), ZX_BAD_MODE);
+}
+
+/* Where elements stand: in the file. */
+static void views(void) {
+    zx_file file = ZX_CLOSED_FILE;
+    zx_key key = zx_name("n");
+    zx_elements number;
+    seed(5);
+    DONE(zx_file_open(&file, path, WRITE, 0));
+    DONE(zx_view_mut(&file.segment, &key, &number));
+    *(int64_t *)zx_elements_mut(&file.segment, &number) = 6;
+    IS(stands(), 6);
+    DONE(zx_file_grow(&file, 1 << 20));
+    IS(zx_is_current(&file.segment, &number), false);
+    DONE(zx_view(&file.segment, &key, &number));
+    IS(*(const int64_t *)number.at, 6);
+    DONE(zx_file_close(&file));
+    IS(zx_is_current(&file.segment, &number), false);
+    DONE(zx_file_open(&file, path, READ, 0));
+    IS(zx_view_mut(&file.segment, &key, &number), ZX_READ_ONLY);
+    DONE(zx_view(&file.segment, &key, &number));
+    IS(*(const int64_t *)number.at, 6);
+    DONE(zx_file_close(&file));
+}
+
+/* Several calls as one, also where the file became longer. */
+static void taken_back(void) {
+    zx_file file = ZX_CLOSED_FILE;
+    zx_segment before = ZX_CLOSED_HANDLE;
+    seed(5);
+    DONE(zx_file_open(&file, path, WRITE, 0));
+    DONE(zx_begin(&file.segment, &before));
+    DONE(set(&file, 6));
+    IS(stands(), 6);
+    DONE(zx_file_rollback(&file, &before));
+    IS(stands(), 5);
+    DONE(zx_begin(&file.segment, &before));
+    DONE(zx_file_grow(&file, 1 << 20));
+    DONE(set(&file, 6));
+    DONE(zx_file_rollback(&file, &before));
+    IS(get(&file), 5);
+    IS(length(), 8192);
+    IS(stands(), 5);
+    DONE(zx_begin(&file.segment, &before));
+    DONE(set(&file, 6));
+    DONE(zx_file_shrink(&file));
+    IS(length() < 8192, true);
+    DONE(zx_file_rollback(&file, &before));
+    IS(length(), 8192);
+    IS(stands(), 5);
+    DONE(zx_begin(&file.segment, &before));
+    DONE(set(&file, 6));
+    zx_commit(&before);
+    DONE(zx_file_close(&file));
+    IS(stands(), 6);
+    /* of a file by copy too, where its region became shorter */
+    DONE(zx_file_open(&file, path, ZX_OPEN_ONLY, 0));
+    DONE(zx_begin(&file.segment, &before));
+    DONE(zx_file_shrink(&file));
+    DONE(zx_relocate(&file.segment, 1024));
+    DONE(zx_file_rollback(&file, &before));
+    DONE(zx_file_close(&file));
+    IS(length(), 8192);
+    seed(5);
+    IS(stands(), 5);
+}
+
+static void one_writer_or_readers(void) {
+    zx_file one = ZX_CLOSED_FILE, other = ZX_CLOSED_FILE, third = ZX_CLOSED_FILE;
+    seed(5);
+    DONE(zx_file_open(&one, path, WRITE, 0));
+    IS(zx_file_open(&other, path, WRITE, 0), ZX_FILE_IN_USE);
+    IS(zx_file_open(&other, path, READ, 0), ZX_FILE_IN_USE);
+    IS(zx_file_open(&other, path, COPY, 0), ZX_FILE_IN_USE);
+    IS(zx_file_open(&other, path, ZX_OPEN_ONLY, 0), ZX_FILE_IN_USE);
+    DONE(zx_file_close(&one));
+    DONE(zx_file_open(&one, path, READ, 0));
+    DONE(zx_file_open(&other, path, COPY, 0));
+    IS(zx_file_open(&third, path, WRITE, 0), ZX_FILE_IN_USE);
+    IS(zx_file_open(&third, path, ZX_OPEN_ONLY, 0), ZX_FILE_IN_USE);
+    IS(get(&one), 5);
+    IS(set(&one, 6), ZX_READ_ONLY);
+    IS(zx_file_flush(&one), ZX_READ_ONLY);
+    IS(zx_file_save(&one), ZX_READ_ONLY);
+    DONE(set(&other, 6));
+    IS(zx_file_save(&other), ZX_READ_ONLY);
+    IS(zx_file_grow(&other, 4096), ZX_SHORT_REGION);
+    IS(get(&other), 6);
+    IS(get(&one), 5);
+    IS(stands(), 5);
+    DONE(zx_file_close(&one));
+    DONE(zx_file_close(&other));
+    IS(stands(), 5);
+    IS(length(), 8192);
+    DONE(zx_file_open(&third, path, WRITE, 0));
+    zx_file_discard(&third);
+    /* one that is read needs no right to write */
+    IS(chmod(path, 0444), 0);
+    DONE(zx_file_open(&one, path, READ, 0));
+    DONE(zx_file_close(&one));
+}
+
+static void longer_and_shorter(void) {
+    zx_file file = ZX_CLOSED_FILE;
+    uint64_t size;
+    seed(5);
+    DONE(zx_file_open(&file, path, WRITE, 0));
+    IS(zx_grow(&file.segment, 4096), ZX_SHORT_REGION);
+    IS(zx_file_grow(&file, 31), ZX_BAD_GROWTH);
+    IS(length(), 8192);
+    DONE(zx_file_grow(&file, 1 << 20));
+    DONE(zx_size(&file.segment, &size));
+    IS(size, 8192 + (1 << 20));
+    IS(length(), 8192 + (1 << 20));
+    IS(get(&file), 5);
+    DONE(set(&file, 6));
+    IS(stands(), 6);
+    for (int i = 0; i < 20; i++) DONE(zx_file_grow(&file, 32));
+    IS(stands(), 6);
+    DONE(zx_file_shrink(&file));
+    DONE(zx_size(&file.segment, &size));
+    IS(length(), size);
+    IS(size < 8192, true);
+    IS(get(&file), 6);
+    IS(stands(), 6);
+    DONE(zx_file_grow(&file, 4096));
+    /* one that was made shorter by itself is cut when it is closed */
+    DONE(zx_shrink(&file.segment));
+    DONE(zx_file_close(&file));
+    IS(length(), size);
+    IS(stands(), 6);
+    /* a file that may not become longer stays as it is, and open */
+    struct rlimit limit, low = { 65536, RLIM_INFINITY };
+    getrlimit(RLIMIT_FSIZE, &limit);
+    low.rlim_max = limit.rlim_max;
+    signal(SIGXFSZ, SIG_IGN);
+    DONE(zx_file_open(&file, path, WRITE, 0));
+    setrlimit(RLIMIT_FSIZE, &low);
+    IS(zx_file_grow(&file, 1 << 20), ZX_FILE_FAULT);
+    IS(file.error, EFBIG);
+    setrlimit(RLIMIT_FSIZE, &limit);
+    IS(get(&file), 6);
+    IS(length(), size);
+    DONE(zx_file_grow(&file, 1 << 20));
+    DONE(set(&file, 7));
+    DONE(zx_file_close(&file));
+    IS(stands(), 7);
+}
+
+/* Bytes that are no image are refused, with the class that a reader by copy gives, and are left as they are. */
+static void no_image(void) {
+    zx_file file = ZX_CLOSED_FILE;
+    int64_t lengths[] = { 0, 1, 16, 100, 4096, 5000 };
+    for (int i = 0; i < 6; i++) {
+        for (int zeros = 0; zeros < 2; zeros++) {
+            seed(5);
+            if (zeros) IS(truncate(path, 0), 0);
+            IS(truncate(path, lengths[i]), 0);
+            int64_t refused = stands();
+            IS(refused < -1100, true);
+            for (uint32_t mode = WRITE; mode <= COPY; mode++) IS(zx_file_open(&file, path, mode, 0), -1000 - refused);
+            IS(length(), lengths[i]);
+            IS(file.segment.at == NULL, true);
+        }
+    }
+    seed(5);
+    /* one that is longer than its image is read, and cut by a writer; bytes that say so are not enough */
+    IS(truncate(path, 8192 + 4096), 0);
+    IS(stands(), -1000 - ZX_BAD_IMAGE_SIZE);
+    for (uint32_t mode = READ; mode <= COPY; mode++) {
+        DONE(zx_file_open(&file, path, mode, 0));
+        IS(get(&file), 5);
+        DONE(zx_file_close(&file));
+        IS(length(), 8192 + 4096);
+    }
+    DONE(zx_file_open(&file, path, WRITE, 0));
+    IS(length(), 8192);
+    IS(get(&file), 5);
+    DONE(zx_file_close(&file));
+    IS(stands(), 5);
+    IS(truncate(path, 4096), 0);
+    IS(truncate(path, 8192 + 16), 0);
+    for (uint32_t mode = WRITE; mode <= COPY; mode++) IS(zx_file_open(&file, path, mode, 0), -1000 - stands());
+    IS(length(), 8192 + 16);
+}
+
+/* A child has no part in a mapping, and its calls find the segment closed. */
+static void forked(void) {
+    zx_file file = ZX_CLOSED_FILE;
+    int status = -1;
+    seed(5);
+    DONE(zx_file_open(&file, path, WRITE, 0));
+    fflush(stdout);
+    pid_t child = fork();
+    if (child == 0) {
+        int is = get(&file) == -ZX_CLOSED && set(&file, 9) == ZX_CLOSED && zx_file_save(&file) == ZX_CLOSED;
+        is &= zx_file_flush(&file) == ZX_FILE_FORKED && zx_file_close(&file) == ZX_DONE;
+        _exit(is ? 0 : 1);
+    }
+    waitpid(child, &status, 0);
+    IS(status, 0);
+    DONE(set(&file, 6));
+    DONE(zx_file_close(&file));
+    IS(stands(), 6);
+}
+
+/* What was changed until a process is killed is there. */
+static void killed(void) {
+    int ends[2];
+    char one;
+    seed(5);
+    IS(pipe(ends), 0);
+    fflush(stdout);
+    pid_t child = fork();
+    if (child == 0) {
+        zx_file file = ZX_CLOSED_FILE;
+        if (zx_file_open(&file, path, WRITE, 0) == ZX_DONE && set(&file, 6) == ZX_DONE && write(ends[1], "1", 1) == 1)
+            for (;;) pause();
+        _exit(1);
+    }
+    IS(read(ends[0], &one, 1), 1);
+    kill(child, SIGKILL);
+    waitpid(child, NULL, 0);
+    close(ends[0]);
+    close(ends[1]);
+    IS(stands(), 6);
+    zx_file file = ZX_CLOSED_FILE;
+    DONE(zx_file_open(&file, path, WRITE, 0));
+    IS(get(&file), 6);
+    /* its image goes to another file too */
+    char other[430];
+    snprintf(other, sizeof other, "%s.other", path);
+    DONE(zx_file_save_as(&file, other, ZX_CREATE_ONLY));
+    IS(unlink(other), 0);
+    DONE(zx_file_close(&file));
+}
+
+/* Changes until it is killed: of elements, objects and lengths. */
+static void change_for_ever(void) {
+    zx_file file = ZX_CLOSED_FILE;
+    zx_key key = zx_name("v");
+    uint64_t handle;
+    bool was_there;
+    if (zx_file_open(&file, path, WRITE, 0) != ZX_DONE) _exit(1);
+    for (int64_t i = 0;; i++) {
+        zx_value value = zx_i64(i);
+        zx_values none = zx_i64s(&i, 0);
+        uint32_t found;
+        zx_code code = zx_find_or_construct_vector(&file.segment, &key, &none, &handle, &found);
+        if (code == ZX_DONE) code = zx_push(&file.segment, &key, &value);
+        if (code == ZX_NO_SPACE) code = i % 2 ? zx_file_grow(&file, 4096) : zx_destroy(&file.segment, &key, &was_there);
+        if (code == ZX_DONE && i % 500 == 499) code = zx_destroy(&file.segment, &key, &was_there);
+        if (code == ZX_DONE && i % 1000 == 999) code = zx_file_shrink(&file);
+        if (code != ZX_DONE && code != ZX_NO_SPACE) _exit(2);
+    }
+}
+
+/* A process that is killed within a call leaves an image, or one with more behind it, which a writer cuts, or bytes
+   that are refused as what they are: both ways of opening agree, and none of them crashes. */
+static void killed_within_a_call(int kills) {
+    int images = 0, longer = 0, refused = 0, status;
+    for (int i = 0; i < kills; i++) {
+        seed(5);
+        fflush(stdout);
+        pid_t child = fork();
+        if (child == 0) change_for_ever();
+        usleep((useconds_t)(500 + 37 * i % 4000));
+        kill(child, SIGKILL);
+        waitpid(child, &status, 0);
+        IS(WIFSIGNALED(status) && WTERMSIG(status) == SIGKILL, true);
+        zx_file file = ZX_CLOSED_FILE, mapped = ZX_CLOSED_FILE;
+        zx_code code = zx_file_open(&file, path, ZX_OPEN_READ_ONLY, 0);
+        IS(code == ZX_DONE || (code >= ZX_TRUNCATED && code <= ZX_ORPHAN_BLOCK), true);
+        zx_code opened = zx_file_open(&mapped, path, WRITE, 0);
+        if (code != ZX_BAD_IMAGE_SIZE || opened != ZX_DONE) IS(opened, code);
+        if (opened == ZX_DONE) {
+            IS(get(&mapped), 5);
+            IS(stands(), 5);
+        }
+        if (code == ZX_DONE) images++;
+        else if (opened == ZX_DONE) longer++;
+        else refused++;
+        zx_file_discard(&file);
+        zx_file_discard(&mapped);
+    }
+    printf("killed: %d images, %d longer than theirs, %d refused\n", images, longer, refused);
+    IS(images > 0, true);
+}
+
+/* Another process wants the file meanwhile. */
+static void two_processes(void) {
+    zx_file file = ZX_CLOSED_FILE;
+    int status = -1;
+    seed(5);
+    DONE(zx_file_open(&file, path, READ, 0));
+    for (int is_read = 0; is_read < 2; is_read++) {
+        fflush(stdout);
+        pid_t child = fork();
+        if (child == 0) {
+            zx_file own = ZX_CLOSED_FILE;
+            zx_code code = zx_file_open(&own, path, is_read ? READ : WRITE, 0);
+            int is = code == (is_read ? (zx_code)ZX_DONE : (zx_code)ZX_FILE_IN_USE);
+            if (is_read) is &= get(&own) == 5 && zx_file_close(&own) == ZX_DONE;
+            _exit(is ? 0 : 1);
+        }
+        waitpid(child, &status, 0);
+        IS(status, 0);
+    }
+    IS(get(&file), 5);
+    DONE(zx_file_close(&file));
+}
+
+/* A disk that is full is met by a code, and never by a signal. */
+static void full_disk(const char *small) {
+    char there[430];
+    zx_file file = ZX_CLOSED_FILE;
+    snprintf(there, sizeof there, "%s/mapped.seg", small);
+    IS(zx_file_open(&file, there, CREATE, 8 << 20), ZX_FILE_FAULT);
+    IS(file.error, ENOSPC);
+    IS(access(there, F_OK), -1);
+    DONE(zx_file_open(&file, there, CREATE, 65536));
+    DONE(set(&file, 5));
+    IS(zx_file_grow(&file, 8 << 20), ZX_FILE_FAULT);
+    IS(file.error, ENOSPC);
+    IS(get(&file), 5);
+    DONE(set(&file, 6));
+    DONE(zx_file_grow(&file, 65536));
+    DONE(zx_file_close(&file));
+    /* one with holes is as long as the disk, and has few blocks */
+    IS(unlink(there), 0);
+    DONE(zx_file_open(&file, there, ZX_CREATE_ONLY, 2 << 20));
+    DONE(set(&file, 7));
+    DONE(zx_file_close(&file));
+    IS(zx_file_open(&file, there, WRITE, 0), ZX_FILE_FAULT);
+    IS(file.error, ENOSPC);
+    DONE(zx_file_open(&file, there, READ, 0));
+    IS(get(&file), 7);
+    DONE(zx_file_close(&file));
+    IS(unlink(there), 0);
+}
+
+int main(int count, char **words) {
+    if (count < 3) return 2;
+    snprintf(path, sizeof path, "%s/mapped.seg", words[1]);
+    in_place();
+    views();
+    taken_back();
+    one_writer_or_readers();
+    longer_and_shorter();
+    no_image();
+    forked();
+    killed();
+    killed_within_a_call(atoi(words[2]));
+    two_processes();
+    unlink(path);
+    if (count > 3) full_disk(words[3]);
+    printf("mapped: %d cases, %d wrong\n", cases, wrong);
+    return wrong != 0;
+}

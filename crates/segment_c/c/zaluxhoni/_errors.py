@@ -1,0 +1,322 @@
+"""What the library refuses, as classes that derive from Error."""
+from __future__ import annotations
+
+import errno
+import os
+from typing import Any, Dict, Optional, Type
+
+from . import _library
+
+
+class Error(Exception):
+    """What the library refused. `code` is the number of zaluxhoni.h."""
+    code: Optional[int] = None
+
+    def __init__(self, *arguments: object) -> None:
+        super().__init__(*(arguments or (_words(self.code),)))
+
+    def __str__(self) -> str:
+        return Exception.__str__(self)
+
+
+class ReadOnly(Error, PermissionError):
+    """The segment is open for reading."""
+    code = 4
+
+
+class Exists(Error, ValueError):
+    """An object has the name, or is the unique one of its kind."""
+    code = 5
+
+
+class NotFound(Error, KeyError):
+    """No object has the name, kind or handle."""
+    code = 6
+
+
+class WrongKind(Error, TypeError):
+    """The object, or a value, is of another kind."""
+    code = 7
+
+
+class OutOfRange(Error, IndexError, OverflowError):
+    """An index is past the end, or a number outside the range of the element."""
+    code = 8
+
+
+class NoSpace(Error, MemoryError):
+    """No gap of the segment is long enough; `grow` makes it longer."""
+    code = 9
+
+
+class Absent(Error, KeyError):
+    """A map has no such key."""
+    code = 10
+
+
+class Closed(Error, ValueError):
+    """The segment is closed."""
+    code = 16
+
+
+class BadKey(Error, ValueError):
+    """A handle stands where a name or a kind is wanted, or nothing where an object is wanted."""
+    code = 17
+
+
+class BadName(Error, ValueError):
+    """A name is 1 to 255 bytes of UTF-8 without control characters."""
+    code = 18
+
+
+class BadKind(Error, ValueError):
+    """There is no such kind, or the unique object is of another one."""
+    code = 19
+
+
+class BadValue(Error, ValueError):
+    """A new object's value is outside its kind."""
+    code = 20
+
+
+class BadCount(Error, ValueError):
+    """An array has 1 to 1048576 elements."""
+    code = 21
+
+
+class BadSize(Error, ValueError):
+    """A segment has 144 bytes, or a multiple of 16 from 176 to 1073741824; a region a multiple of 16 from 16 on."""
+    code = 22
+
+
+class BadMode(Error, ValueError):
+    """There is no such mode."""
+    code = 23
+
+
+class ShortBuffer(Error, ValueError):
+    """A buffer has too little room; this module makes them long enough."""
+    code = 24
+
+
+class NullSlice(Error, ValueError):
+    """A null pointer; this module passes none."""
+    code = 25
+
+
+class NoMemory(Error, MemoryError):
+    """The system gave no memory."""
+    code = 26
+
+
+class ShortRegion(Error, ValueError):
+    """The region has fewer bytes than the segment."""
+    code = 27
+
+
+class BadGrowth(Error, ValueError):
+    """A segment grows by a multiple of 16, at least 32."""
+    code = 28
+
+
+class TooLarge(Error, MemoryError):
+    """The segment would have more than 1073741824 bytes."""
+    code = 29
+
+
+class BadImage(Error, ValueError):
+    """The bytes are no image of a segment; the class that says why derives from this one."""
+    code: Optional[int] = None
+
+
+class Truncated(BadImage):
+    """There are fewer bytes than the image says."""
+    code = 101
+
+
+class BadMagic(BadImage):
+    """The first bytes are not those of an image."""
+    code = 102
+
+
+class UnsupportedVersion(BadImage):
+    """The image has another format; `segment migrate` writes older ones anew."""
+    code = 103
+
+
+class BadImageSize(BadImage):
+    """The size that it says is none, or not that of the bytes."""
+    code = 104
+
+
+class BadReserved(BadImage):
+    """Bytes of the header that are 0 in an image are not."""
+    code = 105
+
+
+class BadTag(BadImage):
+    """The tags of the blocks are wrong."""
+    code = 106
+
+
+class BadFreeTree(BadImage):
+    """The tree of the gaps is wrong."""
+    code = 107
+
+
+class BadIndex(BadImage):
+    """An index is wrong."""
+    code = 108
+
+
+class BadObject(BadImage):
+    """An object is wrong."""
+    code = 109
+
+
+class SharedBlock(BadImage):
+    """A block belongs to two."""
+    code = 110
+
+
+class BadContainer(BadImage):
+    """A vector, string or map is wrong."""
+    code = 111
+
+
+class OrphanBlock(BadImage):
+    """A block belongs to nothing."""
+    code = 112
+
+
+class NoFile(Error, ValueError):
+    """The segment has no file: `save_as` makes one."""
+    code = 40
+
+
+class FileError(Error, OSError):
+    """A file was refused; the class that says why derives from this one, and `errno` and `filename` are as of any
+    OSError."""
+    number = 0
+
+    def __init__(self, number: Optional[int] = None, path: Any = None) -> None:
+        number = self.number if number is None else number
+        said = os.strerror(number) if self.code == FileFault.code else _words(self.code)
+        OSError.__init__(self, number, said, path)
+
+    def __str__(self) -> str:
+        return OSError.__str__(self)
+
+
+class FileInUse(FileError, BlockingIOError):
+    """Another program, or another segment of this one, has the right to write the file."""
+    code, number = 42, errno.EWOULDBLOCK
+
+
+class FileExists(FileError, FileExistsError):
+    """Something stands under the path."""
+    code, number = 43, errno.EEXIST
+
+
+class FileMissing(FileError, FileNotFoundError):
+    """Nothing stands under the path, or its folder is not there."""
+    code, number = 44, errno.ENOENT
+
+
+class DanglingLink(FileError, FileNotFoundError):
+    """The path is a link that leads to nothing."""
+    code, number = 45, errno.ENOENT
+
+
+class IsFolder(FileError, IsADirectoryError):
+    """The path leads to a folder."""
+    code, number = 46, errno.EISDIR
+
+
+class IsDevice(FileError):
+    """The path leads to a device."""
+    code, number = 47, errno.EINVAL
+
+
+class IsPipe(FileError):
+    """The path leads to a pipe or a socket."""
+    code, number = 48, errno.ESPIPE
+
+
+class FileTooLarge(FileError):
+    """The file has more than 1073741824 bytes."""
+    code, number = 49, errno.EFBIG
+
+
+class FileFault(FileError):
+    """The system refused. It is also of the class that Python has for its `errno`, as PermissionError."""
+    code, number = 50, errno.EIO
+
+
+class FileReplaced(FileError):
+    """The name no longer leads to the file that was opened. What is there is left alone."""
+    code, number = 51, errno.ESTALE
+
+
+class FileUnsynced(FileError):
+    """The file is saved, but its folder was not synced."""
+    code, number = 52, errno.EIO
+
+
+class FileForked(FileError, PermissionError):
+    """The file belongs to the process that this one was forked from."""
+    code, number = 53, errno.EPERM
+
+
+class WrongThread(Error, RuntimeError):
+    """A segment is used by the thread that opened it."""
+
+    def __init__(self, *arguments: object) -> None:
+        Exception.__init__(self, *(arguments or ("the segment belongs to another thread",)))
+
+
+class NoElement(Error, ValueError):
+    """A list has no such element."""
+
+    def __init__(self, *arguments: object) -> None:
+        Exception.__init__(self, *(arguments or ("the list has no such element",)))
+
+
+class Lent(Error, BufferError):
+    """The memory of the object, or of the segment, is lent to a view that is still there."""
+
+    def __init__(self, *arguments: object) -> None:
+        Exception.__init__(self, *(arguments or ("its memory is lent to a view",)))
+
+
+def _words(code: Optional[int]) -> str:
+    return "" if code is None else _library.words(code)
+
+
+def _all(kind: Type[Error]) -> Dict[int, Type[Error]]:
+    """The classes below one, by their codes."""
+    classes = {} if kind.code is None else {kind.code: kind}
+    for each in kind.__subclasses__():
+        classes.update(_all(each))
+    return classes
+
+
+_classes = _all(Error)
+
+
+def error_of(code: int, about: object = None) -> Error:
+    """The error that a code stands for, with the name of what was asked for."""
+    kind = _classes.get(code, Error)
+    said = _words(code)
+    return kind(said if about is None else f"{said}: {about!r}")
+
+
+def file_error_of(code: int, number: int, path: Any) -> Error:
+    """The error that a code of a file stands for."""
+    kind = _classes.get(code, Error)
+    if not issubclass(kind, FileError):
+        return error_of(code) if path is None else error_of(code, path)
+    if kind is FileFault:
+        known = type(OSError(number, ""))
+        kind = kind if known is OSError else type("FileFault", (FileFault, known), {})
+    return kind(number, path)

@@ -1,0 +1,164 @@
+"""The shared object libzaluxhoni.so, and what its calls take: zaluxhoni.h, zaluxhoni_files.h and zaluxhoni_rows.h."""
+from __future__ import annotations
+
+import ctypes
+import os
+from typing import Any, Dict, List
+
+BOOL, U8, I32, I64, U64, STRING, VECTOR, MAP, STRINGS = 1, 2, 3, 4, 5, 65536, 131072, 196608, 262144
+
+
+class Handle(ctypes.Structure):
+    _fields_ = [("at", ctypes.c_void_p), ("changes", ctypes.c_uint64), ("lent", ctypes.c_bool),
+                ("shared", ctypes.c_bool)]
+
+
+class Memory(ctypes.Structure):
+    _fields_ = [("at", ctypes.c_void_p), ("len", ctypes.c_uint64)]
+
+
+class Elements(ctypes.Structure):
+    _fields_ = [("at", ctypes.c_void_p), ("offset", ctypes.c_uint64), ("count", ctypes.c_uint64),
+                ("changes", ctypes.c_uint64), ("kind", ctypes.c_uint32)]
+
+
+class File(ctypes.Structure):
+    _fields_ = [("segment", Handle), ("error", ctypes.c_int32), ("held", ctypes.c_void_p)]
+
+
+class Key(ctypes.Structure):
+    _fields_ = [("how", ctypes.c_uint32), ("kind", ctypes.c_uint32), ("handle", ctypes.c_uint64),
+                ("name", ctypes.c_char_p), ("len", ctypes.c_size_t)]
+
+
+class Value(ctypes.Structure):
+    _fields_ = [("kind", ctypes.c_uint32), ("number", ctypes.c_int64), ("natural", ctypes.c_uint64)]
+
+
+class Values(ctypes.Structure):
+    _fields_ = [("kind", ctypes.c_uint32), ("truths", ctypes.c_void_p), ("truth_count", ctypes.c_size_t),
+                ("bytes", ctypes.c_void_p), ("byte_count", ctypes.c_size_t), ("i32s", ctypes.c_void_p),
+                ("i32_count", ctypes.c_size_t), ("i64s", ctypes.c_void_p), ("i64_count", ctypes.c_size_t),
+                ("u64s", ctypes.c_void_p), ("u64_count", ctypes.c_size_t)]
+
+
+class Text(ctypes.Structure):
+    _fields_ = [("at", ctypes.c_void_p), ("len", ctypes.c_size_t)]
+
+
+class Info(ctypes.Structure):
+    _fields_ = [("found_by", ctypes.c_uint32), ("kind", ctypes.c_uint32), ("count", ctypes.c_uint32),
+                ("name_len", ctypes.c_uint64), ("handle", ctypes.c_uint64)]
+
+
+class Tile(ctypes.Structure):
+    _fields_ = [("offset", ctypes.c_uint64), ("len", ctypes.c_uint64), ("use", ctypes.c_uint32)]
+
+
+class Place(ctypes.Structure):
+    _fields_ = [("segment", ctypes.c_void_p), ("thread", ctypes.c_uint64), ("key", Key)]
+
+
+def _path() -> str:
+    """The library that ZALUXHONI_LIBRARY names, or that beside this module or its folder, or that which the system
+    finds."""
+    named = os.environ.get("ZALUXHONI_LIBRARY")
+    if named:
+        return named
+    here = os.path.dirname(os.path.abspath(__file__))
+    for folder in (here, os.path.dirname(here)):
+        beside = os.path.join(folder, "libzaluxhoni.so")
+        if os.path.exists(beside):
+            return beside
+    return "libzaluxhoni.so"
+
+
+def _calls() -> Dict[str, List[Any]]:
+    """What each call takes behind the handle of a segment, as zaluxhoni.h and zaluxhoni_rows.h declare it."""
+    pointer, u32, u64, size, text = ctypes.POINTER, ctypes.c_uint32, ctypes.c_uint64, ctypes.c_size_t, ctypes.c_char_p
+    key, value, values, memory = pointer(Key), pointer(Value), pointer(Values), ctypes.c_void_p
+    texts, info, truth = pointer(Text), pointer(Info), pointer(ctypes.c_bool)
+    number, half, count = pointer(u64), pointer(u32), pointer(size)
+    calls: Dict[str, List[Any]] = {
+        "create": [u64], "open": [text, size, u64, u32], "save": [memory, size], "grow": [u64], "shrink": [],
+        "relocate": [u64], "close": [], "mode": [half], "size": [number], "free_bytes": [number],
+        "region_left": [number], "construct": [key, u32, value, number], "construct_vector": [key, values, number],
+        "construct_array": [key, values, number],
+        "construct_string": [key, text, size, number], "construct_strings": [key, texts, size, number],
+        "construct_map": [key, u32, u32, number], "find_or_construct": [key, u32, value, number, half],
+        "find_or_construct_vector": [key, values, number, half],
+        "find_or_construct_string": [key, text, size, number, half],
+        "find_or_construct_strings": [key, texts, size, number, half],
+        "find_or_construct_map": [key, u32, u32, number, half], "find": [key, u32, number, half],
+        "destroy": [key, truth], "tell": [key, info, memory, size], "get": [key, u64, value],
+        "set": [key, u64, value], "push": [key, value], "pop": [key, value], "insert": [key, u64, value],
+        "assign": [key, values], "erase": [key, u64], "measure": [key, number, number], "reserve": [key, u64],
+        "trim": [key], "clear": [key], "read_string": [key, memory, size, number],
+        "assign_string": [key, text, size], "append": [key, text, size],
+        "read_text": [key, u64, memory, size, number], "set_text": [key, u64, text, size],
+        "push_text": [key, text, size], "pop_text": [key], "insert_text": [key, u64, text, size],
+        "assign_texts": [key, texts, size], "map_get": [key, value, value], "map_put": [key, value, value, truth],
+        "map_erase": [key, value, truth], "map_first": [key, value, value], "map_next": [key, value, value, value],
+        "num_named": [number], "num_unique": [number], "named_at": [u64, info, memory, size],
+        "unique_at": [u64, info], "tile_at": [u64, pointer(Tile)], "reserve_named": [u64], "reserve_unique": [u64],
+        "shrink_indexes": [], "zero_free": [], "sanity": [truth], "all_deallocated": [truth],
+        "write_elements": [key, u64, values], "attach": [pointer(Memory), u64, u32], "detach": [pointer(Memory)],
+        "view": [key, pointer(Elements)], "view_mut": [key, pointer(Elements)], "named_from": [text, size, number],
+        "begin": [pointer(Handle)], "rollback": [pointer(Handle)],
+        "push_row": [key, u64, values], "read_pairs": [key, value, memory, memory, size, count],
+        "put_pairs": [key, u32, u32, memory, memory, size], "clear_map": [key],
+        "read_texts": [key, u64, memory, size, memory, size, count], "push_texts": [key, u64, texts, size],
+        "read_names": [u64, memory, memory, memory, size, size, count],
+    }
+    for row in ("bools", "u8s", "i32s", "i64s", "u64s"):
+        calls[f"read_{row}"] = [key, u64, memory, size]
+    return calls
+
+
+def _load() -> Any:
+    """The library, with the types of its calls."""
+    library = ctypes.CDLL(_path())
+    u32, u64 = ctypes.c_uint32, ctypes.c_uint64
+    for name, arguments in _calls().items():
+        call = getattr(library, "zx_" + name)
+        call.argtypes, call.restype = [ctypes.POINTER(Handle), *arguments], u32
+    library.zx_close.restype = None
+    library.zx_check.argtypes, library.zx_check.restype = [ctypes.c_char_p, ctypes.c_size_t], u32
+    for name in ("zx_words", "zx_file_words"):
+        call = getattr(library, name)
+        call.argtypes, call.restype = [u32, ctypes.POINTER(Text)], None
+    library.zx_message.argtypes, library.zx_message.restype = [u32], ctypes.c_char_p
+    library.zx_version.argtypes, library.zx_version.restype = [], u32
+    library.zx_state.argtypes, library.zx_state.restype = [], ctypes.c_char_p
+    files: Dict[str, List[Any]] = {"open": [ctypes.c_char_p, u32, u64], "save": [], "save_as": [ctypes.c_char_p, u32],
+                                   "close": [], "discard": [], "grow": [u64], "shrink": [], "flush": [],
+                                   "rollback": [ctypes.POINTER(Handle)]}
+    for name, arguments in files.items():
+        call = getattr(library, "zx_file_" + name)
+        call.argtypes, call.restype = [ctypes.POINTER(File), *arguments], u32
+    library.zx_file_discard.restype = None
+    return library
+
+
+def _load_quick() -> Any:
+    """The calls for one small number of zaluxhoni_rows.h. They are so short that the interpreter's lock is kept, and
+    are given the place and numbers of 32 bits as they stand: to declare what they take costs more than the call."""
+    library = ctypes.PyDLL(_path())
+    for name, answer in (("map_at", ctypes.c_int64), ("element_at", ctypes.c_int64), ("put_at", ctypes.c_uint32),
+                         ("push_number", ctypes.c_uint32), ("set_at", ctypes.c_uint32), ("thread", ctypes.c_uint64)):
+        getattr(library, "zx_" + name).restype = answer
+    return library
+
+
+zx = _load()
+free = ctypes.PyDLL(None).free
+free.argtypes, free.restype = [ctypes.c_void_p], None
+quick = _load_quick()
+NO_NUMBER = -0x5A415855584F4E49
+"""What a call for one number answers where it has none."""
+NO_SPACE = 9
+
+
+def words(code: int) -> str:
+    """The library's words for a code."""
+    return zx.zx_message(code).decode() or f"code {code}"

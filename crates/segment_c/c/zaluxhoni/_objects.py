@@ -1,0 +1,1007 @@
+"""The objects of a segment: arrays, vectors, strings and maps."""
+from __future__ import annotations
+
+import collections.abc
+import ctypes
+import importlib
+import operator
+from typing import (TYPE_CHECKING, Any, Dict, Iterable, Iterator, List, MutableMapping, MutableSequence, Optional,
+                    Sequence, Tuple, Union)
+
+from . import _library
+from ._errors import Absent, BadCount, BadValue, Error, NoElement, NoSpace, OutOfRange, WrongKind, error_of
+from ._library import BOOL, I32, I64, NO_NUMBER, STRING, STRINGS, U8, U64, VECTOR, MAP, quick, zx
+from ._values import (KINDS, SCALARS, Key, Row, Texts, decoded, encoded, from_words, is_scalar, listed,
+                      natural, number_in, pairs_of, raw_key, row, scalar, unpacked, value_of, whole)
+
+if TYPE_CHECKING:
+    from ._segment import Info, Segment
+
+_element_at, _map_at, _put_at, _push_number, _set_at = (
+    quick.zx_element_at, quick.zx_map_at, quick.zx_put_at, quick.zx_push_number, quick.zx_set_at)
+_reads = {BOOL: zx.zx_read_bools, U8: zx.zx_read_u8s, I32: zx.zx_read_i32s, I64: zx.zx_read_i64s, U64: zx.zx_read_u64s}
+_QUICK = (U8, I32, I64)
+_AHEAD = 4096
+_FEW = 64
+_SMALL = 2**31
+
+
+def _quick_range(code: int, is_quick: bool) -> Tuple[int, int]:
+    """The numbers that a call for one small number takes: none where the object is of another kind."""
+    own = SCALARS[code]
+    return (max(own.least, -_SMALL), min(own.most, _SMALL - 1)) if is_quick else (1, 0)
+
+
+class Lease:
+    """The elements of an object where they stand, which are lent as long as this is there."""
+
+    def __init__(self, owner: Any, code: int) -> None:
+        segment = self._segment = owner._segment
+        self._scalar, there = SCALARS[code], _library.Elements()
+        self._readonly = bool(segment.mode == "read")
+        owner._call(zx.zx_view if self._readonly else zx.zx_view_mut, there)
+        self._at, self._count = there.at, there.count
+        if self._count:
+            segment._lend(self, owner.handle)
+        form = f"{'|' if self._scalar.size == 1 else '<'}{_FORMS[self._scalar.letter]}{self._scalar.size}"
+        self.__array_interface__ = {"version": 3, "data": (self._at, self._readonly), "shape": (self._count,),
+                                    "typestr": form}
+
+    def __del__(self) -> None:
+        self._segment._give_back(self)
+
+    def view(self) -> memoryview:
+        """A view that has the lease."""
+        if not self._count:
+            return memoryview(bytearray(self._scalar.size)).cast(self._scalar.letter)[:0]
+        memory = (ctypes.c_uint8 * (self._count * self._scalar.size)).from_address(self._at)
+        memory.lease = self
+        view = memoryview(memory).cast("B").cast(self._scalar.letter)
+        return view.toreadonly() if self._readonly else view
+
+    def array(self, dtype: Any, copy: Any) -> Any:
+        """An array of numpy that has the lease, or a copy."""
+        numpy: Any = importlib.import_module("numpy")
+        elements = numpy.asarray(self) if self._count else numpy.empty(0, self.__array_interface__["typestr"])
+        if dtype is not None and elements.dtype != dtype:
+            return elements.astype(dtype)
+        return elements.copy() if copy else elements
+
+
+_FORMS = {"?": "b", "B": "u", "i": "i", "q": "i", "Q": "u"}
+
+
+def places_of(index: slice, length: int) -> range:
+    """The places that a slice means."""
+    try:
+        return range(*index.indices(length))
+    except TypeError:
+        raise WrongKind(f"{index!r} is no slice of places") from None
+    except ValueError:
+        raise BadValue(f"{index!r} has no step") from None
+
+
+class Object:
+    """An object of a segment. Each of its methods looks its key up, so it is good as long as the segment is open."""
+
+    def __init__(self, segment: Segment, key: Key, code: int) -> None:
+        self._segment, self._key, self._code, self._raw = segment, key, code, raw_key(key)
+        self._raw_ref = ctypes.byref(self._raw)
+        self._lock = segment._lock
+        place = _library.Place(ctypes.addressof(segment._handle), segment._thread_number, self._raw)
+        self._place_kept, self._at = place, ctypes.byref(place)
+
+    @property
+    def key(self) -> Key:
+        """Its key: its name, or what unique() or handle() gave."""
+        return self._key
+
+    def _call(self, call: Any, *arguments: Any) -> None:
+        code = self._segment._code(call, self._raw, *arguments)
+        if code:
+            raise error_of(code, self._key)
+
+    def _change(self, call: Any, *arguments: Any) -> None:
+        """A call that may move or change its elements."""
+        segment = self._segment
+        segment._changes += 1
+        if segment._lent:
+            segment._refuse_lent(self._key)
+        self._call(call, *arguments)
+
+    @property
+    def kind(self) -> str:
+        """Its kind, as "vec<i64>"."""
+        return KINDS[self._code]
+
+    def info(self) -> Info:
+        """What it says of itself: Info. NotFound."""
+        return self._segment.info(self._key)
+
+    @property
+    def handle(self) -> int:
+        """Its handle, a number. NotFound."""
+        return self.info().handle
+
+    def destroy(self) -> bool:
+        """Destroys it, and says whether it was there."""
+        return self._segment.destroy(self._key)
+
+    def _measure(self) -> Tuple[int, int]:
+        length, places = ctypes.c_uint64(), ctypes.c_uint64()
+        self._call(zx.zx_measure, length, places)
+        return length.value, places.value
+
+    def __len__(self) -> int:
+        return self._measure()[0]
+
+    def _place(self, index: Any) -> int:
+        """The place of an index, which counts from the end where it is below 0."""
+        number = whole(index)
+        if number < 0:
+            number += len(self)
+        if not 0 <= number < 2**64:
+            raise OutOfRange(f"{self._key!r} has no element {index}")
+        return number
+
+    def _scalar(self, index: int) -> int:
+        value = _library.Value()
+        self._call(zx.zx_get, index, value)
+        return number_in(value)
+
+    def _become(self, value: Any) -> None:
+        raise NotImplementedError
+
+    def _value(self) -> Any:
+        """Its value as a list, dict, text or bytes of Python."""
+        raise NotImplementedError
+
+    def copy(self) -> Any:
+        """Its value, as a list or dict of Python's own."""
+        return self._value()
+
+    def __reduce_ex__(self, _: Any) -> Any:
+        value = self._value()
+        return type(value), (value,)
+
+    def __repr__(self) -> str:
+        try:
+            return f"<{self.kind} {self._key!r} {self._value()!r}>"
+        except Error as error:
+            return f"<{self.kind} {self._key!r}: {error}>"
+
+    def _named(self, error: Error) -> Error:
+        """The error, with the object's key."""
+        return type(error)(f"{self._key!r}: {error}")
+
+
+class _Places(Object):
+    """What vectors, strings and vectors of strings have besides: places."""
+
+    @property
+    def capacity(self) -> int:
+        """The places for elements."""
+        return self._measure()[1]
+
+    def reserve(self, places: int) -> None:
+        """Makes at least so many places. NoSpace."""
+        self._change(zx.zx_reserve, natural(places))
+
+    def trim(self) -> None:
+        """Makes as many places as there are elements."""
+        self._change(zx.zx_trim)
+
+    def clear(self) -> None:
+        """Takes all elements out. The places stay."""
+        self._change(zx.zx_clear)
+
+
+class _Elements(Object):
+    """What objects of several elements have in common, as a list has it."""
+
+    def _get(self, place: int) -> Any:
+        raise NotImplementedError
+
+    def _read(self, first: int, count: int) -> List[Any]:
+        """So many elements, from a place on."""
+        raise NotImplementedError
+
+    def _set_slice(self, index: slice, value: Any) -> None:
+        raise NotImplementedError
+
+    def _all(self) -> List[Any]:
+        return self._read(0, len(self))
+
+    def _value(self) -> Any:
+        return self._all()
+
+    def __getitem__(self, index: Any) -> Any:
+        if not isinstance(index, slice):
+            return self._get(self._place(index))
+        places = places_of(index, len(self))
+        if not places:
+            return []
+        first, last = min(places[0], places[-1]), max(places[0], places[-1])
+        elements = self._read(first, last - first + 1)
+        return elements if places.step == 1 else [elements[place - first] for place in places]
+
+    def __iter__(self) -> Iterator[Any]:
+        # elements are read ahead, twice as many each time; behind a change of the segment they are read again, and few
+        segment, place, many = self._segment, 0, 1
+        while True:
+            left = len(self) - place
+            if left <= 0:
+                return
+            elements = self._read(place, min(many, left))
+            changes, many = segment._changes, min(2 * many, _AHEAD)
+            for value in elements:
+                yield value
+                place += 1
+                if segment._changes != changes:
+                    many = 1
+                    break
+
+    def __reversed__(self) -> Iterator[Any]:
+        for place in range(len(self) - 1, -1, -1):
+            if place >= len(self):
+                return
+            yield self._get(place)
+
+    def __contains__(self, value: object) -> bool:
+        return value in self._all()
+
+    def count(self, value: Any) -> int:
+        """How often it has the value."""
+        return self._all().count(value)
+
+    def index(self, value: Any, start: Any = 0, stop: Any = None) -> int:
+        """The first place of a value, from `start` on and before `stop`. NoElement."""
+        try:
+            return self._all().index(value, start, *(() if stop is None else (stop,)))
+        except TypeError as error:
+            raise WrongKind(f"{self._key!r}: {error}") from None
+        except ValueError:
+            raise NoElement(f"{self._key!r} has no element {value!r}") from None
+
+    def _other(self, other: object) -> Optional[List[Any]]:
+        """The elements of what is compared as a list."""
+        return other._all() if isinstance(other, _Elements) else other if isinstance(other, list) else None
+
+    def _with(self, operation: Any, other: object) -> Any:
+        """The operation of two lists."""
+        elements = self._other(other)
+        return NotImplemented if elements is None else operation(self._all(), elements)
+
+    def __eq__(self, other: object) -> Any:
+        return self._with(operator.eq, other)
+
+    def __lt__(self, other: object) -> Any:
+        return self._with(operator.lt, other)
+
+    def __le__(self, other: object) -> Any:
+        return self._with(operator.le, other)
+
+    def __gt__(self, other: object) -> Any:
+        return self._with(operator.gt, other)
+
+    def __ge__(self, other: object) -> Any:
+        return self._with(operator.ge, other)
+
+    def __add__(self, other: Any) -> Any:
+        return self._with(operator.add, other)
+
+    def __radd__(self, other: Any) -> Any:
+        return self._with(lambda own, others: others + own, other)
+
+    def __mul__(self, times: Any) -> Any:
+        return self._all() * whole(times)
+
+    __rmul__ = __mul__
+
+    __hash__ = None  # type: ignore[assignment]
+
+
+class _Scalars(_Elements):
+    """What arrays and vectors of scalars have in common: many elements are read, or written, by one call."""
+
+    def __init__(self, segment: Segment, key: Key, code: int) -> None:
+        super().__init__(segment, key, code)
+        self._scalar_code = code if is_scalar(code) else code - VECTOR
+        is_quick = self._scalar_code in _QUICK
+        self._least, self._most = _quick_range(self._scalar_code, is_quick)
+        self._places = _SMALL if is_quick else 0
+
+    def _get(self, place: int) -> int:
+        return self._scalar(place)
+
+    def __getitem__(self, index: Any) -> Any:
+        if type(index) is int and 0 <= index < self._places:
+            value = _element_at(self._at, index)
+            if value != NO_NUMBER:
+                return value
+        return super().__getitem__(index)
+
+    def _row(self, values: Any) -> Row:
+        try:
+            return row(self._scalar_code, values)
+        except Error as error:
+            raise self._named(error) from None
+
+    def _number(self, value: Any) -> _library.Value:
+        try:
+            return value_of(self._scalar_code, scalar(self._scalar_code, value))
+        except Error as error:
+            raise self._named(error) from None
+
+    def _memory(self, first: int, count: int, room: int = 0) -> Any:
+        """The bytes of so many elements from a place on, with room for more behind them."""
+        memory = ctypes.create_string_buffer(max(8, (count + room) * SCALARS[self._scalar_code].size))
+        self._call(_reads[self._scalar_code], first, memory, count)
+        return memory
+
+    def _read(self, first: int, count: int) -> List[Any]:
+        return unpacked(self._scalar_code, self._memory(first, count), count)
+
+    def view(self) -> memoryview:
+        """The elements where they stand, without a copy: what is written there is written, and what would move them is
+        refused, by Lent, as long as the view is there. It may be read only. NotFound."""
+        return Lease(self, self._scalar_code).view()
+
+    def __array__(self, dtype: Any = None, copy: Any = None) -> Any:
+        return Lease(self, self._scalar_code).array(dtype, copy)
+
+    def _set(self, place: int, value: Any) -> None:
+        passed = self._number(value)
+        self._segment._changes += 1
+        self._call(zx.zx_set, place, passed)
+
+    def _write(self, first: int, values: Any) -> None:
+        """Makes values the elements from a place on."""
+        passed = self._row(values)
+        self._segment._changes += 1
+        self._call(zx.zx_write_elements, first, passed.passed)
+
+    def _write_to(self, places: range, values: List[Any]) -> None:
+        """Makes as many values the elements at places."""
+        if not places:
+            return
+        first, last = min(places[0], places[-1]), max(places[0], places[-1])
+        elements = values
+        if places.step != 1:
+            elements = self._read(first, last - first + 1)
+            for place, value in zip(places, values):
+                elements[place - first] = value
+        self._write(first, elements)
+
+    def __setitem__(self, index: Any, value: Any) -> None:
+        if isinstance(index, slice):
+            return self._set_slice(index, value)
+        if type(index) is int and type(value) is int and 0 <= index < self._places \
+                and self._least <= value <= self._most:
+            self._segment._changes += 1
+            if not _set_at(self._at, index, value):
+                return
+        self._set(self._place(index), value)
+
+
+class Array(_Scalars, Sequence[int]):
+    """Scalars that were made together: one or more, used as a list whose length stays."""
+
+    def __len__(self) -> int:
+        return self.info().count
+
+    def _set_slice(self, index: slice, value: Any) -> None:
+        places, values = places_of(index, len(self)), listed(value)
+        if len(places) != len(values):
+            raise BadCount(f"{self._key!r}: {len(values)} values for {len(places)}")
+        self._write_to(places, values)
+
+    def _become(self, value: Any) -> None:
+        if is_list_for(self._code, value):
+            self[:] = value
+        elif len(self) == 1:
+            self[0] = value
+        else:
+            raise WrongKind(f"{self._key!r}: {value!r} is no list")
+
+
+class _List(_Places, _Elements):
+    """What vectors of scalars and of strings have in common."""
+
+    def _insert(self, place: int, value: Any) -> None:
+        raise NotImplementedError
+
+    def _pop(self) -> Any:
+        raise NotImplementedError
+
+    def _extend(self, values: List[Any]) -> None:
+        raise NotImplementedError
+
+    def append(self, value: Any) -> None:
+        """Puts a value behind the last element. NoSpace, OutOfRange, WrongKind."""
+        self._insert(len(self), value)
+
+    def assign(self, values: Iterable[Any]) -> None:
+        """Makes these the elements."""
+        raise NotImplementedError
+
+    def _set_slice(self, index: slice, value: Any) -> None:
+        elements = self._all()
+        places, values = places_of(index, len(elements)), listed(value)
+        if places.step == 1 and len(places) == len(values) and isinstance(self, _Scalars):
+            return self._write_to(places, values)
+        if places.step != 1 and len(places) != len(values):
+            raise BadCount(f"{self._key!r}: {len(values)} values for {len(places)}")
+        elements[index] = values
+        self.assign(elements)
+
+    def __delitem__(self, index: Any) -> None:
+        if not isinstance(index, slice):
+            return self._change(zx.zx_erase, self._place(index))
+        elements = self._all()
+        if places_of(index, len(elements)):
+            del elements[index]
+            self.assign(elements)
+
+    def insert(self, index: int, value: Any) -> None:
+        """Puts a value before the element `index`; as in a list, an index past an end is that end."""
+        length, place = len(self), whole(index)
+        self._insert(min(max(place + length if place < 0 else place, 0), length), value)
+
+    def pop(self, index: int = -1) -> Any:
+        """Takes one element out, and gives it: the last one, where no other is named. OutOfRange."""
+        if whole(index) == -1:
+            return self._pop()
+        place = self._place(index)
+        value = self._get(place)
+        self._change(zx.zx_erase, place)
+        return value
+
+    def remove(self, value: Any) -> None:
+        """Takes the first element out that has a value. NoElement."""
+        del self[self.index(value)]
+
+    def extend(self, values: Iterable[Any]) -> None:
+        """Puts values behind the last element: all of them, or none. NoSpace, OutOfRange, WrongKind."""
+        self._extend(values._all() if isinstance(values, _Elements) else values)  # type: ignore[arg-type]
+
+    def reverse(self) -> None:
+        """Puts the elements in the other order."""
+        self.assign(self._all()[::-1])
+
+    def sort(self, *, key: Any = None, reverse: bool = False) -> None:
+        """Puts the elements in order, as list.sort does."""
+        self.assign(sorted(self._all(), key=key, reverse=reverse))
+
+    def clear(self) -> None:
+        """Takes all elements out. The places stay."""
+        _Places.clear(self)
+
+    def __iadd__(self, values: Any) -> Any:
+        self.extend(values)
+        return self
+
+    def __imul__(self, times: Any) -> Any:
+        self.assign(self._all() * whole(times))
+        return self
+
+    def _become(self, value: Any) -> None:
+        if not is_list_for(self._code, value):
+            raise WrongKind(f"{self._key!r}: {value!r} is no list")
+        self.assign(value)
+
+
+class Vector(_Scalars, _List, MutableSequence[int]):
+    """A vector of scalars, used as a list."""
+
+    def _insert(self, place: int, value: Any) -> None:
+        self._change(zx.zx_insert, place, self._number(value))
+
+    def _pop(self) -> int:
+        value = _library.Value()
+        self._change(zx.zx_pop, value)
+        return number_in(value)
+
+    def append(self, value: int) -> None:
+        """Puts a value behind the last element. NoSpace, OutOfRange, WrongKind."""
+        segment = self._segment
+        if type(value) is int and self._least <= value <= self._most and not segment._lent:
+            segment._changes += 1
+            if not _push_number(self._at, value):
+                return
+        self._change(zx.zx_push, self._number(value))
+
+    def _extend(self, values: Any) -> None:
+        passed = self._row(values)
+        length, places = self._measure()
+        if passed.count < _FEW or passed.count * 8 < length:
+            self._make_room(length + passed.count, places)
+            return self._change(zx.zx_push_row, length, passed.passed)
+        if not length:
+            return self._change(zx.zx_assign, passed.passed)
+        size = SCALARS[self._scalar_code].size
+        together = self._memory(0, length, passed.count)
+        ctypes.memmove(ctypes.addressof(together) + length * size, passed.memory, passed.count * size)
+        self._change(zx.zx_assign, Row(self._scalar_code, together, length + passed.count).passed)
+
+    def _make_room(self, wanted: int, places: int) -> None:
+        """Makes places for so many elements, and twice as many as there are where there is space for them."""
+        if wanted > places:
+            try:
+                self.reserve(max(wanted, 2 * places))
+            except NoSpace:
+                self.reserve(wanted)
+
+    def assign(self, values: Iterable[int]) -> None:
+        """Makes these the elements: all of them, or none. NoSpace, OutOfRange, WrongKind."""
+        self._change(zx.zx_assign, self._row(values._all() if isinstance(values, _Elements) else values).passed)
+
+
+class Strings(_List, MutableSequence[str]):
+    """A vector of strings, used as a list of str; of bytes, where the segment's encoding is None."""
+
+    def _bytes(self, text: Any) -> bytes:
+        try:
+            return encoded(text, self._segment.encoding)
+        except Error as error:
+            raise self._named(error) from None
+
+    def _texts(self, texts: Any) -> Texts:
+        try:
+            return Texts(texts, self._segment.encoding)
+        except Error as error:
+            raise self._named(error) from None
+
+    def _get(self, place: int) -> Any:
+        return self._read(place, 1)[0]
+
+    def _read(self, first: int, count: int) -> List[Any]:
+        read: List[Any] = []
+        most = min(count, _AHEAD)
+        room = max(256, 64 * most)
+        ends, got = (ctypes.c_uint64 * max(1, most))(), ctypes.c_size_t()
+        encoding = self._segment.encoding
+        memory = ctypes.create_string_buffer(room)
+        while len(read) < count:
+            code = self._segment._code(zx.zx_read_texts, self._raw, first + len(read), memory, room, ends,
+                                       min(most, count - len(read)), got)
+            if code == _SHORT_BUFFER:
+                length = ctypes.c_uint64()
+                self._segment._code(zx.zx_read_text, self._raw, first + len(read), memory, 0, length)
+                room = max(length.value, room)
+                memory = ctypes.create_string_buffer(room)
+            elif code:
+                raise error_of(code, self._key)
+            else:
+                read += _cut(memory, ends[:got.value], encoding)
+        return read
+
+    def __setitem__(self, index: Any, value: Any) -> None:
+        if isinstance(index, slice):
+            return self._set_slice(index, value)
+        text = self._bytes(value)
+        self._change(zx.zx_set_text, self._place(index), text, len(text))
+
+    def _insert(self, place: int, value: Any) -> None:
+        text = self._bytes(value)
+        self._change(zx.zx_insert_text, place, text, len(text))
+
+    def _pop(self) -> Any:
+        last = self[-1]
+        self._change(zx.zx_pop_text)
+        return last
+
+    def append(self, value: Union[str, bytes]) -> None:
+        """Puts a text behind the last one. NoSpace, WrongKind."""
+        text = self._bytes(value)
+        self._change(zx.zx_push_text, text, len(text))
+
+    def _extend(self, values: Any) -> None:
+        texts, length = self._texts(values), len(self)
+        try:
+            self._change(zx.zx_push_texts, length, texts.passed, texts.count)
+        except Error:
+            for _ in range(len(self) - length):
+                self._call(zx.zx_pop_text)
+            raise
+
+    def assign(self, values: Iterable[Union[str, bytes]]) -> None:
+        """Makes these the texts: all of them, or none. NoSpace, WrongKind."""
+        texts = self._texts(values._all() if isinstance(values, _Elements) else values)
+        self._change(zx.zx_assign_texts, texts.passed, texts.count)
+
+
+_SHORT_BUFFER = 24
+
+
+def _cut(memory: Any, ends: List[int], encoding: Optional[str]) -> List[Any]:
+    """The texts that stand one behind another and end there."""
+    first, texts = 0, []
+    joined = memory.raw[:ends[-1]] if ends else b""
+    for end in ends:
+        texts.append(decoded(joined[first:end], encoding))
+        first = end
+    return texts
+
+
+class String(_Places):
+    """A string: bytes, used as a bytearray; str(s) decodes them."""
+
+    def view(self) -> memoryview:
+        """The bytes where they stand, as Vector.view gives elements."""
+        return Lease(self, U8).view()
+
+    def _text(self) -> bytes:
+        length, room = ctypes.c_uint64(), 256
+        while True:
+            memory = ctypes.create_string_buffer(room)
+            code = self._segment._code(zx.zx_read_string, self._raw, memory, room, length)
+            if not code:
+                return memory.raw[:length.value]
+            if code != _SHORT_BUFFER:
+                raise error_of(code, self._key)
+            room = length.value
+
+    def _bytes(self, text: Any) -> bytes:
+        try:
+            return encoded(text, self._segment.encoding)
+        except Error as error:
+            raise self._named(error) from None
+
+    def __bytes__(self) -> bytes:
+        return self._text()
+
+    def __str__(self) -> str:
+        return str(decoded(self._text(), self._segment.encoding or "utf-8"))
+
+    def __format__(self, form: str) -> str:
+        return format(str(self), form)
+
+    def _value(self) -> Any:
+        return decoded(self._text(), self._segment.encoding)
+
+    def __getitem__(self, index: Any) -> Any:
+        if isinstance(index, slice):
+            places_of(index, 0)
+            return self._text()[index]
+        return self._scalar(self._place(index))
+
+    def __setitem__(self, index: Any, value: Any) -> None:
+        if isinstance(index, slice):
+            text = bytearray(self._text())
+            places, part = places_of(index, len(text)), self._bytes(value)
+            if places.step != 1 and len(places) != len(part):
+                raise BadCount(f"{self._key!r}: {len(part)} bytes for {len(places)}")
+            text[index] = part
+            return self.assign(bytes(text))
+        try:
+            passed = value_of(U8, scalar(U8, value))
+        except Error as error:
+            raise self._named(error) from None
+        self._segment._changes += 1
+        self._call(zx.zx_set, self._place(index), passed)
+
+    def __iter__(self) -> Iterator[int]:
+        return iter(self._text())
+
+    def __contains__(self, part: Any) -> bool:
+        if isinstance(part, (str, bytes, bytearray, memoryview, String)):
+            return self._bytes(part) in self._text()
+        return part in list(self._text())
+
+    def assign(self, text: Any) -> None:
+        """Makes this the text: str or bytes. NoSpace, WrongKind."""
+        passed = self._bytes(text)
+        self._change(zx.zx_assign_string, passed, len(passed))
+
+    def append(self, text: Any) -> None:
+        """Puts a text behind the last byte: str or bytes. NoSpace, WrongKind."""
+        passed = self._bytes(text)
+        self._change(zx.zx_append, passed, len(passed))
+
+    def __iadd__(self, text: Any) -> String:
+        self.append(text)
+        return self
+
+    def __eq__(self, other: object) -> bool:
+        if isinstance(other, (str, bytes, bytearray, String)):
+            return self._text() == encoded(other, self._segment.encoding)
+        return NotImplemented
+
+    __hash__ = None  # type: ignore[assignment]
+
+    def _become(self, value: Any) -> None:
+        self.assign(value)
+
+
+class _Keys(collections.abc.KeysView):  # type: ignore[type-arg]
+    def __reversed__(self) -> Iterator[Any]:
+        return reversed(list(self))
+
+    def __repr__(self) -> str:
+        return f"dict_keys({list(self)!r})"
+
+
+class _Items(collections.abc.ItemsView):  # type: ignore[type-arg]
+    def __iter__(self) -> Iterator[Any]:
+        return self._mapping._pairs()  # type: ignore[attr-defined, no-any-return]
+
+    def __contains__(self, item: object) -> bool:
+        if not isinstance(item, tuple) or len(item) != 2:
+            return False
+        missing = object()
+        found = self._mapping.get(item[0], missing)  # type: ignore[attr-defined]
+        return found is not missing and (found is item[1] or found == item[1])
+
+    def __reversed__(self) -> Iterator[Any]:
+        return reversed(list(self))
+
+    def __repr__(self) -> str:
+        return f"dict_items({list(self)!r})"
+
+
+class _ValuesView(collections.abc.ValuesView):  # type: ignore[type-arg]
+    def __iter__(self) -> Iterator[Any]:
+        return (value for _, value in self._mapping._pairs())  # type: ignore[attr-defined]
+
+    def __reversed__(self) -> Iterator[Any]:
+        return reversed(list(self))
+
+    def __repr__(self) -> str:
+        return f"dict_values({list(self)!r})"
+
+
+class _Pairs:
+    """What maps and mappings of names have in common with dict, beside the methods of MutableMapping."""
+
+    def _pairs(self) -> Iterator[Tuple[Any, Any]]:
+        raise NotImplementedError
+
+    def keys(self) -> Any:
+        """Its keys, in order, as of a dict."""
+        return _Keys(self)  # type: ignore[arg-type]
+
+    def items(self) -> Any:
+        """Its pairs, in the order of the keys, as of a dict."""
+        return _Items(self)  # type: ignore[arg-type]
+
+    def values(self) -> Any:
+        """Its values, in the order of the keys, as of a dict."""
+        return _ValuesView(self)  # type: ignore[arg-type]
+
+    def __reversed__(self) -> Iterator[Any]:
+        return reversed(self.keys())
+
+    def __or__(self, other: Any) -> Any:
+        return {**dict(self._pairs()), **other} if isinstance(other, collections.abc.Mapping) else NotImplemented
+
+    def __ror__(self, other: Any) -> Any:
+        return {**other, **dict(self._pairs())} if isinstance(other, collections.abc.Mapping) else NotImplemented
+
+    def __ior__(self, other: Any) -> Any:
+        self.update(other)  # type: ignore[attr-defined]
+        return self
+
+
+_missing = object()
+
+
+class Map(_Pairs, Object, MutableMapping[int, int]):
+    """A map from scalars to scalars, used as a dict, in the order of its keys."""
+
+    def __init__(self, segment: Segment, key: Key, code: int) -> None:
+        super().__init__(segment, key, code)
+        self._key_code, self._value_code = code >> 8 & 255, code & 255
+        is_quick = self._key_code in _QUICK and self._value_code in _QUICK
+        self._least, self._most = _quick_range(self._key_code, is_quick)
+        self._least_value, self._most_value = _quick_range(self._value_code, is_quick)
+
+    def __getitem__(self, key: int) -> int:
+        if type(key) is int and self._least <= key <= self._most:
+            number: int = _map_at(self._at, key)
+            if number != NO_NUMBER:
+                return number
+        value = self._get(key)
+        if value is None:
+            raise Absent(f"the map {self._key!r} has no key {key!r}")
+        return value
+
+    def _get(self, key: Any) -> Optional[int]:
+        """The value at a key, or None: also where no map of this kind has such a key."""
+        value = _library.Value()
+        try:
+            at = value_of(self._key_code, scalar(self._key_code, key))
+        except Error:
+            return None
+        code = self._segment._code(zx.zx_map_get, self._raw, at, value)
+        if code == _ABSENT:
+            return None
+        if code:
+            raise error_of(code, self._key)
+        return number_in(value)
+
+    def get(self, key: Any, default: Any = None) -> Any:
+        """The value at a key, or `default`."""
+        if type(key) is int and self._least <= key <= self._most:
+            number = _map_at(self._at, key)
+            if number != NO_NUMBER:
+                return number
+        value = self._get(key)
+        return default if value is None else value
+
+    def __setitem__(self, key: int, value: int) -> None:
+        if type(key) is int and type(value) is int and self._least <= key <= self._most \
+                and self._least_value <= value <= self._most_value:
+            self._segment._changes += 1
+            if not _put_at(self._at, key, value):
+                return
+        self.put(key, value)
+
+    def __delitem__(self, key: int) -> None:
+        if self._get(key) is None:
+            raise Absent(f"the map {self._key!r} has no key {key!r}")
+        self.erase(key)
+
+    def _number(self, code: int, value: Any) -> _library.Value:
+        try:
+            return value_of(code, scalar(code, value))
+        except Error as error:
+            raise self._named(error) from None
+
+    def put(self, key: int, value: int) -> bool:
+        """Puts a value at a key, and says whether the key is new. NoSpace, OutOfRange, WrongKind."""
+        is_new = ctypes.c_bool()
+        at, passed = self._number(self._key_code, key), self._number(self._value_code, value)
+        self._segment._changes += 1
+        self._call(zx.zx_map_put, at, passed, is_new)
+        return is_new.value
+
+    def erase(self, key: int) -> bool:
+        """Takes a key out, and says whether it was there. OutOfRange, WrongKind."""
+        was_there = ctypes.c_bool()
+        at = self._number(self._key_code, key)
+        self._segment._changes += 1
+        self._call(zx.zx_map_erase, at, was_there)
+        return was_there.value
+
+    def first(self) -> Optional[Tuple[int, int]]:
+        """The pair with the least key, or None."""
+        return self._pair(zx.zx_map_first)
+
+    def next_after(self, key: int) -> Optional[Tuple[int, int]]:
+        """The pair with the least key above another, or None. OutOfRange, WrongKind."""
+        return self._pair(zx.zx_map_next, self._number(self._key_code, key))
+
+    def _pair(self, call: Any, *after: Any) -> Optional[Tuple[int, int]]:
+        key, value = _library.Value(), _library.Value()
+        code = self._segment._code(call, self._raw, *after, key, value)
+        if code == _ABSENT:
+            return None
+        if code:
+            raise error_of(code, self._key)
+        return number_in(key), number_in(value)
+
+    def _rows(self, after: Optional[int], count: int) -> Tuple[List[int], List[int]]:
+        """Keys and values of at most so many pairs: the first ones, or those above a key."""
+        keys, values = ctypes.create_string_buffer(8 * count), ctypes.create_string_buffer(8 * count)
+        read = ctypes.c_size_t()
+        above = None if after is None else ctypes.byref(value_of(self._key_code, after))
+        self._call(zx.zx_read_pairs, above, keys, values, count, read)
+        return from_words(self._key_code, keys, read.value), from_words(self._value_code, values, read.value)
+
+    def _pairs(self) -> Iterator[Tuple[int, int]]:
+        # pairs are read ahead, twice as many each time; behind a change of the segment they are read again, and few
+        segment, last, many = self._segment, None, 4
+        while True:
+            keys, values = self._rows(last, many)
+            if not keys:
+                return
+            changes, many = segment._changes, min(2 * many, _AHEAD)
+            for pair in zip(keys, values):
+                yield pair
+                if segment._changes != changes:
+                    last, many = pair[0], 4
+                    break
+            else:
+                last = keys[-1]
+
+    def _value(self) -> Dict[int, int]:
+        return dict(self._pairs())
+
+    def __contains__(self, key: Any) -> bool:
+        return self.get(key) is not None
+
+    def __iter__(self) -> Iterator[int]:
+        return (key for key, _ in self._pairs())
+
+    def __eq__(self, other: object) -> bool:
+        if isinstance(other, collections.abc.Mapping):
+            return self._value() == dict(other.items())
+        return NotImplemented
+
+    __hash__ = None  # type: ignore[assignment]
+
+    def popitem(self) -> Tuple[int, int]:
+        """Takes the pair with the least key out, and gives it. Absent."""
+        pair = self.first()
+        if pair is None:
+            raise Absent(f"the map {self._key!r} is empty")
+        self.erase(pair[0])
+        return pair
+
+    def pop(self, key: Any, default: Any = _missing) -> Any:
+        """Takes a key out and gives its value; where there is none `default`, or Absent is raised."""
+        value = self._get(key)
+        if value is not None:
+            self.erase(key)
+            return value
+        if default is _missing:
+            raise Absent(f"the map {self._key!r} has no key {key!r}")
+        return default
+
+    def clear(self) -> None:
+        """Takes all pairs out."""
+        self._segment._changes += 1
+        self._call(zx.zx_clear_map)
+
+    def update(self, *others: Any, **named: Any) -> None:
+        """Puts the pairs of a mapping, or those of a list of pairs. None is put where one is outside the kinds of the
+        map: OutOfRange, WrongKind; with NoSpace the first ones are put."""
+        if len(others) > 1:
+            raise WrongKind(f"update of {self._key!r} takes one mapping, not {len(others)}")
+        self._put_all(dict_of(self, *others, **named))
+
+    def _put_all(self, pairs: Dict[Any, Any]) -> None:
+        try:
+            keys, values, count = pairs_of(self._code, pairs)
+        except Error as error:
+            raise self._named(error) from None
+        self._segment._changes += 1
+        self._call(zx.zx_put_pairs, self._key_code, self._value_code, keys, values, count)
+
+    def _become(self, value: Any) -> None:
+        """Makes these the pairs: those that stay keep their blocks."""
+        if not isinstance(value, collections.abc.Mapping):
+            raise WrongKind(f"{self._key!r}: {value!r} is no mapping")
+        pairs = dict(value)
+        try:
+            pairs_of(self._code, pairs)
+        except Error as error:
+            raise self._named(error) from None
+        for key in [key for key in self if key not in pairs]:
+            self.erase(key)
+        self._put_all(pairs)
+
+
+_ABSENT = 10
+
+
+def dict_of(about: Any, *others: Any, **named: Any) -> Dict[Any, Any]:
+    """The pairs that an update is given."""
+    try:
+        return dict(*(other._value() if isinstance(other, Map) else other for other in others), **named)
+    except Error:
+        raise
+    except TypeError as error:
+        raise WrongKind(f"{about._key!r}: {error}") from None
+    except ValueError as error:
+        raise BadValue(f"{about._key!r}: {error}") from None
+
+
+def is_list_for(code: int, value: Any) -> bool:
+    """Whether a value is a list, as an object of the kind is assigned one by its name."""
+    if isinstance(value, (str, collections.abc.Mapping, collections.abc.Set, String)):
+        return False
+    if isinstance(value, (bytes, bytearray)):
+        return code in (U8, VECTOR + U8)
+    return isinstance(value, collections.abc.Sequence) or hasattr(value, "tolist")
+
+
+def object_of(segment: Any, key: Key, code: int) -> Any:
+    """The object of a key, which has a kind."""
+    classes = segment._classes
+    if is_scalar(code):
+        return classes[Array](segment, key, code)
+    if code in (STRING, STRINGS):
+        return classes[String if code == STRING else Strings](segment, key, code)
+    return classes[Vector if code < MAP else Map](segment, key, code)

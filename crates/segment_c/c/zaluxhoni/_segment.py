@@ -1,0 +1,916 @@
+"""Segments, groups of their names, and transactions."""
+from __future__ import annotations
+
+import codecs
+import collections.abc
+import ctypes
+import inspect
+import os
+import struct
+import threading
+import warnings
+from typing import Any, Callable, Dict, Iterator, List, MutableMapping, NamedTuple, Optional, Tuple
+
+from . import _library
+from ._errors import (BadCount, BadKey, BadName, BadValue, Error, FileUnsynced, Lent, NotFound, WrongKind,
+                      WrongThread, error_of, file_error_of)
+from ._library import BOOL, I32, I64, MAP, NO_SPACE, STRING, STRINGS, U8, VECTOR, quick, zx
+from ._objects import Array, Map, Object, _Pairs, String, Strings, Vector, object_of
+from ._records import Records
+from ._values import (KINDS, MOST, TEXTS, Key, Texts, code_of, counted, encoded, handle, is_scalar,
+                      is_truth, listed, natural, number_in, pairs_of, raw_key, row, scalar, value_of, whole)
+
+_ABSENT, _OUT_OF_RANGE = 10, 8
+_NO_OBJECT = (6, 17, 18)
+_AHEAD = 1024
+_LONGEST_NAME = 255
+MODES = {"w": 0, "r": 1, "p": 2}
+FILE_MODES = {"x": 16, "w": 17, "c": 18, "r": 19, "p": 20}
+_missing = object()
+
+
+class Info(NamedTuple):
+    """What an object says of itself: "named", "unique" or "anonymous"; its name or None; its kind; how many scalars it
+    has (1 where it is no object of scalars); its handle."""
+    found_by: str
+    name: Optional[str]
+    kind: str
+    count: int  # type: ignore[assignment]
+    handle: int
+
+
+class Tile(NamedTuple):
+    """A block, or a gap: offset and bytes, and "gap", "object", "index", "storage" or "node"."""
+    offset: int
+    len: int
+    use: str
+
+
+_Row = Tuple[str, int, int, int, Optional[int]]
+"""Of an object with a name: the name, its kind, how many scalars it has, its handle, and the value of one scalar."""
+_INFO, _VALUE = struct.Struct("@IIIQQ"), struct.Struct("@IqQ")
+
+
+def _info(told: _library.Info, name: bytes) -> Info:
+    own = name[:told.name_len].decode() if told.found_by == 1 else None
+    return Info(("anonymous", "named", "unique")[told.found_by], own, KINDS[told.kind], told.count, told.handle)
+
+
+class _Here(threading.local):
+    """The number of this thread, which no other one has."""
+
+    def __init__(self) -> None:
+        self.number: int = quick.zx_thread()
+
+
+_here = _Here()
+
+
+class _Named(_Pairs, MutableMapping[str, Any]):
+    """What segments and groups have in common: a mapping from names to objects, in the order of the names' bytes."""
+    _segment: Segment
+    _prefix: str
+
+    def _full(self, key: Any) -> Any:
+        """The key in the segment."""
+        raise NotImplementedError
+
+    # -- objects
+
+    def construct(self, kind: str, key: Optional[Key] = None, value: Any = None) -> Any:
+        """Makes an object and gives it: construct("i64", "a", 5), construct("i64[3]", "b", 7), construct("i64[3]", "c",
+        [1, 2, 3]), construct("vec<i64>", "v", [1]), construct("string", "s", "text"), construct("vec<string>", "t",
+        ["text"]) or construct("map<i32,i64>", "m", {1: 2}). The key is a name, unique(kind), or None for an object
+        without a key. A map is made with all its pairs, or there is none. Exists, NoSpace, BadKey, BadName, BadKind,
+        BadValue, BadCount, WrongKind."""
+        full, made = self._full(key), ctypes.c_uint64()
+        code = self._make("construct", kind, full, value, made)
+        return object_of(self._segment, full if full is not None else handle(made.value), code)
+
+    def find_or_construct(self, kind: str, key: Key, value: Any = None) -> Any:
+        """The object of the key, which stays as it is, or makes it, as `construct` does. WrongKind where one of another
+        kind has the key."""
+        full = self._full(key)
+        code = self._make("find_or_construct", kind, full, value, ctypes.c_uint64(), ctypes.c_uint32())
+        return object_of(self._segment, full, code)
+
+    def _make(self, call: str, kind: str, key: Any, value: Any, *told: Any) -> int:
+        segment = self._segment
+        try:
+            code, count = counted(kind)
+            if is_scalar(code):
+                self._make_scalars(call, code, count, key, value, told)
+            elif code == STRING:
+                text = encoded("" if value is None else value, segment.encoding)
+                segment._change(f"{call}_string", key, text, len(text), *told)
+            elif code == STRINGS:
+                texts = Texts(() if value is None else value, segment.encoding)
+                segment._change(f"{call}_strings", key, texts.passed, texts.count, *told)
+            elif code < MAP:
+                values = row(code - VECTOR, () if value is None else value, BadValue)
+                segment._change(f"{call}_vector", key, values.passed, *told)
+            else:
+                self._make_map(call, code, key, value, told)
+        except Error as error:
+            raise self._segment._named(error, key) from None
+        return code
+
+    def _make_map(self, call: str, code: int, key: Any, value: Any, told: Tuple[Any, ...]) -> None:
+        """Makes a map with its pairs. Where one of them finds no space the map is destroyed again."""
+        segment = self._segment
+        pairs = value if value and self._is_new(call, code, key) else {}
+        if pairs:
+            pairs_of(code, pairs)
+        segment._change(f"{call}_map", key, code >> 8 & 255, code & 255, *told)
+        if not pairs:
+            return
+        made = object_of(segment, handle(told[0].value), code)
+        try:
+            made.update(pairs)
+        except BaseException:
+            made.destroy()
+            raise
+
+    def _make_scalars(self, call: str, code: int, count: Optional[int], key: Any, value: Any,
+                      told: Tuple[Any, ...]) -> None:
+        many = None if value is None or _is_number(value) else value
+        if many is not None and not getattr(many, "ndim", hasattr(many, "__len__")):
+            many = listed(many)
+        count = count if count is not None else 1 if many is None else len(many)
+        if many is not None and len(many) != count:
+            raise BadCount(f"{len(many)} values for {count}")
+        if not 1 <= count <= 1048576:
+            raise BadCount(f"{count} values")
+        if many is not None and self._is_new(call, code, key):
+            self._segment._change("construct_array", key, row(code, many, BadValue).passed, told[0])
+            return
+        first = value if many is None else listed(many)[0]
+        number = 0 if first is None else _new_scalar(code, first)
+        self._segment._change(call, key, count, value_of(code, number), *told)
+
+    def _is_new(self, call: str, code: int, key: Any) -> bool:
+        """Whether the call will make an object."""
+        return call == "construct" or self._segment._find(code, key) is None
+
+    def vector(self, key: Key, kind: str = "i64") -> Vector:
+        """The vector of a name, which is made where there is none: vector("queue", "i64"). WrongKind, NoSpace."""
+        return self._found_or_made(f"vec<{kind}>", key)  # type: ignore[no-any-return]
+
+    def map(self, key: Key, keys: str = "i64", values: str = "i64") -> Map:
+        """The map of a name, which is made where there is none: map("prices", "i32", "i64"). WrongKind, NoSpace."""
+        return self._found_or_made(f"map<{keys},{values}>", key)  # type: ignore[no-any-return]
+
+    def string(self, key: Key) -> String:
+        """The string of a name, which is made where there is none. WrongKind, NoSpace."""
+        return self._found_or_made("string", key)  # type: ignore[no-any-return]
+
+    def strings(self, key: Key) -> Strings:
+        """The vector of strings of a name, which is made where there is none. WrongKind, NoSpace."""
+        return self._found_or_made("vec<string>", key)  # type: ignore[no-any-return]
+
+    def _found_or_made(self, kind: str, key: Key) -> Any:
+        found = self.find(kind, key)
+        return self.find_or_construct(kind, key) if found is None else found
+
+    def find(self, kind: str, key: Key) -> Any:
+        """The object of a kind under a name or unique(kind), or None. WrongKind where one of another kind has the
+        key."""
+        return self._segment._find(code_of(kind), self._full(key))
+
+    def object(self, key: Key) -> Any:
+        """The object of a name, of unique(kind) or of handle(number): also of one number an Array, of a text a String.
+        NotFound."""
+        full = self._full(key)
+        return object_of(self._segment, full, code_of(self._segment._info(full).kind))
+
+    def destroy(self, key: Key) -> bool:
+        """Destroys the object of a name or of unique(kind), and says whether there was one; or that of handle(number),
+        or raises NotFound."""
+        was_there, full = ctypes.c_bool(), self._full(key)
+        if self._segment._lent:
+            self._segment._refuse_lent(full)
+        self._segment._change("destroy", full, was_there)
+        return was_there.value
+
+    def info(self, key: Key) -> Info:
+        """What the object says of itself: Info. NotFound."""
+        return self._segment._info(self._full(key))
+
+    def records(self, key: Key, form: Any) -> Records:
+        """The records of a name, of a form: those of its vector of u8, or of its array of u8; where there is none, an
+        empty vector is made: records("points", "dd"). WrongKind, NoSpace."""
+        told = self._segment._told(self._full(key))
+        if told is not None and told.kind == U8:
+            return self._segment._classes[Records](self.object(key), form)  # type: ignore[no-any-return]
+        return self._segment._classes[Records](self.vector(key, "u8"), form)  # type: ignore[no-any-return]
+
+    def group(self, prefix: str) -> Group:
+        """The names that begin with a text, as a mapping from the rest of each name: group("prices/")."""
+        if not isinstance(prefix, str):
+            raise BadName(f"{prefix!r} is no front of names")
+        return self._segment._classes[Group](self._segment, self._prefix + prefix)  # type: ignore[no-any-return]
+
+    # -- as a mapping
+
+    def __getitem__(self, key: Any) -> Any:
+        full = self._full(key)
+        told = self._segment._told(full)
+        if told is None:
+            raise NotFound(f"no object is {full!r}")
+        found = object_of(self._segment, full, told.kind)
+        if told.kind == STRING:
+            return found._value()
+        return found[0] if told.count == 1 and is_scalar(told.kind) else found
+
+    def __setitem__(self, key: Any, value: Any) -> None:
+        """Gives an object another value, which is of its kind; where there is none, makes one: of a truth a bool, of a
+        number an i64 (above its range a u64), of a text a string, of a list a vector, of a dict a map."""
+        full = self._full(key)
+        told = self._segment._told(full)
+        if told is None:
+            raw_key(full)
+            self.construct(_kind_for(value, full), key, value._value() if isinstance(value, Object) else value)
+        else:
+            object_of(self._segment, full, told.kind)._become(value)
+
+    def __delitem__(self, key: Any) -> None:
+        full = self._full(key)
+        if self._segment._told(full) is None:
+            raise NotFound(f"no object is {full!r}")
+        self.destroy(key)
+
+    def __contains__(self, key: Any) -> bool:
+        return self._segment._told(self._full(key)) is not None
+
+    def __iter__(self) -> Iterator[str]:
+        return (name[len(self._prefix):] for name, *_ in self._rows())
+
+    def __eq__(self, other: Any) -> Any:
+        if not isinstance(other, collections.abc.Mapping):
+            return NotImplemented
+        return self is other or dict(self._pairs()) == dict(other.items())
+
+    __hash__ = None  # type: ignore[assignment]
+
+    def setdefault(self, key: Any, default: Any = None) -> Any:
+        """What the key has, as self[key]; where it has nothing, it is given `default` first."""
+        if key not in self:
+            self[key] = default
+        return self[key]
+
+    def pop(self, key: Any, default: Any = _missing) -> Any:
+        """Destroys the object of a name and gives its value, as a number, text, list or dict; where there is none
+        `default`, or NotFound is raised."""
+        if key not in self:
+            if default is _missing:
+                raise NotFound(f"no object is {self._full(key)!r}")
+            return default
+        value = self[key]
+        value = value._value() if isinstance(value, Object) else value
+        del self[key]
+        return value
+
+    def popitem(self) -> Tuple[str, Any]:
+        """Destroys the object of the first name and gives the name and its value. NotFound."""
+        for name in self:
+            return name, self.pop(name)
+        raise NotFound("there are no names")
+
+    def clear(self) -> None:
+        """Destroys the objects with these names."""
+        for name in list(self):
+            del self[name]
+
+    def update(self, *others: Any, **named: Any) -> None:
+        """Gives objects other values, or makes them, as self[key] = value for each pair."""
+        if len(others) > 1:
+            raise WrongKind(f"update takes one mapping, not {len(others)}")
+        try:
+            pairs = [*_pairs_in(*others), *named.items()]
+        except Error:
+            raise
+        except TypeError as error:
+            raise WrongKind(str(error)) from None
+        except ValueError as error:
+            raise BadValue(str(error)) from None
+        for key, value in pairs:
+            self[key] = value
+
+    def _pairs(self) -> Iterator[Tuple[str, Any]]:
+        segment, begin = self._segment, len(self._prefix)
+        for name, kind, _, _, value in self._rows():
+            found: Any = value
+            if value is None:
+                found = object_of(segment, name, kind)
+                found = found._value() if kind == STRING else found
+            yield name[begin:], found
+
+    # -- lists
+
+    def named(self) -> List[Info]:
+        """The objects with these names, by the bytes of the names: a list of Info, with whole names."""
+        return [Info("named", name, KINDS[kind], count, number) for name, kind, count, number, _ in self._rows()]
+
+    def _rows(self) -> Iterator[_Row]:
+        """The objects with these names."""
+        segment, prefix = self._segment, self._prefix
+        index, many = segment._first_from(prefix.encode()), 8
+        while True:
+            rows = segment._names(index, many)
+            if not rows:
+                return
+            changes, many = segment._changes, min(2 * many, _AHEAD)
+            for row_of_name in rows:
+                if prefix and not row_of_name[0].startswith(prefix):
+                    return
+                yield row_of_name
+                index += 1
+                if segment._changes != changes:
+                    index, many = segment._first_from(row_of_name[0].encode() + b"\0"), 8
+                    break
+
+
+def _pairs_in(other: Any = ()) -> List[Tuple[Any, Any]]:
+    if isinstance(other, collections.abc.Mapping):
+        return list(other.items())
+    if hasattr(other, "keys"):
+        return [(key, other[key]) for key in other.keys()]
+    return [(key, value) for key, value in other]
+
+
+def _is_number(value: Any) -> bool:
+    """Whether a value is one whole number or truth; arrays of numpy have __index__ too."""
+    return is_truth(value) or hasattr(value, "__index__") and not hasattr(value, "__len__")
+
+
+def _new_scalar(code: int, value: Any) -> int:
+    """The number of a value of a new object."""
+    try:
+        return scalar(code, value, BadValue)
+    except WrongKind as error:
+        if _is_number(value):
+            raise BadValue(str(error)) from None
+        raise
+
+
+def _kind_for(value: Any, key: Any) -> str:
+    """The kind of a new object that gets this value."""
+    if isinstance(value, Object):
+        return f"{value.kind}[{len(value)}]" if isinstance(value, Array) else value.kind
+    if isinstance(value, TEXTS):
+        return "string"
+    if isinstance(value, collections.abc.Mapping):
+        return f"map<{_scalar_for(value.keys(), key)},{_scalar_for(value.values(), key)}>"
+    if isinstance(value, collections.abc.Sequence) or hasattr(value, "tolist") and getattr(value, "ndim", True):
+        if len(value) and isinstance(value[0], TEXTS):
+            return "vec<string>"
+        return f"vec<{_scalar_for(value, key)}>"
+    if isinstance(value, collections.abc.Iterable):
+        raise WrongKind(f"{key!r}: {value!r} is no list")
+    return _scalar_for([value], key)
+
+
+_letters = {"bool": "bool", "uint8": "u8", "int32": "i32", "int64": "i64", "uint64": "u64"}
+
+
+def _scalar_for(values: Any, key: Any) -> str:
+    exact = _letters.get(str(getattr(values, "dtype", "")))
+    if exact is not None:
+        return exact
+    values = values if type(values) in (list, range) else list(values)
+    if values and all(map(is_truth, values)):
+        return "bool"
+    try:
+        return "u64" if any(MOST <= whole(value) < 2**64 for value in values) else "i64"
+    except WrongKind as error:
+        raise WrongKind(f"{key!r}: {error}") from None
+
+
+class _Left:
+    """Memory that views have when their segment is closed."""
+
+    def __init__(self, at: int) -> None:
+        self._at = at
+
+    def __del__(self) -> None:
+        _library.free(self._at)
+
+
+class Segment(_Named):
+    """A segment, as a mapping from names to objects in the order of their bytes. `open`, `create` and `load` make
+    one."""
+
+    def __init__(self, *, grow: bool = False, encoding: Optional[str] = "utf-8",
+                 check_same_thread: bool = True) -> None:
+        self._file = _library.File()
+        self._handle = self._file.segment
+        self._prefix = ""
+        self._thread_number = _here.number if check_same_thread else 0
+        self._process = os.getpid()
+        self._lock = threading.RLock()
+        self._changes = 0
+        self._lent: Dict[int, int] = {}
+        self._any_name = ctypes.create_string_buffer(_LONGEST_NAME)
+        self._was_lent, self._left = False, []  # type: Tuple[bool, List[_Left]]
+        self._path: Any = None
+        self._is_mapped = False
+        self._classes: Dict[Any, Any] = _plain if check_same_thread else _locked_classes()
+        self.growing = grow
+        """Whether a call that finds no space makes the segment longer by half and goes on."""
+        self.encoding = encoding
+        """How texts are decoded, or None, where they are bytes; those that cannot be decoded have surrogates (PEP
+        383)."""
+        try:
+            codecs.lookup(encoding or "utf-8")
+        except (LookupError, TypeError):
+            raise BadValue(f"no encoding is {encoding!r}") from None
+
+    @property
+    def _segment(self) -> Segment:  # type: ignore[override]
+        return self
+
+    def _full(self, key: Any) -> Any:
+        return key
+
+    # -- calls
+
+    def _code(self, call: Any, *arguments: Any) -> int:
+        """What a call of the library answers."""
+        if self._thread_number and _here.number != self._thread_number:
+            raise WrongThread()
+        code: int = call(self._handle, *arguments)
+        if code == NO_SPACE and self.growing:
+            return self._code_in_more_space(call, arguments)
+        return code
+
+    def _call(self, call: Any, *arguments: Any) -> None:
+        """A call of the library; what it refuses is raised."""
+        code = self._code(call, *arguments)
+        if code:
+            raise error_of(code)
+
+    def _change(self, call: str, key: Any, *arguments: Any) -> None:
+        """A call with a key, which may change which objects there are."""
+        self._changes += 1
+        code = self._code(getattr(zx, f"zx_{call}"), raw_key(key), *arguments)
+        if code:
+            raise error_of(code, key)
+
+    def _named(self, error: Error, key: Any) -> Error:
+        """The error, with the key."""
+        return error if key is None or repr(key) in str(error) else type(error)(f"{key!r}: {error}")
+
+    def _file_call(self, call: Any, path: Any, *arguments: Any) -> None:
+        """A call for the file; what it refuses is raised with the path."""
+        if self._thread_number and _here.number != self._thread_number:
+            raise WrongThread()
+        code = call(self._file, *arguments)
+        if code:
+            raise file_error_of(code, self._file.error, path)
+
+    def _code_in_more_space(self, call: Any, arguments: Tuple[Any, ...]) -> int:
+        """Makes the segment longer until the call finds space; where that cannot be, it becomes as long as it was."""
+        before, code = self.size, NO_SPACE
+        try:
+            while code == NO_SPACE:
+                self._grow_by_half()
+                code = call(self._handle, *arguments)
+        except Error:
+            self.shrink()
+            if self.size < before:
+                self.grow(before - self.size)
+            raise
+        return code
+
+    def _grow_by_half(self) -> None:
+        size = self.size
+        wanted, left = (size // 2 + 4096) // 16 * 16, 2**30 - size
+        self.grow(left if 32 <= left < wanted else wanted)
+
+    def _number(self, call: Any) -> int:
+        number = ctypes.c_uint64()
+        self._call(call, number)
+        return number.value
+
+    def _truth(self, call: Any) -> bool:
+        truth = ctypes.c_bool()
+        self._call(call, truth)
+        return truth.value
+
+    def _find(self, code: int, key: Any) -> Any:
+        found = self._code(zx.zx_find, raw_key(key), code, ctypes.c_uint64(), ctypes.c_uint32())
+        if found and found != _ABSENT:
+            raise error_of(found, key)
+        return None if found else object_of(self, key, code)
+
+    def _info(self, key: Any) -> Info:
+        told, name = _library.Info(), ctypes.create_string_buffer(_LONGEST_NAME)
+        code = self._code(zx.zx_tell, raw_key(key), told, name, _LONGEST_NAME)
+        if code:
+            raise error_of(code, key)
+        return _info(told, name.raw)
+
+    def _told(self, key: Any) -> Optional[_library.Info]:
+        """What the object says of itself, but for its name; None also for what is the key of no object."""
+        told = _library.Info()
+        try:
+            code = self._code(zx.zx_tell, raw_key(key), told, self._any_name, _LONGEST_NAME)
+        except (BadKey, BadName):
+            return None
+        if code and code not in _NO_OBJECT:
+            raise error_of(code, key)
+        return None if code else told
+
+    def _refuse_lent(self, key: Any) -> None:
+        """Raises Lent where the object's memory is lent to a view."""
+        told = self._told(key)
+        if told is not None and told.handle in self._lent.values():
+            raise Lent(f"{key!r} is lent to a view that is still there")
+
+    def _refuse_any_lent(self) -> None:
+        if self._lent:
+            raise Lent("an object of the segment is lent to a view that is still there")
+
+    # -- the bytes
+
+    @property
+    def mode(self) -> str:
+        """How it is open: "write", "read" or "copy on write"."""
+        mode = ctypes.c_uint32()
+        self._call(zx.zx_mode, mode)
+        return ("write", "read", "copy on write")[mode.value]
+
+    @property
+    def size(self) -> int:
+        """The bytes of the segment."""
+        return self._number(zx.zx_size)
+
+    @property
+    def free(self) -> int:
+        """The bytes of all gaps."""
+        return self._number(zx.zx_free_bytes)
+
+    @property
+    def region_left(self) -> int:
+        """The bytes of its region behind it."""
+        return self._number(zx.zx_region_left)
+
+    def image(self) -> bytes:
+        """The bytes that `load` takes."""
+        image = ctypes.create_string_buffer(self.size)
+        self._call(zx.zx_save, image, len(image))
+        return image.raw
+
+    def grow(self, extra: int) -> None:
+        """Makes the segment longer by `extra` bytes: a multiple of 16, at least 32. BadGrowth, TooLarge, NoMemory,
+        ReadOnly, Lent."""
+        self._refuse_any_lent()
+        self._changes += 1
+        self._file_call(zx.zx_file_grow, self._path, natural(extra))
+
+    def shrink(self) -> None:
+        """Makes the segment as short as its last block lets it be. ReadOnly, Lent."""
+        self._refuse_any_lent()
+        self._changes += 1
+        self._file_call(zx.zx_file_shrink, self._path)
+
+    def relocate(self, capacity: int) -> None:
+        """Moves the segment into a region of so many bytes. BadSize, ShortRegion, NoMemory, Lent."""
+        self._refuse_any_lent()
+        self._changes += 1
+        self._call(zx.zx_relocate, natural(capacity))
+
+    def transaction(self) -> Transaction:
+        """Several calls as one: behind `with segment.transaction():` all of them are done; where an exception leaves
+        the block the segment is as it was at its begin. It takes a copy of the segment. NoMemory, Closed."""
+        return Transaction(self)
+
+    def _roll_back(self, before: _library.Handle) -> None:
+        """Makes the segment what its copy is. Views keep what they show, in memory of their own."""
+        self._changes += 1
+        if not self._lent:
+            return self._file_call(zx.zx_file_rollback, self._path, before)
+        self._refuse_lent_file()
+        length = ctypes.c_uint64()
+        zx.zx_size(before, length)
+        image, mode = ctypes.create_string_buffer(length.value), MODES_OF[self.mode]
+        capacity = self.size + self.region_left
+        zx.zx_save(before, image, len(image))
+        self._leave_memory()
+        self._call(zx.zx_open, image.raw, len(image), max(capacity, len(image)), mode)
+
+    # -- its file
+
+    def save(self) -> None:
+        """Saves the file that the segment was opened from, unless it has just these bytes: a new file takes its place
+        when all of it is on the disk, so that one of the two stands whole under the name whatever fails. ReadOnly,
+        NoFile, FileError; after FileUnsynced alone it is saved."""
+        self._note_views()
+        self._file_call(zx.zx_file_save, self._path)
+
+    def flush(self) -> None:
+        """Waits until the changes of a mapped file are on the disk; saves another one. As save."""
+        self._note_views()
+        self._file_call(zx.zx_file_flush, self._path)
+
+    def save_as(self, path: Any) -> None:
+        """Saves the image in a new file. FileExists, FileError."""
+        self._file_call(zx.zx_file_save_as, path, path_bytes(path), FILE_MODES["x"])
+
+    def close(self) -> None:
+        """Saves the file, if there is one that is open for writing, and closes the segment. After an error it is still
+        open, but for FileUnsynced. A view keeps the memory that it shows, but of a mapped file: Lent."""
+        if self._lent:
+            self._refuse_lent_file()
+            try:
+                if self._file.held:
+                    self.save()
+            except FileUnsynced:
+                self.discard()
+                raise
+            return self.discard()
+        self._changes += 1
+        self._note_views()
+        self._file_call(zx.zx_file_close, self._path)
+
+    def discard(self) -> None:
+        """Closes the segment and saves nothing. Removes a file that it created and never saved. A mapped file stays,
+        with all changes. Lent as close."""
+        if self._thread_number and _here.number != self._thread_number:
+            raise WrongThread()
+        if self._lent:
+            self._refuse_lent_file()
+            self._leave_memory()
+        self._changes += 1
+        zx.zx_file_discard(self._file)
+
+    # -- views
+
+    def _lend(self, lease: Any, number: int) -> None:
+        """Notes that the elements of an object are lent."""
+        self._lent[id(lease)] = number
+        self._was_lent = True
+
+    def _give_back(self, lease: Any) -> None:
+        self._lent.pop(id(lease), None)
+
+    def _note_views(self) -> None:
+        """Has a save look whether views changed bytes."""
+        if self._was_lent:
+            self._handle.shared = True
+
+    def _refuse_lent_file(self) -> None:
+        if self._is_mapped:
+            self._refuse_any_lent()
+
+    def _leave_memory(self) -> None:
+        """Closes the segment, and leaves its memory to the views that are there."""
+        memory = _library.Memory()
+        self._call(zx.zx_detach, memory)
+        self._left.append(_Left(memory.at))
+        self._lent.clear()
+
+    @property
+    def is_open(self) -> bool:
+        """Whether it is open."""
+        return bool(self._handle.at)
+
+    def __enter__(self) -> Segment:
+        return self
+
+    def __exit__(self, kind: Any, *_: Any) -> None:
+        if kind is None:
+            self.close()
+        else:
+            self.discard()
+
+    def __del__(self) -> None:
+        # nobody else has it any more, whatever thread this is
+        file = getattr(self, "_file", None)
+        if file is None or not (self._handle.at or file.held):
+            return
+        try:
+            if file.held and not self._is_mapped and self._process == os.getpid():
+                said = f"a segment of {self._path!r} was not closed, and is not saved"
+                warnings.warn(said, ResourceWarning, source=self)
+        finally:
+            zx.zx_file_discard(file)
+
+    def __reduce_ex__(self, _: Any) -> Any:
+        raise WrongKind("a segment is not copied: load(segment.image()) makes another one")
+
+    def __repr__(self) -> str:
+        of = "" if self._path is None else f" of {self._path!r}"
+        return f"<Segment{of}, {self.size} bytes, {len(self)} names>" if self.is_open else f"<Segment{of}, closed>"
+
+    # -- lists
+
+    def __len__(self) -> int:
+        return self._number(zx.zx_num_named)
+
+    def unique(self) -> List[Info]:
+        """The unique objects, by the codes of their kinds: a list of Info."""
+        told = _library.Info()
+        return [_info(told, b"") for _ in self._each(zx.zx_unique_at, told)]
+
+    @property
+    def num_unique(self) -> int:
+        """How many unique objects there are; of those with names it is len()."""
+        return self._number(zx.zx_num_unique)
+
+    def tiles(self) -> List[Tile]:
+        """Blocks and gaps, by offset: a list of Tile. It takes as long as the square of their number."""
+        tile = _library.Tile()
+        return [Tile(tile.offset, tile.len, ("gap", "object", "index", "storage", "node")[tile.use])
+                for _ in self._each(zx.zx_tile_at, tile)]
+
+    def _each(self, call: Any, *told: Any) -> Iterator[int]:
+        """Asks for what stands at each place, until there is no more."""
+        index = 0
+        while True:
+            code = self._code(call, index, *told)
+            if code == _OUT_OF_RANGE:
+                return
+            if code:
+                raise error_of(code)
+            yield index
+            index += 1
+
+    def _names(self, index: int, many: int) -> List[_Row]:
+        """At most so many objects with names, from an index on."""
+        infos, values = ctypes.create_string_buffer(many * _INFO.size), ctypes.create_string_buffer(many * _VALUE.size)
+        room, read = max(_LONGEST_NAME, 64 * many), ctypes.c_size_t()
+        names = ctypes.create_string_buffer(room)
+        self._call(zx.zx_read_names, index, infos, values, names, room, many, read)
+        rows: List[_Row] = []
+        joined, end, count = names.raw, 0, read.value
+        for (_, kind, scalars, length, number), (scalar_kind, signed, unsigned) in zip(
+                _INFO.iter_unpack(infos.raw[:count * _INFO.size]),
+                _VALUE.iter_unpack(values.raw[:count * _VALUE.size])):
+            begin, end = end, end + length
+            value = None if not scalar_kind else signed if scalar_kind in (I32, I64) else unsigned
+            value = bool(value) if scalar_kind == BOOL else value
+            rows.append((joined[begin:end].decode(), kind, scalars, number, value))
+        return rows
+
+    def _first_from(self, text: bytes) -> int:
+        """How many names stand before a text."""
+        index = ctypes.c_uint64()
+        self._call(zx.zx_named_from, text, len(text), index)
+        return index.value
+
+    # -- the two indexes, and all of the segment
+
+    def reserve_named(self, places: int) -> None:
+        """Makes room for so many names. NoSpace."""
+        self._call(zx.zx_reserve_named, natural(places))
+
+    def reserve_unique(self, places: int) -> None:
+        """Makes room for so many unique objects. NoSpace."""
+        self._call(zx.zx_reserve_unique, natural(places))
+
+    def shrink_indexes(self) -> None:
+        """Gives back the room that no name and no unique object has."""
+        self._call(zx.zx_shrink_indexes)
+
+    def zero_free(self) -> None:
+        """Clears the bytes of all gaps."""
+        self._call(zx.zx_zero_free)
+
+    def sanity(self) -> bool:
+        """Whether the segment is sound; it always is."""
+        return self._truth(zx.zx_sanity)
+
+    def all_deallocated(self) -> bool:
+        """Whether no block is in use."""
+        return self._truth(zx.zx_all_deallocated)
+
+
+class Group(_Named):
+    """The names of a segment that begin with a text, as a mapping from the rest of each name to its object, as a
+    segment is one from names. `Segment.group` makes one; it is good as long as the segment is open."""
+
+    def __init__(self, segment: Segment, prefix: str) -> None:
+        self._segment, self._prefix, self._lock = segment, prefix, segment._lock
+
+    @property
+    def prefix(self) -> str:
+        """What its names begin with."""
+        return self._prefix
+
+    def _full(self, key: Any) -> Any:
+        if isinstance(key, str):
+            return self._prefix + key
+        if isinstance(key, bytes):
+            return self._prefix.encode() + key
+        return _NoName(key)
+
+    def __len__(self) -> int:
+        prefix = self._prefix.encode()
+        if not prefix:
+            return len(self._segment)
+        behind = prefix[:-1] + bytes([prefix[-1] + 1])
+        return self._segment._first_from(behind) - self._segment._first_from(prefix)
+
+    def __repr__(self) -> str:
+        return f"<Group {self._prefix!r} of {self._segment!r}>"
+
+
+class _NoName:
+    """What is no name, as a key in a group."""
+
+    def __init__(self, key: Any) -> None:
+        self._key = key
+
+    def __repr__(self) -> str:
+        return f"{self._key!r}, which is no name of a group"
+
+
+class Transaction:
+    """Several calls as one. `Segment.transaction` makes one."""
+
+    def __init__(self, segment: Segment) -> None:
+        self._segment = segment
+        self._copies: List[_library.Handle] = []
+
+    def __enter__(self) -> Segment:
+        segment, before = self._segment, _library.Handle()
+        segment._lock.acquire()
+        try:
+            if segment.mode != "read":
+                segment._call(zx.zx_begin, before)
+        except BaseException:
+            segment._lock.release()
+            raise
+        self._copies.append(before)
+        return segment
+
+    def __exit__(self, kind: Any, *_: Any) -> None:
+        segment, before = self._segment, self._copies.pop()
+        try:
+            if kind is not None and before.at and segment.is_open:
+                segment._roll_back(before)
+        finally:
+            zx.zx_close(before)
+            segment._lock.release()
+
+
+MODES_OF = {"write": 0, "read": 1, "copy on write": 2}
+
+
+# ---- segments of several threads
+
+def _locks(call: Callable[..., Any]) -> Callable[..., Any]:
+    """The same call, alone on the segment."""
+    def alone(self: Any, *arguments: Any, **named: Any) -> Any:
+        with self._lock:
+            return call(self, *arguments, **named)
+    alone.__name__, alone.__doc__ = call.__name__, call.__doc__
+    return alone
+
+
+def _locked(kind: Any) -> Any:
+    """The class below one whose methods are each alone on the segment."""
+    members: Dict[str, Any] = {}
+    for base in reversed(kind.__mro__[:-1]):
+        for name, member in vars(base).items():
+            if name in ("__init__", "__new__", "__del__", "__exit__", "_give_back", "__init_subclass__",
+                        "__class_getitem__", "__subclasshook__"):
+                continue
+            if inspect.isfunction(member) and not inspect.isgeneratorfunction(member):
+                members[name] = _locks(member)
+            elif isinstance(member, property) and member.fget is not None and name != "_segment":
+                members[name] = property(_locks(member.fget), doc=member.__doc__)
+            elif name in members:
+                del members[name]
+    return type(kind.__name__, (kind,), {**members, "__doc__": kind.__doc__, "__module__": kind.__module__})
+
+
+_kinds_of_objects = (Array, Vector, String, Strings, Map, Records, Group)
+_plain: Dict[Any, Any] = {kind: kind for kind in (*_kinds_of_objects, Segment)}
+_locked_kinds: Dict[Any, Any] = {}
+
+
+def _locked_classes() -> Dict[Any, Any]:
+    """The classes of a segment that several threads use."""
+    if not _locked_kinds:
+        _locked_kinds.update({kind: _locked(kind) for kind in _plain})
+    return _locked_kinds
+
+
+def path_bytes(path: Any) -> bytes:
+    """The bytes of a path."""
+    try:
+        path = os.fsencode(path)
+    except TypeError:
+        raise WrongKind(f"{path!r} is no path") from None
+    if 0 in path:
+        raise BadName(f"the path {path!r} has a byte 0")
+    return bytes(path)
+
+
+def new_segment(grow: bool, encoding: Optional[str], check_same_thread: bool) -> Segment:
+    """A segment that is still closed."""
+    kind = Segment if check_same_thread else _locked_classes()[Segment]
+    made: Segment = kind(grow=grow, encoding=encoding, check_same_thread=check_same_thread)
+    return made

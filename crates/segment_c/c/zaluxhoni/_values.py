@@ -1,0 +1,314 @@
+"""Kinds, values and rows of values: what is checked before it is handed to the library."""
+from __future__ import annotations
+
+import ctypes
+import operator
+import re
+import struct
+from typing import Any, Dict, Iterable, List, NamedTuple, Optional, Tuple, Type, Union
+
+from . import _library
+from ._errors import BadKey, BadKind, BadName, BadValue, Error, OutOfRange, WrongKind
+from ._library import BOOL, I32, I64, MAP, STRING, STRINGS, U8, U64, VECTOR
+
+MOST = 2**63
+
+
+class Scalar(NamedTuple):
+    """A kind of scalars: its name, its least and most, its letter of `struct`, and its slice in zx_values."""
+    name: str
+    least: int
+    most: int
+    letter: str
+    size: int
+    field: str
+    counts: str
+
+
+SCALARS: Dict[int, Scalar] = {
+    BOOL: Scalar("bool", 0, 1, "?", 1, "truths", "truth_count"),
+    U8: Scalar("u8", 0, 255, "B", 1, "bytes", "byte_count"),
+    I32: Scalar("i32", -2**31, 2**31 - 1, "i", 4, "i32s", "i32_count"),
+    I64: Scalar("i64", -MOST, MOST - 1, "q", 8, "i64s", "i64_count"),
+    U64: Scalar("u64", 0, 2**64 - 1, "Q", 8, "u64s", "u64_count"),
+}
+_codes: Dict[str, int] = {scalar.name: code for code, scalar in SCALARS.items()}
+_codes.update({f"vec<{name}>": VECTOR + code for name, code in list(_codes.items())})
+_codes.update({f"map<{key.name},{value.name}>": MAP + 256 * at + code
+               for at, key in SCALARS.items() for code, value in SCALARS.items()})
+_codes.update({"string": STRING, "vec<string>": STRINGS})
+KINDS: Dict[int, str] = {code: name for name, code in _codes.items()}
+_letters = {"?": "?", "B": "B", "i": "i", "l": "q", "q": "q", "L": "Q", "Q": "Q"}
+_nothing = (ctypes.c_uint64 * 1)()
+TEXTS = (str, bytes, bytearray, memoryview)
+
+
+def is_scalar(code: int) -> bool:
+    return BOOL <= code <= U64
+
+
+def code_of(kind: str) -> int:
+    """The code of a kind that is spelled as in docs/LANGUAGE.md, as "map<i32,i64>"."""
+    code = _codes.get(kind.replace(" ", "")) if isinstance(kind, str) else None
+    if code is None:
+        raise BadKind(f"no kind is {kind!r}")
+    return code
+
+
+def counted(kind: str) -> Tuple[int, Optional[int]]:
+    """The code and the count of a kind, which may be an array, as "i64[3]"."""
+    array = re.fullmatch(r"(\w+)\[([0-9]{1,9})\]", kind) if isinstance(kind, str) else None
+    if array is None:
+        return code_of(kind), None
+    code = code_of(array[1])
+    if not is_scalar(code):
+        raise BadKind(f"{array[1]} has no arrays")
+    return code, int(array[2])
+
+
+# ---- one value
+
+def whole(number: Any) -> int:
+    """A whole number, which may come from another package as a type of its own."""
+    try:
+        return operator.index(number)
+    except TypeError:
+        raise WrongKind(f"{number!r} is no whole number") from None
+
+
+def natural(number: Any) -> int:
+    """A number that is passed in 64 bits."""
+    number = whole(number)
+    if not 0 <= number < 2**64:
+        raise OutOfRange(f"{number} is outside 0 to 2**64 - 1")
+    return int(number)
+
+
+def is_truth(value: Any) -> bool:
+    return isinstance(value, bool) or type(value).__name__ in ("bool_", "bool8") and hasattr(value, "dtype")
+
+
+def scalar(code: int, value: Any, refused: Type[Error] = OutOfRange) -> int:
+    """The number of a value of a kind; of one that is outside it `refused` is raised, or WrongKind."""
+    if (code == BOOL) != is_truth(value):
+        raise WrongKind(f"{value!r} is no {KINDS[code]}")
+    number = int(value) if code == BOOL else whole(value)
+    if not SCALARS[code].least <= number <= SCALARS[code].most:
+        raise refused(f"{value!r} is no {KINDS[code]}")
+    return number
+
+
+def value_of(code: int, number: int) -> _library.Value:
+    """A value as the library takes it."""
+    return _library.Value(code, number, 0) if code in (I32, I64) else _library.Value(code, 0, number)
+
+
+def number_in(value: _library.Value) -> int:
+    """The number or truth in a value that the library gave."""
+    if value.kind == BOOL:
+        return bool(value.natural)
+    return int(value.number if value.kind in (I32, I64) else value.natural)
+
+
+# ---- many values
+
+class Row:
+    """Values of one kind side by side. `passed` is what the library takes."""
+
+    def __init__(self, code: int, memory: Any, count: int) -> None:
+        self.code, self.memory, self.count = code, memory, count
+
+    @property
+    def passed(self) -> _library.Values:
+        return self.part(0)
+
+    def part(self, first: int) -> _library.Values:
+        """The values from a place on."""
+        own = SCALARS[self.code]
+        values = _library.Values(kind=self.code)
+        for each in SCALARS.values():
+            setattr(values, each.field, ctypes.addressof(_nothing))
+        setattr(values, own.field, ctypes.addressof(self.memory) + first * own.size)
+        setattr(values, own.counts, self.count - first)
+        values.kept = self.memory
+        return values
+
+
+def listed(values: Any) -> List[Any]:
+    try:
+        return list(values)
+    except TypeError:
+        raise WrongKind(f"{values!r} is no list") from None
+
+
+def _buffer_of(code: int, values: Any) -> Optional[memoryview]:
+    """The bytes of an array of another package that has just this kind, in one run."""
+    if isinstance(values, (list, tuple, range)):
+        return None
+    try:
+        view = memoryview(values)
+    except (TypeError, ValueError, BufferError):
+        return None
+    letter = _letters.get(view.format.lstrip("@=<") if view.itemsize == SCALARS[code].size else "")
+    same = letter == SCALARS[code].letter and view.ndim == 1 and view.c_contiguous
+    return view.cast("B") if same and view.nbytes else None
+
+
+def _memory_of(view: memoryview) -> Any:
+    """The bytes of a buffer where they stand, if it may be written, or else a copy."""
+    whole_of = ctypes.c_uint8 * view.nbytes
+    return whole_of.from_buffer_copy(view) if view.readonly else whole_of.from_buffer(view)
+
+
+def row(code: int, values: Any, refused: Type[Error] = OutOfRange) -> Row:
+    """Values of one kind side by side; of one that is outside it `refused` is raised, or WrongKind."""
+    own = SCALARS[code]
+    view = _buffer_of(code, values)
+    if view is not None and code != BOOL:
+        return Row(code, _memory_of(view), view.nbytes // own.size)
+    # of other packages' arrays the values are those of Python
+    plain = values if type(values) in (list, range) else listed(getattr(values, "tolist", lambda: values)())
+    packed = _packed(own, code, plain)
+    if packed is None:
+        packed = struct.pack(f"{len(plain)}{own.letter}", *[scalar(code, value, refused) for value in plain])
+    memory = ctypes.create_string_buffer(packed, max(1, len(packed)))
+    return Row(code, memory, len(plain))
+
+
+def _packed(own: Scalar, code: int, plain: Any) -> Optional[bytes]:
+    """The bytes of values that are of the very type of their kind, or None."""
+    expected = bool if code == BOOL else int
+    if type(plain) is not range and not set(map(type, plain)) <= {expected}:
+        return None
+    try:
+        return struct.pack(f"{len(plain)}{own.letter}", *plain)
+    except (struct.error, OverflowError):
+        return None
+
+
+def unpacked(code: int, memory: Any, count: int) -> List[int]:
+    """So many values at the front of the memory."""
+    own = SCALARS[code]
+    return memoryview(memory).cast("B")[:count * own.size].cast(own.letter).tolist()
+
+
+def words(code: int, values: Iterable[Any], refused: Type[Error] = OutOfRange) -> Any:
+    """Numbers of a kind in 64 bits each, as rows of pairs have them."""
+    numbers = values if isinstance(values, list) else list(values)
+    packed = None if code in (U8, I32) else _packed(SCALARS[U64 if code == BOOL else code], code, numbers)
+    if packed is None:
+        checked = [scalar(code, value, refused) for value in numbers]
+        packed = struct.pack(f"{len(checked)}{'q' if code in (I32, I64) else 'Q'}", *checked)
+    return ctypes.create_string_buffer(packed, max(8, len(packed)))
+
+
+def from_words(code: int, memory: Any, count: int) -> List[int]:
+    """So many numbers of a kind, of 64 bits each."""
+    numbers = unpacked(U64 if code == U64 else I64, memory, count)
+    return list(map(bool, numbers)) if code == BOOL else numbers
+
+
+def pairs_of(code: int, value: Any) -> Tuple[Any, Any, int]:
+    """The keys and values of the pairs of a map of a kind, and how many; WrongKind or OutOfRange where one is outside
+    it."""
+    try:
+        pairs = dict(value)
+    except (TypeError, ValueError):
+        raise WrongKind(f"{value!r} has no pairs") from None
+    return words(code >> 8 & 255, pairs.keys()), words(code & 255, pairs.values()), len(pairs)
+
+
+# ---- texts
+
+def encoded(text: Any, encoding: Optional[str]) -> bytes:
+    """The bytes of a text."""
+    if isinstance(text, str):
+        try:
+            return text.encode(encoding or "utf-8", "surrogateescape")
+        except UnicodeEncodeError:
+            raise BadValue(f"{text!r} cannot be encoded") from None
+    if isinstance(text, (bytes, bytearray, memoryview)) or hasattr(text, "_text"):
+        return bytes(text)
+    raise WrongKind(f"{text!r} is no text")
+
+
+def decoded(text: bytes, encoding: Optional[str]) -> Any:
+    """The text of bytes, or the bytes where there is no encoding."""
+    if encoding is None:
+        return text
+    try:
+        return text.decode(encoding, "surrogateescape")
+    except UnicodeDecodeError:
+        raise BadValue(f"{text!r} is no {encoding}") from None
+
+
+class Texts:
+    """Texts side by side. `passed` is what the library takes."""
+
+    def __init__(self, texts: Any, encoding: Optional[str]) -> None:
+        if isinstance(texts, TEXTS):
+            raise WrongKind(f"{texts!r} is one text, and no list of them")
+        kept = [encoded(text, encoding) for text in listed(texts)]
+        joined, at = b"".join(kept), 0
+        self._memory = ctypes.create_string_buffer(joined, max(1, len(joined)))
+        self.count = len(kept)
+        first = ctypes.addressof(self._memory)
+        places: List[int] = []
+        for text in kept:
+            places += (first + at, len(text))
+            at += len(text)
+        packed = struct.pack(f"{len(places)}Q", *places)
+        self.passed = (_library.Text * max(1, len(kept))).from_buffer_copy(packed or bytes(16))
+
+    def part(self, first: int) -> Any:
+        """The texts from a place on."""
+        return ctypes.cast(ctypes.byref(self.passed, first * ctypes.sizeof(_library.Text)),
+                           ctypes.POINTER(_library.Text))
+
+
+# ---- keys
+
+class ObjectKey:
+    """A key that is no name: what unique() and handle() give."""
+
+    def __init__(self, key: _library.Key, words: str) -> None:
+        self._key, self._words = key, words
+
+    def __repr__(self) -> str:
+        return self._words
+
+    def __eq__(self, other: object) -> bool:
+        return isinstance(other, ObjectKey) and self._words == other._words
+
+    def __hash__(self) -> int:
+        return hash(self._words)
+
+
+Key = Union[str, bytes, ObjectKey]
+
+
+def unique(kind: str) -> ObjectKey:
+    """The key of the only object of a kind: unique("u64"). BadKind."""
+    return ObjectKey(_library.Key(1, code_of(kind), 0, b"", 0), f"unique({kind!r})")
+
+
+def handle(number: int) -> ObjectKey:
+    """The key of the object that has a handle."""
+    return ObjectKey(_library.Key(2, 0, natural(number), b"", 0), f"handle({number})")
+
+
+def raw_key(key: Any) -> _library.Key:
+    """A key as the library takes it; None stands for no key."""
+    if isinstance(key, str):
+        try:
+            name = key.encode()
+        except UnicodeEncodeError:
+            raise BadName(f"{key!r} has no UTF-8") from None
+        return _library.Key(0, 0, 0, name, len(name))
+    if isinstance(key, bytes):
+        return _library.Key(0, 0, 0, key, len(key))
+    if isinstance(key, ObjectKey):
+        return key._key
+    if key is None:
+        return _library.Key(3, 0, 0, b"", 0)
+    raise BadKey(f"{key!r} is no name, and no key of unique() or handle()")

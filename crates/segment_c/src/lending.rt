@@ -1,0 +1,123 @@
+//! Segments in memory that C lends, as in a file that it mapped: they stand there, and no byte of them is copied.
+ghost use Rattle.std.specs.Prelude.{◌≡◌, ◌≢◌, ◌≤◌, List, [], MatchResult, false, if◌then◌else◌, length, true};
+ghost use Rattle.std.specs.declared.option.Option.TheVariants.{None as NoSegment, Some as Held};
+ghost use Rattle.raw_region.specs.Memory.{part, whole};
+ghost use Rattle.raw_region.specs.Regions.{IsCapacity};
+ghost use Rattle.segment_c.specs.Calls.{IsClosed, IsStopped, Opened};
+ghost use Rattle.segment_c.specs.Images.{mode_of, mode_wrong};
+ghost use Rattle.segment_c.specs.Lending.{IsOpenedHere, memory_wrong};
+ghost use Rattle.segment_c.specs.Marked.{IsPlaced};
+ghost use Rattle.segment_c.specs.Opening.{IsWhyNotOpened};
+ghost use Rattle.segment_c.specs.Passed.{or_else};
+ghost use Rattle.segment_manager.specs.State.{State};
+
+use crate::calls::passed;
+use crate::codes::{BAD_MODE, BAD_SIZE, DONE, NO_MEMORY, SHORT_REGION};
+use crate::handle::{Handle, put_new, take};
+use crate::images::{class_code, mode_for};
+use crate::resizing::is_capacity;
+use image_check::{OpenError, open_here};
+use raw_region::{LentMemory, RawRegion, Steps};
+use segment_manager::{Mode, Segment};
+use std::alloc::Global;
+
+/// Opens the image that stands at the front of the memory and has `len` bytes, where it stands: no byte is copied, and
+/// none is written before the first call that changes. The memory belongs to the handle until `zx_detach`. What the
+/// handle had is freed. The handle and the memory are as they were unless the code is 0.
+#[unsafe(no_mangle)]
+pub extern "C" fn zx_attach(
+    alloc: Global,
+    h: &mut Handle,
+    memory: &mut LentMemory,
+    len: u64,
+    mode: u32,
+) -> u32
+    ensures stopped { IsStopped (or_else (memory_wrong (length memory.old.bytes.items) len) (mode_wrong mode)) result h.old.segment.value h.new.segment.value }
+    ensures opened { result ≡ 0 → Opened h.new.segment.value (λ t. IsOpenedHere memory.old.bytes.items len (mode_of mode) t) }
+    ensures why { or_else (memory_wrong (length memory.old.bytes.items) len) (mode_wrong mode) ≡ 0 → 1 ≤ result
+        → IsWhyNotOpened (part memory.old.bytes.items 0 len) (length memory.old.bytes.items) result }
+    ensures kept { 1 ≤ result → h.new.segment.value ≡ h.old.segment.value }
+    ensures taken { result ≡ 0 → memory.new.bytes.items ≡ [] }
+    ensures left { 1 ≤ result → memory.new.bytes.items ≡ memory.old.bytes.items }
+    ensures marks { IsPlaced result h.old.marks h.new.marks true }
+{
+    if !holds(memory, len) {
+        return BAD_SIZE;
+    }
+    let Some(mode) = mode_for(mode) else {
+        return BAD_MODE;
+    };
+    match open_over(alloc, region_over(memory), len, mode) {
+        Ok(segment) => put_new(h, segment, true),
+        Err((code, region)) => {
+            *memory = region.leak();
+            code
+        }
+    }
+}
+
+/// Whether memory may be a region, and holds an image of so many bytes.
+fn holds(memory: &LentMemory, len: u64) -> bool
+    ensures wrong { memory_wrong (length memory.now.bytes.items) len ≡ (if result then 0 else 22) }
+    ensures capacity { result ≡ true → IsCapacity (length memory.now.bytes.items) }
+    ensures fits { result ≡ true → len ≤ length memory.now.bytes.items }
+{
+    is_capacity(memory.len) && len <= memory.len
+}
+
+/// The region that memory is, of which nothing is left.
+fn region_over(memory: &mut LentMemory) -> RawRegion
+    requires { IsCapacity (length memory.old.bytes.items) }
+    ensures region { result ≡ memory.old.bytes.items }
+    ensures left { memory.new.bytes.items ≡ [] }
+{
+    RawRegion::over(std::mem::replace(memory, LentMemory::none()))
+}
+
+/// The segment whose image stands at the front of the region, in a box.
+///
+/// # Errors
+///
+/// The code, and the region as it was.
+fn open_over(
+    alloc: Global,
+    region: RawRegion,
+    len: u64,
+    mode: Mode,
+) -> Result<Box<Segment>, (u32, RawRegion)>
+    requires { len ≤ length region }
+    ensures { MatchResult result (λ s. IsOpenedHere region len mode s.value)
+        (λ refused. (1 ≤ refused.0) × (refused.1 ≡ region) × IsWhyNotOpened (part region 0 len) (length region) refused.0) }
+{
+    match open_here(alloc, region, 0, len, mode, &mut Steps::new()) {
+        Ok(segment) => match Box::new(alloc, segment) {
+            Ok(segment) => Ok(segment),
+            Err(refused) => Err((NO_MEMORY, refused.value.into_region())),
+        },
+        Err(refused) => {
+            let code = match refused.cause {
+                OpenError::Image(class) => class_code(class),
+                OpenError::RegionTooSmall => SHORT_REGION,
+                OpenError::OutOfMemory => NO_MEMORY,
+                OpenError::ReadFault => unreachable!(),
+            };
+            Err((code, refused.region))
+        }
+    }
+}
+
+/// Closes the segment, and gives the memory of its region back, with the bytes that it has now: what C lent, or what
+/// the library took, which C is to free then.
+#[unsafe(no_mangle)]
+pub extern "C" fn zx_detach(alloc: Global, h: &mut Handle, memory: &mut LentMemory) -> u32
+    ensures closed { IsClosed 0 result h.old.segment.value h.new.segment.value }
+    ensures given { (s : State) → h.old.segment.value ≡ Held s
+        → (result ≡ 0) × (h.new.segment.value ≡ NoSegment) × (memory.new.bytes.items ≡ whole s.cut) }
+    ensures left { 1 ≤ result → memory.new ≡ memory.old }
+    ensures marks { IsPlaced result h.old.marks h.new.marks false }
+{
+    let segment = passed!(take(alloc, h));
+    h.marks.place(false);
+    *memory = Box::into_inner(segment).into_region().leak();
+    DONE
+}

@@ -1,0 +1,129 @@
+//! Several calls as one: the segment is copied before them, and may be put back as it was.
+ghost use Rattle.std.specs.Prelude.{◌≡◌, ◌≤◌, MatchResult, false, length, nat_le};
+ghost use Rattle.std.specs.declared.option.Option.TheVariants.{None as NoSegment, Some as Held};
+ghost use Rattle.grow_shrink.specs.Resized.{room_of};
+ghost use Rattle.raw_region.specs.Memory.{SamePlace, cut_at, whole};
+ghost use Rattle.segment_c.specs.Calls.{IsClosed, Opened};
+ghost use Rattle.segment_c.specs.Marked.{IsMarked, IsPlaced};
+ghost use Rattle.segment_c.specs.Transactions.{IsBeginCode, IsCopy, IsPutBack, rollback_code};
+ghost use Rattle.segment_manager.specs.State.{IsSegment, State};
+ghost use Rattle.segment_manager.specs.Step.{is_read_only};
+
+use crate::calls::passed;
+use crate::codes::{DONE, NO_MEMORY, READ_ONLY, SHORT_REGION};
+use crate::handle::{Handle, put, put_changed, put_new, take};
+use crate::images::boxed_or_not;
+use crate::resizing::{capacity_for, copied, size_of};
+use raw_region::Window;
+use segment_manager::conditioned::adopt;
+use segment_manager::{Mode, Segment};
+use std::alloc::Global;
+
+/// Copies the segment to another handle, from which `zx_rollback` puts it back. What that had is freed. It is as it was
+/// unless the code is 0.
+#[unsafe(no_mangle)]
+pub extern "C" fn zx_begin(alloc: Global, h: &mut Handle, before: &mut Handle) -> u32
+    ensures closed { IsClosed 0 result h.old.segment.value h.new.segment.value }
+    ensures code { (s : State) → h.old.segment.value ≡ Held s → IsBeginCode s.mode result }
+    ensures copied { (s : State) → h.old.segment.value ≡ Held s → result ≡ 0 → Opened before.new.segment.value (λ t. IsCopy s t) }
+    ensures same { h.new.segment.value ≡ h.old.segment.value }
+    ensures kept { 1 ≤ result → before.new.segment.value ≡ before.old.segment.value }
+    ensures marks { h.new.marks ≡ h.old.marks }
+    ensures placed { IsPlaced result before.old.marks before.new.marks false }
+{
+    let segment = passed!(take(alloc, h));
+    let code = match copy_of(alloc, &segment) {
+        Ok(copy) => put_new(before, copy, false),
+        Err(code) => code,
+    };
+    put(code, h, segment)
+}
+
+/// The same segment in a region of its own, in a box.
+///
+/// # Errors
+///
+/// The code.
+fn copy_of(alloc: Global, segment: &Segment) -> Result<Box<Segment>, u32>
+    ensures { MatchResult result (λ copy. IsCopy segment.now copy.value × IsBeginCode segment.now.mode 0) (λ code. (1 ≤ code) × IsBeginCode segment.now.mode code) }
+{
+    if is_read_only(segment) {
+        return Err(READ_ONLY);
+    }
+    match copied(alloc, segment, capacity_for(size_of(segment))) {
+        Ok(copy) => boxed_or_not(alloc, copy),
+        Err(_) => Err(NO_MEMORY),
+    }
+}
+
+/// Makes the segment again what `zx_begin` copied, where it lies now, and closes the copy. Both are as they were unless
+/// the code is 0.
+#[unsafe(no_mangle)]
+pub extern "C" fn zx_rollback(alloc: Global, h: &mut Handle, before: &mut Handle) -> u32
+    ensures closed { IsClosed 0 result h.old.segment.value h.new.segment.value }
+    ensures none { before.old.segment.value ≡ NoSegment → result ≡ 16 }
+    ensures code { (s t : State) → h.old.segment.value ≡ Held s → before.old.segment.value ≡ Held t → result ≡ rollback_code s t }
+    ensures back { (s t : State) → h.old.segment.value ≡ Held s → before.old.segment.value ≡ Held t → result ≡ 0
+        → Opened h.new.segment.value (λ u. IsPutBack s t u) × (before.new.segment.value ≡ NoSegment) }
+    ensures kept { 1 ≤ result → (h.new.segment.value ≡ h.old.segment.value) × (before.new.segment.value ≡ before.old.segment.value) }
+    ensures marks { IsMarked result h.old.marks h.new.marks }
+    ensures placed { IsPlaced result before.old.marks before.new.marks false }
+{
+    let segment = passed!(take(alloc, h));
+    let mut copy = match take(alloc, before) {
+        Ok(copy) => copy,
+        Err(code) => return put(code, h, segment),
+    };
+    let code = code_to_put_back(&segment, &copy);
+    if code != DONE {
+        put(code, before, copy);
+        return put(code, h, segment);
+    }
+    let restored = put_back(Box::into_inner(segment), copy.as_bytes());
+    *copy = restored;
+    before.marks.place(false);
+    put_changed(DONE, h, copy)
+}
+
+/// The code by which a copy is not put in the place of a segment.
+fn code_to_put_back(segment: &Segment, copy: &Segment) -> u32
+    ensures code { result ≡ rollback_code segment.now copy.now }
+    ensures room { result ≡ 0 → length copy.now.cut.bytes ≤ room_of segment.now.cut }
+{
+    if is_read_only(segment) {
+        return READ_ONLY;
+    }
+    if has_room(segment, size_of(copy)) {
+        return DONE;
+    }
+    SHORT_REGION
+}
+
+/// Whether a segment is open for reading.
+fn is_read_only(segment: &Segment) -> bool
+    ensures { result ≡ is_read_only segment.now.mode }
+{
+    segment.mode() == Mode::ReadOnly
+}
+
+/// Whether a segment's region has room for so many bytes.
+fn has_room(segment: &Segment, len: u64) -> bool
+    ensures { result ≡ nat_le len (room_of segment.now.cut) }
+{
+    let size = size_of(segment);
+    len <= size || len - size <= segment.region_left()
+}
+
+/// The segment whose image the bytes are, at the front of the region of another, and open as that is.
+fn put_back(segment: Segment, image: &[u8]) -> Segment
+    requires denotes { IsSegment image.now }
+    requires room { length image.now ≤ room_of segment.cut }
+    ensures bytes { result.cut.bytes ≡ image.now }
+    ensures place { SamePlace (cut_at (whole segment.cut) 0 (length image.now)) result.cut }
+    ensures mode { result.mode ≡ segment.mode }
+{
+    let mode = segment.mode();
+    let mut window = Window::new(segment.into_region(), 0, image.len() as u64);
+    window.write(0, image);
+    adopt(window, mode)
+}

@@ -1,0 +1,118 @@
+//! Where elements stand, for C that reads and writes them there.
+ghost use denote.RawPtr.{block_ptr};
+ghost use Rattle.std.specs.Prelude.{◌≡◌, ◌≤◌};
+ghost use Rattle.seg_types.specs.Keys.{key_seen};
+ghost use Rattle.segment_c.specs.Calls.{Opened, Reads};
+ghost use Rattle.segment_c.specs.Marked.{IsShared};
+ghost use Rattle.segment_c.specs.Passed.{key_of, key_wrong};
+ghost use Rattle.segment_c.specs.Reads.{IsCoded};
+ghost use Rattle.segment_c.specs.Views.{HasView, IsView, writable};
+ghost use Rattle.segment_manager.specs.Directory.{Directory};
+ghost use Rattle.segment_manager.specs.State.{StandsFor};
+ghost use Rattle.segment_manager.specs.containers.ElementRuns.{run_at};
+
+use crate::calls::{enter, passed};
+use crate::codes::{DONE, READ_ONLY, code_of};
+use crate::handle::{Handle, put};
+use crate::keys::ObjectKey;
+use seg_types::Key;
+use segment_manager::{Mode, Segment};
+use std::alloc::Global;
+
+/// Elements that stand one after another: where the first of them stands, and where it begins from the front of the
+/// segment on, how many they are, the handle's counter of changes, and the code of their kind.
+#[repr(C)]
+#[derive(Clone, Copy)]
+pub struct View {
+    pub at: *const u8,
+    pub offset: u64,
+    pub count: u64,
+    pub changes: u64,
+    pub kind: u32,
+}
+
+/// Says where the elements of the object of a key stand: of scalars, of a vector of scalars, or of a string, which has
+/// bytes. They stand there until the counter of the handle's changes rises.
+#[unsafe(no_mangle)]
+pub extern "C" fn zx_view(
+    alloc: Global,
+    h: &mut Handle,
+    key: &ObjectKey<'_>,
+    view: &mut View,
+) -> u32
+    ensures told { Reads (key_wrong key.now) result h.old.segment.value h.new.segment.value
+        (λ s. (d : Directory) → StandsFor s.cut.bytes d → IsCoded (IsView view.new) result (run_at d (key_of key.now))) }
+    ensures bytes { result ≡ 0 → Opened h.old.segment.value (λ s. HasView s (key_of key.now) view.new) }
+    ensures current { result ≡ 0 → view.new.changes ≡ h.old.marks.changes }
+    ensures results { 1 ≤ result → view.new ≡ view.old }
+    ensures marks { h.new.marks ≡ h.old.marks }
+{
+    let (which, segment) = passed!(enter(alloc, h, key));
+    put(look(&segment, &which, h.marks.changes, view), h, segment)
+}
+
+/// The same of elements that C is to write there, which the handle notes.
+#[unsafe(no_mangle)]
+pub extern "C" fn zx_view_mut(
+    alloc: Global,
+    h: &mut Handle,
+    key: &ObjectKey<'_>,
+    view: &mut View,
+) -> u32
+    ensures told { Reads (key_wrong key.now) result h.old.segment.value h.new.segment.value
+        (λ s. (d : Directory) → StandsFor s.cut.bytes d → IsCoded (IsView view.new) result (writable s.mode (run_at d (key_of key.now)))) }
+    ensures bytes { result ≡ 0 → Opened h.old.segment.value (λ s. HasView s (key_of key.now) view.new) }
+    ensures current { result ≡ 0 → view.new.changes ≡ h.old.marks.changes }
+    ensures results { 1 ≤ result → view.new ≡ view.old }
+    ensures marks { IsShared result h.old.marks h.new.marks }
+{
+    let (which, segment) = passed!(enter(alloc, h, key));
+    let code = look_mut(&segment, &which, h.marks.changes, view);
+    if code == DONE {
+        h.marks.is_shared = true;
+    }
+    put(code, h, segment)
+}
+
+/// The same of a segment.
+fn look_mut(segment: &Segment, key: &Key, changes: u64, view: &mut View) -> u32
+    ensures told { (d : Directory) → StandsFor segment.now.cut.bytes d
+        → IsCoded (IsView view.new) result (writable segment.now.mode (run_at d (key_seen key.now))) }
+    ensures bytes { result ≡ 0 → HasView segment.now (key_seen key.now) view.new }
+    ensures current { result ≡ 0 → view.new.changes ≡ changes }
+    ensures kept { 1 ≤ result → view.new ≡ view.old }
+{
+    if segment.mode() == Mode::ReadOnly {
+        return READ_ONLY;
+    }
+    look(segment, key, changes, view)
+}
+
+/// Where the elements of an object of a segment stand.
+fn look(segment: &Segment, key: &Key, changes: u64, view: &mut View) -> u32
+    ensures told { (d : Directory) → StandsFor segment.now.cut.bytes d → IsCoded (IsView view.new) result (run_at d (key_seen key.now)) }
+    ensures bytes { result ≡ 0 → HasView segment.now (key_seen key.now) view.new }
+    ensures current { result ≡ 0 → view.new.changes ≡ changes }
+    ensures kept { 1 ≤ result → view.new ≡ view.old }
+{
+    match segment.element_run(key) {
+        Ok(run) => {
+            *view = View {
+                at: start_of(&segment.as_bytes()[run.offset as usize..]),
+                offset: run.offset,
+                count: run.count,
+                changes,
+                kind: run.kind.code(),
+            };
+            DONE
+        }
+        Err(why) => code_of(why),
+    }
+}
+
+/// Where the first of the bytes stands.
+fn start_of(bytes: &[u8]) -> *const u8
+    ensures { result ≡ block_ptr bytes.entry.ref_ptr.0 bytes.entry.ref_ptr.1 }
+{
+    bytes.as_ptr()
+}

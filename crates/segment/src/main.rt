@@ -126,6 +126,7 @@ fn ends_quietly(asked: Invocation<'_>) -> bool {
         Invocation::Explain(_)
             | Invocation::Stat(_)
             | Invocation::Draw(_)
+            | Invocation::DrawPage(_)
             | Invocation::Dump(_)
             | Invocation::DumpCapacities(_)
             | Invocation::Lint

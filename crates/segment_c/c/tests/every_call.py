@@ -571,6 +571,9 @@ def calls_of_c():
     same(ctypes.c_int64.from_buffer(room, there.offset).value, 5)
     same(zx.zx_named_from(handle, b"a/", 2, index), 0)
     same(index.value, 0)
+    told, name = library.Info(), ctypes.create_string_buffer(255)
+    same(zx.zx_named_at(handle, 0, told, name, 255), 0)
+    same(name.raw[:told.name_len], b"a/1")
     same(zx.zx_detach(handle, memory), 0)
     same(memory.at, ctypes.addressof(room))
 

@@ -100,7 +100,7 @@ module _ (b : List ℕ) (said : ℕ) (s : Says b said) where
       let size = s.size in
       let least = legal_least said (said_legal b said s) in
       let whole : nat_lt (length b) 144 ≡ false = le-ltb (length b) 144 (omega (arith, more, least)) in
-      let other : has_size b ≡ false = and_right (is_legal_size (size_word b)) (nat_le (length b) (size_word b)) (lt-leb (size_word b) (length b) (omega (arith, more, size))) in
+      let other : has_size b ≡ false = and_right (is_legal_size (size_word b)) (nat_le (length b) (size_word b)) (lt-leb (length b) (size_word b) (omega (arith, more, size))) in
       rw (whole, words.0, words.1, other) refl
 
   pub ends_early : length b < said → class_of current b ≡ Some Truncated

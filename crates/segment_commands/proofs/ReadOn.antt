@@ -8,6 +8,7 @@ use Rattle.raw_region.specs.Device.{Gave, Given, Grows, given_since}
 use Rattle.raw_region.specs.Format.{current}
 use Rattle.block_tags.specs.Format.{is_legal_size}
 use Rattle.segment_manager.specs.declared.modes.Mode.{Mode}
+use Rattle.segment_manager.specs.declared.modes.Mode.TheVariants.{ReadOnly}
 use Rattle.segment_manager.specs.State.{State}
 use Rattle.image_check.specs.declared.classes.ImageClass.{ImageClass}
 use Rattle.image_check.specs.declared.classes.ImageClass.TheVariants.{BadMagic, BadSize, Truncated, UnsupportedVersion}
@@ -27,7 +28,7 @@ use Rattle.segment_cli.specs.declared.faults.Start.TheVariants.{Image as OfImage
 use Rattle.segment_cli.specs.Beginning.{IsWhyNotBegun, Starts, opened_fault}
 use Rattle.segment_disk.specs.Events.{nothing_given}
 use Rattle.segment_commands.specs.Migrating.{as_session}
-use Rattle.segment_commands.specs.Opening.{BeginsIn}
+use Rattle.segment_commands.specs.Opening.{BeginsIn, IsVerdictOf, VerifiesIn}
 use Rattle.segment_commands.specs.ReadingOn.{IsFrontOf, IsTextOf, IsWhyNoText}
 use Rattle.segment_commands.proofs.CutFiles.{below, find-first, front-stays, second, size-stays}
 use Rattle.segment_commands.proofs.Verified.{begun}
@@ -186,3 +187,9 @@ module _ (mode : Mode) (text region : List ℕ) where
       too_small = λ p. ap no_segment (o.too_small p);
     };
   })
+
+-- ---- a segment that is let go of
+
+pub verdict_in : (image : Given) (begun : Result State SessionFault) (result : Result (Unit {0}) SessionFault) → BeginsIn OfImage ReadOnly image begun → IsVerdictOf begun result → VerifiesIn image result
+verdict_in image begun (Ok u) b v = (v.0, subst (BeginsIn OfImage ReadOnly image) v.1 b)
+verdict_in image begun (Err fault) b v = subst (BeginsIn OfImage ReadOnly image) v b

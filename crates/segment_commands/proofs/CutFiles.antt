@@ -3,10 +3,8 @@ use Rattle.std.proofs.Common.{◌≡◌, ◌<◌, ◌≤◌, ◌&&◌, ◌||◌,
 use Rattle.std.proofs.lemmas.Bool.Decides.{nat_tests}
 use Rattle.std.proofs.lemmas.List.{append-nil, get_or_append_left, length-append}
 use Rattle.raw_region.specs.Device.{Gave, Given, Grows, given_since}
-use Rattle.raw_region.specs.Format.{current}
 use Rattle.raw_region.specs.Memory.{Same, bytes_of, half_word_at, word_at, zeros}
 use Rattle.raw_region.proofs.Laws.{Same-half_word, Same-word, added, both_added, length-zeros}
-use Rattle.segment_manager.specs.declared.modes.Mode.{Mode}
 use Rattle.image_check.specs.declared.classes.ImageClass.{ImageClass}
 use Rattle.image_check.specs.declared.classes.ImageClass.TheVariants.{Truncated}
 use Rattle.image_check.specs.declared.errors.OpenError.TheVariants.{Image, RegionTooSmall}
@@ -14,12 +12,10 @@ use Rattle.image_check.specs.EarlyTests.{has_front, size_word}
 use Rattle.image_check.specs.Classes.{class_of, classes, holds}
 use Rattle.image_check.specs.Formats.{format_of}
 use Rattle.image_check.specs.Opening.{IsTooSmallFor}
-use Rattle.segment_cli.specs.declared.faults.Start.TheVariants.{Image as OfImage}
 use Rattle.segment_cli.specs.declared.faults.SessionFault.{SessionFault}
 use Rattle.segment_cli.specs.declared.faults.SessionFault.TheVariants.{Image as Refused, RegionTooSmall as NoRoom}
-use Rattle.segment_cli.specs.Beginning.{Starts}
 use Rattle.segment_disk.specs.Events.{nothing_given}
-use Rattle.segment_commands.specs.Opening.{BeginsIn, EndsWithin, IsToldByLength}
+use Rattle.segment_commands.specs.Opening.{EndsWithin, IsToldByLength}
 use Rattle.segment_commands.specs.Migrating.{BeginsAny}
 
 -- ---- what a reader gives on

@@ -18,14 +18,13 @@ use Rattle.image_check.specs.declared.errors.OpenRefused.{OpenRefused}
 use Rattle.image_check.specs.EarlyTests.{has_front, has_magic, has_size, has_version, size_word}
 use Rattle.image_check.specs.Classes.{class_of, holds}
 use Rattle.image_check.specs.Deciding.{decided, decided_by}
-use Rattle.image_check.specs.Opening.{IsTooSmallFor}
 use Rattle.image_check.specs.OpeningBytes.{IsWhyNotOf, OpensBytes, as_given}
 use Rattle.image_check.specs.Reading.{front_of}
 use Rattle.image_check.proofs.Facts.{all_decided}
 use Rattle.segment_cli.specs.declared.faults.SessionFault.{SessionFault}
 use Rattle.segment_cli.specs.declared.faults.SessionFault.TheVariants.{Image as Refused, OutOfMemory, ReadFault}
 use Rattle.segment_cli.specs.declared.faults.Start.TheVariants.{Image as OfImage}
-use Rattle.segment_cli.specs.Beginning.{IsWhyNotBegun, Starts, opened_fault}
+use Rattle.segment_cli.specs.Beginning.{IsWhyNotBegun, opened_fault}
 use Rattle.segment_disk.specs.Events.{nothing_given}
 use Rattle.segment_commands.specs.Migrating.{as_session}
 use Rattle.segment_commands.specs.Opening.{BeginsIn, IsVerdictOf, VerifiesIn}

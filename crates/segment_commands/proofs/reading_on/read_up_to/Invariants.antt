@@ -1,4 +1,4 @@
-use Rattle.std.proofs.Common.{ℕ, ◌-◌, ◌≤◌, length}
+use Rattle.std.proofs.Common.{◌-◌, ◌≤◌, length}
 use Rattle.raw_region.specs.Device.{Grows}
 use Rattle.segment_commands.specs.ReadingOn.{IsReadUpTo}
 use Rattle.segment_commands.proofs.reading_on.read_up_to.Given as goal

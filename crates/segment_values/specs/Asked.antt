@@ -12,8 +12,8 @@ use Rattle.segment_manager.specs.Answers.{Answer, Element, TextElement}
 use Rattle.segment_manager.specs.Directory.{Directory}
 use Rattle.segment_manager.specs.Step.{step, step_of_kind}
 use Rattle.segment_manager.specs.containers.Walks.{Item, pairs_at}
-use Rattle.segment_dump.specs.Layouts.{Spelling}
-use Rattle.segment_dump.specs.Parts.{part_of}
+use Rattle.segment_manager.specs.Parts.{part_of}
+use Rattle.segment_values.specs.Layouts.{Spelling}
 
 -- the text of an element at a place, and nothing where there is none
 abbrev pub element_text : Spelling → ℕ → Answer → List ℕ

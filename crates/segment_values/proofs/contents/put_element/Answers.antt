@@ -1,8 +1,11 @@
-use Rattle.segment_dump.proofs.Common.{sym, ap, ByHandle, kind_of_scalar, value_of_scalar, element_text}
+use Rattle.std.proofs.Common.{sym, ap}
 use Rattle.seg_types.specs.Commands.{Get}
+use Rattle.seg_types.specs.Names.{ByHandle}
+use Rattle.seg_types.specs.Values.{kind_of_scalar, value_of_scalar}
 use Rattle.segment_manager.proofs.Laws.{any-replies}
-use Rattle.segment_dump.proofs.Owed.{of-none, of-one}
-use Rattle.segment_dump.proofs.contents.put_element.Goals as goal
+use Rattle.segment_values.specs.Asked.{element_text}
+use Rattle.segment_values.proofs.Owed.{of-none, of-one}
+use Rattle.segment_values.proofs.contents.put_element.Goals as goal
 
 pub returns-in-Ok : goal.returns-in-Ok
 returns-in-Ok g c =

@@ -1,5 +1,5 @@
-use Rattle.segment_dump.proofs.Elements.{others-counted, scalars-counted, string-counted}
-use Rattle.segment_dump.proofs.contents.count_of.Goals as goal
+use Rattle.segment_values.proofs.LaidElements.{others-counted, scalars-counted, string-counted}
+use Rattle.segment_values.proofs.contents.count_of.Goals as goal
 
 pub returns-in-Scalar : goal.returns-in-Scalar
 returns-in-Scalar c = scalars-counted c.args.segment.now c.args.object c.requires c.in-Scalar.field-0 c.from.result c.in-Scalar.is c.from.ensures

@@ -1,6 +1,8 @@
-use Rattle.segment_dump.proofs.Common.{arith, ByHandle, text_part}
-use Rattle.segment_dump.proofs.Owed.{of-all, of-cut_in, of-more, of-start}
-use Rattle.segment_dump.proofs.contents.put_strings.Goals as goal
+use Rattle.std.proofs.Common.{arith}
+use Rattle.seg_types.specs.Names.{ByHandle}
+use Rattle.segment_values.specs.Asked.{text_part}
+use Rattle.segment_values.proofs.Owed.{of-all, of-cut_in, of-more, of-start}
+use Rattle.segment_values.proofs.contents.put_strings.Goals as goal
 
 pub texts-init : goal.texts-init
 texts-init g c = of-start (λ d. text_part (g.L.Layout.spelling c.args.layout.now) c.args.segment.now.mode d (ByHandle c.args.object.handle))

@@ -1,15 +1,22 @@
 -- The pairs of a map: the texts of all of them are those of its value.
-use Rattle.segment_dump.proofs.Common.{◌≡◌, ℕ, List, [], length, Option, Some, None, slice_get, sym, ap, ◌∙◌}
-use Rattle.segment_dump.proofs.Common.{ScalarKind, ByHandle, NumberPair, item_of, Value, Pairs, Object, Directory}
-use Rattle.segment_dump.proofs.Common.{kind_of, IsLocated, Answers, State, StandsFor, pairs_at, said-at, pair_part}
-use Rattle.segment_dump.proofs.Common.{content_of, count_of_content, count_at, part_of}
-use Rattle.segment_dump.proofs.Common.{parts_until, Spelling, laid_at, laid_object, laid_out}
+use Rattle.std.proofs.Common.{◌≡◌, ℕ, List, [], length, Option, Some, None, slice_get, sym, ap, ◌∙◌}
 use Rattle.seg_types.specs.declared.kinds.Kind.TheVariants.{Map}
+use Rattle.seg_types.specs.declared.kinds.ScalarKind.{ScalarKind}
+use Rattle.seg_types.specs.Names.{ByHandle}
+use Rattle.seg_map.specs.Numbers.{NumberPair}
+use Rattle.seg_map.specs.Places.{item_of}
 use Rattle.segment_manager.specs.declared.objects.targets.Object.{Object as Located}
-use Rattle.segment_manager.specs.containers.Walks.{pairs_of}
-use Rattle.segment_dump.specs.Asked.{pair_text}
-use Rattle.segment_dump.proofs.Elements.{length-made, count_of_object}
-use Rattle.segment_dump.proofs.Laid.{laid-made, parts-laid}
+use Rattle.segment_manager.specs.containers.Walks.{pairs_at, pairs_of}
+use Rattle.segment_manager.specs.Directory.{Value, Pairs, Object, Directory, kind_of}
+use Rattle.segment_manager.specs.objects.Located.{IsLocated}
+use Rattle.segment_manager.specs.Parts.{part_of, parts_until}
+use Rattle.segment_manager.specs.State.{Answers, State, StandsFor}
+use Rattle.segment_manager.proofs.Laws.{said-at}
+use Rattle.segment_values.specs.Asked.{pair_part, pair_text}
+use Rattle.segment_values.specs.Contents.{content_of, count_of_content}
+use Rattle.segment_values.specs.Layouts.{Spelling, count_at, laid_at, laid_object, laid_out}
+use Rattle.segment_values.proofs.Laid.{laid-made, parts-laid}
+use Rattle.segment_values.proofs.LaidElements.{count_of_object, length-made}
 
 record ArePairs (k v : ScalarKind) (w : Value) : Type 0 where
   pairs : List NumberPair

@@ -1,13 +1,19 @@
 -- Each pair is that of the place at which the walk has come.
-use Rattle.segment_dump.proofs.Common.{◌≡◌, ◌+◌, sym, ap, subst, ◌∙◌, Some, None, arith, option_map, lt-ltb, ByHandle}
-use Rattle.segment_dump.proofs.Common.{item_seen, pair_part, WritesOf, parts_until}
-use Rattle.segment_dump.specs.Asked.{walked_text}
-use Rattle.segment_manager.proofs.NextPairs.{IsNext, map-of-key, next-behind, next-first, next-none, no-pair, none-text}
-use Rattle.segment_manager.proofs.NextPairs.{pair-said}
-use Rattle.segment_dump.proofs.PartLines.{well}
-use Rattle.segment_dump.proofs.Owed.{of-all, of-cut_in, of-more, of-none, of-one, of-start}
-use Rattle.segment_dump.proofs.pairs.put_pairs.Goals.{in-Some+in_ok-put_pair, in_default}
-use Rattle.segment_dump.proofs.pairs.put_pairs.Goals as goal
+use Rattle.std.proofs.Common.{◌≡◌, ◌+◌, sym, ap, subst, ◌∙◌, Some, None, arith}
+use Rattle.std.proofs.lemmas.Bool.{lt-ltb}
+use Rattle.std.specs.Prelude.{option_map}
+use Rattle.seg_types.specs.Names.{ByHandle}
+use Rattle.segment_manager.specs.containers.Walks.{item_seen}
+use Rattle.segment_manager.specs.Parts.{parts_until}
+use Rattle.segment_manager.specs.State.{StandsFor}
+use Rattle.segment_manager.proofs.NextPairs.{IsNext, map-of-key, next-behind, next-first, next-none, no-pair}
+use Rattle.segment_manager.proofs.NextPairs.{none-text, pair-said}
+use Rattle.segment_manager.proofs.PartLaws.{well}
+use Rattle.segment_values.specs.Asked.{pair_part, walked_text}
+use Rattle.segment_values.specs.Writing.{WritesFor}
+use Rattle.segment_values.proofs.Owed.{of-all, of-cut_in, of-more, of-none, of-one, of-start}
+use Rattle.segment_values.proofs.contents.put_pairs.Goals.{in-Some+in_ok-put_pair, in_default}
+use Rattle.segment_values.proofs.contents.put_pairs.Goals as goal
 
 pub pair_behind-next-requires-clause-map : goal.pair_behind-next-requires-clause-map
 pair_behind-next-requires-clause-map g c =
@@ -46,7 +52,7 @@ pairs-preserved g c =
           let n : IsNext s c.args.object.handle c.args.keys c.args.values (Some (w.in-Some.key, w.in-Some.value)) i = λ d l. ap (option_map item_seen) (sym w.in-Some.is) ∙ was.next d l (omega (arith, c.pairs-test.true)) in
           record {
             told =
-                subst (λ o. WritesOf s old (g.W.Sink.history o) well (λ d. parts_until (pair_part (g.L.Layout.spelling c.args.layout.now) c.args.keys c.args.values d (ByHandle c.args.object.handle)) (i + 1))) (sym w.out-is)
+                subst (λ o. WritesFor old (g.W.Sink.history o) well (StandsFor s.cut.bytes) (λ d. parts_until (pair_part (g.L.Layout.spelling c.args.layout.now) c.args.keys c.args.values d (ByHandle c.args.object.handle)) (i + 1))) (sym w.out-is)
                 (of-more (λ d. pair_part (g.L.Layout.spelling c.args.layout.now) c.args.keys c.args.values d (ByHandle c.args.object.handle)) was.told
                 (of-one {owed = λ d. pair_part (g.L.Layout.spelling c.args.layout.now) c.args.keys c.args.values d (ByHandle c.args.object.handle) i}
                 w.in_ok-put_pair.ensures
@@ -60,9 +66,9 @@ pairs-preserved g c =
           let n : IsNext s c.args.object.handle c.args.keys c.args.values None i = λ d l. ap (option_map item_seen) (sym none) ∙ was.next d l (omega (arith, c.pairs-test.true)) in
           record {
             told =
-                let nothing : WritesOf s mid mid well (λ d. pair_part (g.L.Layout.spelling c.args.layout.now) c.args.keys c.args.values d (ByHandle c.args.object.handle) i) =
+                let nothing : WritesFor mid mid well (StandsFor s.cut.bytes) (λ d. pair_part (g.L.Layout.spelling c.args.layout.now) c.args.keys c.args.values d (ByHandle c.args.object.handle) i) =
                 of-none (λ d l. sym (none-text s c.args.object.handle c.args.keys c.args.values i n (walked_text (g.L.Layout.spelling c.args.layout.now) i) d l)) in
-                subst (λ o. WritesOf s old (g.W.Sink.history o) well (λ d. parts_until (pair_part (g.L.Layout.spelling c.args.layout.now) c.args.keys c.args.values d (ByHandle c.args.object.handle)) (i + 1))) (sym w.out-is)
+                subst (λ o. WritesFor old (g.W.Sink.history o) well (StandsFor s.cut.bytes) (λ d. parts_until (pair_part (g.L.Layout.spelling c.args.layout.now) c.args.keys c.args.values d (ByHandle c.args.object.handle)) (i + 1))) (sym w.out-is)
                 (of-more (λ d. pair_part (g.L.Layout.spelling c.args.layout.now) c.args.keys c.args.values d (ByHandle c.args.object.handle)) was.told nothing);
             next = λ d l less. ap (option_map item_seen) (w.next-is ∙ none) ∙ next-none s c.args.object.handle c.args.keys c.args.values i n d l;
           }

@@ -1,6 +1,7 @@
-use Rattle.segment_dump.proofs.Common.{sym, ap, element_text}
-use Rattle.segment_dump.proofs.Owed.{of-none, of-one}
-use Rattle.segment_dump.proofs.contents.put_one_of_strings.Goals as goal
+use Rattle.std.proofs.Common.{sym, ap}
+use Rattle.segment_values.specs.Asked.{element_text}
+use Rattle.segment_values.proofs.Owed.{of-none, of-one}
+use Rattle.segment_values.proofs.contents.put_one_of_strings.Goals as goal
 
 pub returns-in-Ok : goal.returns-in-Ok
 returns-in-Ok g c = of-one c.put_text.ensures (λ d k. ap (element_text (g.L.Layout.spelling c.args.layout.now) c.args.index) (c.in-Ok.ensures.answers d k))

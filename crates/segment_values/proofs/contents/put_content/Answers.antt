@@ -1,9 +1,10 @@
-use Rattle.segment_dump.proofs.Common.{ap, elements_of}
+use Rattle.std.proofs.Common.{ap}
+use Rattle.segment_manager.specs.Calls.{elements_of}
 use Rattle.segment_manager.proofs.CommandLaws.{says-kind}
-use Rattle.segment_dump.proofs.Elements.{scalars-at, scalars-said, string-said, strings-said, vector-said}
-use Rattle.segment_dump.proofs.Owed.{of-same}
-use Rattle.segment_dump.proofs.WalkedPairs.{map-said}
-use Rattle.segment_dump.proofs.contents.put_content.Goals as goal
+use Rattle.segment_values.proofs.Owed.{of-same}
+use Rattle.segment_values.proofs.LaidElements.{scalars-at, scalars-said, string-said, strings-said, vector-said}
+use Rattle.segment_values.proofs.WalkedPairs.{map-said}
+use Rattle.segment_values.proofs.contents.put_content.Goals as goal
 
 pub put_elements-requires-clause-elements : goal.put_elements-requires-clause-elements
 put_elements-requires-clause-elements g c = scalars-at c.args.segment.now c.args.object c.requires.object c.in-Scalar.field-0 (ap elements_of c.in-Scalar.is)

@@ -29,7 +29,7 @@ pub mod MapNodes
 pub mod MapLaws
 pub mod Containers
 pub mod Sharing
-pub mod Examining
 pub mod OpeningAny
 pub mod OpeningBytes
+pub mod Examining
 pub mod Saving

@@ -1,7 +1,8 @@
 //! Whether a whole image is that of a directory.
 ghost use Rattle.std.specs.Prelude.{◌≡◌, ◌≤◌, IfErr, IfOk, IsTrue, None, Some, MatchResult, OnErr, OnOk};
 ghost use Rattle.std.specs.Prelude.{false, length, true};
-ghost use Rattle.image_check.specs.Checking.{IsWhyRefused, cause_for};
+ghost use Rattle.image_check.specs.Causes.{error_for};
+ghost use Rattle.image_check.specs.Checking.{IsWhyRefused};
 ghost use Rattle.image_check.specs.Classes.{are_bytes};
 ghost use Rattle.image_check.specs.Counting.{AreCounted};
 ghost use Rattle.image_check.specs.EarlyTests.{has_reserved as is_reserved};
@@ -20,7 +21,7 @@ mod visits;
 use crate::classes::ImageClass;
 use crate::containers::check_containers;
 use crate::counting::Counts;
-use crate::errors::CheckError;
+use crate::errors::ExamineError;
 use crate::free_tree::check_gaps;
 use crate::gathering::gather;
 use crate::image_window::ImageWindow;
@@ -43,19 +44,19 @@ pub(crate) use visits::Visits;
 ///
 /// # Errors
 ///
-/// The first class that holds. `NoMemory` only where none of the classes before `BadIndex` holds and a tile is in use.
+/// The first class that holds. `OutOfMemory` only where none of the classes before `BadIndex` holds and a tile is in use.
 pub fn check(
     format: u64,
     alloc: Global,
     window: &ImageWindow,
     steps: &mut Steps,
-) -> Result<(), CheckError>
+) -> Result<(), ExamineError>
     requires format { format ≤ 2 }
     requires front { HasFront format window.now }
     ensures answers { MatchResult result (λ done. IsImage format window.now.bytes) (IsWhyRefused format window.now.bytes) }
     ensures steps { IsRaisedFor (length window.now.bytes) steps.old steps.new }
     ensures tiles { OnOk result (CountsTiles window.now.bytes steps.old steps.new) }
-    ensures late { IfErr result (λ why. is_late (cause_for why) ≡ true
+    ensures late { IfErr result (λ cause. is_late (error_for cause) ≡ true
         → CountsTiles window.now.bytes steps.old steps.new) }
 {
     let mut visits = Visits::new(mem::replace(steps, Steps::new()));
@@ -74,25 +75,25 @@ fn check_counted(
     alloc: Global,
     window: &ImageWindow,
     visits: &mut Visits,
-) -> Result<(), CheckError>
+) -> Result<(), ExamineError>
     requires format { format ≤ 2 }
     requires front { HasFront format window.now }
     ensures answers { MatchResult result (λ done. IsImage format window.now.bytes) (IsWhyRefused format window.now.bytes) }
     ensures visits { IsRaisedFor (length window.now.bytes) visits.old visits.new }
     ensures tiles { OnOk result (CountsTiles window.now.bytes visits.old visits.new) }
-    ensures late { IfErr result (λ why. is_late (cause_for why) ≡ true
+    ensures late { IfErr result (λ cause. is_late (error_for cause) ≡ true
         → CountsTiles window.now.bytes visits.old visits.new) }
 {
     let counts = match check_frame(format, window, visits) {
         Ok(counts) => counts,
-        Err(verdict) => return Err(CheckError::Class(verdict)),
+        Err(verdict) => return Err(ExamineError::Image(verdict)),
     };
     let mut owners = match gather(alloc, window, counts, visits) {
         Ok(owners) => owners,
-        Err(refusal) => return Err(CheckError::NoMemory(refusal)),
+        Err(refusal) => return Err(ExamineError::OutOfMemory(refusal)),
     };
     if let Err(verdict) = check_blocks(format, window, &mut owners, visits) {
-        return Err(CheckError::Class(verdict));
+        return Err(ExamineError::Image(verdict));
     }
     Ok(())
 }

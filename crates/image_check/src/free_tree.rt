@@ -50,9 +50,9 @@ fn count_tiles(window: &ImageWindow, visits: &mut Visits) -> Counts
     let mut counts = Counts::new();
     let mut tile = window.first();
     'tiles: while let Some(unread) = tile {
-        let here = unread.read(visits);
-        counts.add(here);
-        tile = window.next(here.offset);
+        let one = unread.read(visits);
+        counts.add(one);
+        tile = window.next(one.offset);
     }
     counts
 }

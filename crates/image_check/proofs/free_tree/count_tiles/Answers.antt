@@ -18,34 +18,34 @@ tiles-init c =
 pub add-requires-clause-free : goal.add-requires-clause-free
 add-requires-clause-free c =
     let w = c.args.window.now in
-    let a = read-at w _ c.tiles.tile c.in-Some.unread c.read-here.result c.tiles.invariant c.in-Some.is
-    c.read-here.ensures.tile in
-    (counted-few w _ c.read-here.result c.tiles.counts c.requires.size a a.kept.0).0
+    let a = read-at w _ c.tiles.tile c.in-Some.unread c.read-one.result c.tiles.invariant c.in-Some.is
+    c.read-one.ensures.tile in
+    (counted-few w _ c.read-one.result c.tiles.counts c.requires.size a a.kept.0).0
 
 pub add-requires-clause-used : goal.add-requires-clause-used
 add-requires-clause-used c =
     let w = c.args.window.now in
-    let a = read-at w _ c.tiles.tile c.in-Some.unread c.read-here.result c.tiles.invariant c.in-Some.is
-    c.read-here.ensures.tile in
-    (counted-few w _ c.read-here.result c.tiles.counts c.requires.size a a.kept.0).1
+    let a = read-at w _ c.tiles.tile c.in-Some.unread c.read-one.result c.tiles.invariant c.in-Some.is
+    c.read-one.ensures.tile in
+    (counted-few w _ c.read-one.result c.tiles.counts c.requires.size a a.kept.0).1
 
 pub next-tile-requires : goal.next-tile-requires
 next-tile-requires c =
-    (read-met c.args.window.now _ c.tiles.tile c.in-Some.unread c.read-here.result c.tiles.invariant c.in-Some.is
-    c.read-here.ensures.tile).has
+    (read-met c.args.window.now _ c.tiles.tile c.in-Some.unread c.read-one.result c.tiles.invariant c.in-Some.is
+    c.read-one.ensures.tile).has
 
 pub tiles-smaller : goal.tiles-smaller
 tiles-smaller c =
-    read-nearer c.args.window.now _ c.tiles.tile c.in-Some.unread c.read-here.result c.tiles.invariant c.in-Some.is
-    c.read-here.ensures.tile c.next-tile.result c.next-tile.ensures
+    read-nearer c.args.window.now _ c.tiles.tile c.in-Some.unread c.read-one.result c.tiles.invariant c.in-Some.is
+    c.read-one.ensures.tile c.next-tile.result c.next-tile.ensures
 
 pub tiles-preserved : goal.tiles-preserved
 tiles-preserved c =
     let w = c.args.window.now in
-    let here = c.read-here.result in
-    let a = read-at w _ c.tiles.tile c.in-Some.unread here c.tiles.invariant c.in-Some.is c.read-here.ensures.tile in
+    let here = c.read-one.result in
+    let a = read-at w _ c.tiles.tile c.in-Some.unread here c.tiles.invariant c.in-Some.is c.read-one.ensures.tile in
     let two = two-for-tile here.use_of here.len (at-meets w _ here a).long in
-    let one = c.read-here.ensures.visits in
+    let one = c.read-one.ensures.visits in
     walk-on w _ _ here c.next-tile.result a c.next-tile.ensures (λ front k. (
       c.add.ensures front k.0,
       within-more tag_rates _ c.tiles.visits _ front here k.1 (omega arith) (omega arith),

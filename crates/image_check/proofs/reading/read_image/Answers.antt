@@ -8,7 +8,7 @@ use Rattle.image_check.specs.Reading.{IsImageRead, IsNotRead}
 use Rattle.image_check.proofs.Filled.{HasFront-least}
 use Rattle.image_check.proofs.Placed.{IsBegun, begun-HasFront, begun-read, begun-start, begun-stops}
 use Rattle.image_check.proofs.ReadFormats.{since-format}
-use Rattle.image_check.proofs.reading.read_judged.Goals as goal
+use Rattle.image_check.proofs.reading.read_image.Goals as goal
 
 pub read_rest-requires-clause-long : goal.read_rest-requires-clause-long
 read_rest-requires-clause-long g c =

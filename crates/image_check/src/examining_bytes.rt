@@ -36,10 +36,7 @@ pub fn examine_bytes(
     ensures tiles { OnOk result (CountsTiles image.now steps.old steps.new) }
     ensures late { IfErr result (λ refused. is_late (error_for refused.cause) ≡ true → CountsTiles image.now steps.old steps.new) }
 {
-    let window = match place_image(versions, image, region, base) {
-        Ok(window) => window,
-        Err(refused) => return Err(refused),
-    };
+    let window = place_image(versions, image, region, base)?;
     let format = version_in(window.header(0, FRONT as u64));
     match check(format, alloc, &window, steps) {
         Ok(()) => Ok(window.into_region()),

@@ -15,5 +15,5 @@ pub use elements::set;
 pub use objects::object_to_change;
 pub use pairs::{erase_pair, look_up, put_pair};
 pub use reads::read_elements;
-pub use vectors::{NewElement, Spot, add, erase};
+pub use vectors::{Spot, add, erase};
 pub use writes::write_elements;

@@ -40,7 +40,7 @@ pub enum NewElement<'a> {
 /// it is no vector or the value has not the form of its elements, `OutOfRange` where the value is not in their range or
 /// there are not so many others, and nothing changes; `NoSpace` where the vector is full and its storage cannot be
 /// regrown, or a text has no fit: the objects are as before, and nothing changes where the value is no text.
-#[inline(always)]
+#[inline(never)]
 pub fn add<L: Written>(
     segment: &mut Segment,
     key: &Key,

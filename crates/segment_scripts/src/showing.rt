@@ -43,8 +43,8 @@ pub fn put_shown<W: Sink>(
                 Answered::Done.once(put_value_line(segment, object, count, out))
             }
             Kind::Vector(_) => {
-                let count = length_of(segment, object);
-                Answered::Done.once(put_value_line(segment, object, count, out))
+                let len = length_of(segment, object);
+                Answered::Done.once(put_value_line(segment, object, len, out))
             }
             Kind::String => Answered::Done.once(put_string_line(segment, object, out)),
             Kind::Strings => {

@@ -23,11 +23,7 @@ use segment_manager::{Object, Segment};
 /// is open for reading, and else `NotFound` where no object has the key, `WrongKind` where it is no vector,
 /// `OutOfRange` where it is empty. A fault leaves the element taken out, and a proper prefix of it written.
 #[inline(never)]
-pub fn pop<W: Sink>(
-    segment: &mut Segment,
-    key: &Key,
-    out: &mut W,
-) -> Result<Answered, DeviceFault>
+pub fn pop<W: Sink>(segment: &mut Segment, key: &Key, out: &mut W) -> Result<Answered, DeviceFault>
     requires { (W.history out.old).failures < 2 ^ 64 - 1 }
     ensures executed { Executes segment.old segment.new (Pop (key_seen key.now)) }
     ensures answers { AnswersFor (W.history out.old) (W.history out.new) result (StandsFor segment.old.cut.bytes)

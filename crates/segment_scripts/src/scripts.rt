@@ -156,7 +156,15 @@ fn read_lines<M: Machine, S: Source, W: Sink, F: Follower<W>>(
             return Ok(End::Whole);
         }
         let within = count.min(left);
-        match feed(machine, scratch, line, &room[..within], out, follower, until) {
+        match feed(
+            machine,
+            scratch,
+            line,
+            &room[..within],
+            out,
+            follower,
+            until,
+        ) {
             Ok(End::Whole) => {}
             Ok(End::Refused) => return Ok(End::Refused),
             Err(_) => return Err(RunFault::WriteFault),
@@ -229,7 +237,15 @@ pub fn run_until<M: Machine, S: Source, W: Sink, F: Follower<W>>(
         room: Room::new(),
     };
     let mut line = OpenLine::new();
-    match read_lines(machine, &mut scratch, script, &mut line, out, follower, until)? {
+    match read_lines(
+        machine,
+        &mut scratch,
+        script,
+        &mut line,
+        out,
+        follower,
+        until,
+    )? {
         End::Refused => Ok(End::Refused),
         End::Whole => match answer_last(machine, &mut scratch, &line, out, follower, until) {
             Ok(end) => Ok(end),

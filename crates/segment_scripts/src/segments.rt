@@ -65,14 +65,15 @@ fn put_wrong<W: Sink>(error: LineError, out: &mut W) -> Result<Answered, DeviceF
     ensures writes { Writes (W.history out.old) (W.history out.new) result (error_line error) }
     ensures tells { Tells result true }
 {
-    Answered::Refused.once(put_pieces(
-        out,
-        &[Piece::LineError(error), Piece::Bytes(b"\n")],
-    ))
+    Answered::Refused.once(put_pieces(out, &[Piece::LineError(error), Piece::Bytes(b"\n")]))
 }
 
 /// Answers `size`, with what stands behind it.
-fn answer_size<W: Sink>(segment: &Segment, rest: &[u8], out: &mut W) -> Result<Answered, DeviceFault>
+fn answer_size<W: Sink>(
+    segment: &Segment,
+    rest: &[u8],
+    out: &mut W,
+) -> Result<Answered, DeviceFault>
     requires { (W.history out.old).failures < 2 ^ 64 - 1 }
     ensures { Responds segment.now segment.now (W.history out.old) (W.history out.new) result (reading_by form.Size rest.now) }
 {

@@ -38,7 +38,7 @@ returns-in-Err-feed-clause-fault g c = λ start s.
     let script = given_since (g.S.Source.history c.args.script.now) (g.S.Source.history c.read.new.self) in
     let stops = stops_at c.args.until g.M.Machine.refuses in
     let cut = cut_in g.M.Machine.respond stops start before read piece c.pieces.left count c.min-within.result script (g.M.Machine.stands c.feed.new.machine) (g.W.Sink.history c.feed.new.out).bytes
-          was.limit c.min-within.ensures (since-more old mid new (take count piece) was.grows c.in-Ok.ensures.bytes) unended (c.in-Err-feed.ensures.err start before read (rw same (was.behind start s))) in
+    was.limit c.min-within.ensures (since-more old mid new (take count piece) was.grows c.in-Ok.ensures.bytes) unended (c.in-Err-feed.ensures.err start before read (rw same (was.behind start s))) in
     record {
       left = record {
         answers = cut.part;

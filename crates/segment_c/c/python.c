@@ -15,7 +15,6 @@ struct method {
 };
 
 PYTHON char PyLong_Type[], PyBool_Type[], _Py_NoneStruct[], _Py_TrueStruct[];
-PYTHON void *PyObject_Type(void *object);
 PYTHON void Py_IncRef(void *object);
 PYTHON void Py_DecRef(void *object);
 PYTHON void *PyBool_FromLong(long truth);
@@ -33,10 +32,15 @@ PYTHON void *PyCFunction_NewEx(struct method *method, void *self, void *module);
 
 /* ---- numbers and truths */
 
-static bool is_of(void *object, const char *type) {
-    void *own = PyObject_Type(object);
-    Py_DecRef(own);
-    return own == type;
+/* Whether the type of an object, which is its second word, is this one. */
+static bool is_of(void *object, const char *type) { return ((char *const *)object)[1] == type; }
+
+/* Whether there is a CPython, and objects lie in memory so: those of one without a lock of its own do not. */
+static bool is_there(void) {
+    void *number = PyLong_FromLongLong ? PyLong_FromLongLong(7) : NULL;
+    bool is_so = number && is_of(number, PyLong_Type);
+    if (number) Py_DecRef(number);
+    return is_so;
 }
 
 static bool natural_in(void *object, zx_value *value) {
@@ -74,27 +78,38 @@ static void *object_of(const zx_value *value) {
     }
 }
 
-/* Puts the value at a place of a row of its kind. */
-static void spell(const zx_value *value, void *row, size_t at) {
-    switch (value->kind) {
-    case ZX_BOOL: ((bool *)row)[at] = value->natural != 0; break;
-    case ZX_U8: ((uint8_t *)row)[at] = (uint8_t)value->natural; break;
-    case ZX_I32: ((int32_t *)row)[at] = (int32_t)value->number; break;
-    case ZX_I64: ((int64_t *)row)[at] = value->number; break;
-    default: ((uint64_t *)row)[at] = value->natural;
+/* A row of ZX_I64, of which programs have most: half as many instructions for an element as the one below. */
+static bool numbers_of(void *list, int64_t *row, size_t count) {
+    int overflow;
+    for (size_t i = 0; i < count; i++) {
+        void *object = PyList_GetItem(list, (intptr_t)i);
+        if (!object || !is_of(object, PyLong_Type)) return false;
+        row[i] = PyLong_AsLongLongAndOverflow(object, &overflow);
+        if (overflow) return false;
     }
+    return true;
+}
+
+static bool values_of(void *list, uint32_t kind, void *row, size_t count) {
+    zx_value value;
+    for (size_t i = 0; i < count; i++) {
+        void *object = PyList_GetItem(list, (intptr_t)i);
+        if (!object || !value_in(object, kind, &value)) return false;
+        switch (kind) {
+        case ZX_BOOL: ((bool *)row)[i] = value.natural != 0; break;
+        case ZX_U8: ((uint8_t *)row)[i] = (uint8_t)value.natural; break;
+        case ZX_I32: ((int32_t *)row)[i] = (int32_t)value.number; break;
+        default: ((uint64_t *)row)[i] = value.natural;
+        }
+    }
+    return true;
 }
 
 bool zx_python_row(void *list, uint32_t kind, void *row, size_t count) {
-    zx_value value;
-    if (!PyList_GetItem) return false;
-    for (size_t i = 0; i < count; i++) {
-        void *object = PyList_GetItem(list, (intptr_t)i);
-        if (!object) PyErr_Clear();
-        if (!object || !value_in(object, kind, &value)) return false;
-        spell(&value, row, i);
-    }
-    return true;
+    if (!is_there()) return false;
+    bool is_row = kind == ZX_I64 ? numbers_of(list, row, count) : values_of(list, kind, row, count);
+    if (!is_row) PyErr_Clear();
+    return is_row;
 }
 
 /* ---- functions */
@@ -159,7 +174,7 @@ static void *at(void *self, void *const *passed, intptr_t count) {
 void *zx_python_at(zx_segment *segment, const zx_key *key, uint32_t kind, uint64_t thread, void *owner) {
     // METH_FASTCALL
     static struct method method = { "at", at, 0x80, "A value at a key or an index; or puts one there." };
-    if (!PyCFunction_NewEx) return NULL;
+    if (!is_there()) return NULL;
     struct place *place = malloc(sizeof *place);
     if (!place) return PyErr_NoMemory();
     *place = (struct place){ segment, thread, *key, kind, owner };

@@ -3,7 +3,6 @@ from __future__ import annotations
 
 import ctypes
 import os
-import sys
 from typing import Any, Dict, List
 
 BOOL, U8, I32, I64, U64, STRING, VECTOR, MAP, STRINGS = 1, 2, 3, 4, 5, 65536, 131072, 196608, 262144
@@ -152,7 +151,7 @@ zx = _load()
 free = ctypes.PyDLL(None).free
 free.argtypes, free.restype = [ctypes.c_void_p], None
 quick = _load_quick()
-HAS_PYTHON: bool = getattr(sys, "_is_gil_enabled", lambda: True)() and quick.zx_python_row([], U8, None, 0)
+HAS_PYTHON: bool = quick.zx_python_row([], U8, None, 0)
 """Whether the library takes this interpreter's own lists and numbers."""
 NO_SPACE = 9
 

@@ -7,8 +7,8 @@ ghost use Rattle.segment_disk.specs.Events.{nothing_taken};
 use raw_region::stream::{Reading, Writing};
 use segment_cli::SessionFault;
 use segment_commands::{
-    ProgramFault, check, create, draw, draw_page, dump, dump_capacities, explain, grow, lint, load,
-    migrate, print, print_language, report, report_file, run, run_strict, shrink, stat,
+    ProgramFault, check, create, draw, draw_page, dump, dump_capacities, dump_json, explain, grow,
+    lint, load, migrate, print, print_language, report, report_file, run, run_strict, shrink, stat,
 };
 use segment_disk::{HostDisk, Numbered, Outlet, Output, StopsAtError};
 use segment_invocation::{
@@ -99,6 +99,7 @@ fn command<O: Output + Drop>(
         Invocation::DrawPage(file) => draw_page(alloc, disk, file, &mut out),
         Invocation::Dump(file) => dump(alloc, disk, file, &mut out),
         Invocation::DumpCapacities(file) => dump_capacities(alloc, disk, file, &mut out),
+        Invocation::DumpJson(file) => dump_json(alloc, disk, file, &mut out),
         Invocation::Load(file, size) => {
             load(alloc, disk, file, size, &mut Reading::new(rt.reader()))
         }
@@ -175,6 +176,7 @@ fn file_of<'a>(asked: Invocation<'a>) -> Option<&'a str> {
         | Invocation::DrawPage(file)
         | Invocation::Dump(file)
         | Invocation::DumpCapacities(file)
+        | Invocation::DumpJson(file)
         | Invocation::Load(file, _) => Some(file),
         Invocation::Lint | Invocation::Language | Invocation::Version => None,
     }

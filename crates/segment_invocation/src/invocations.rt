@@ -58,24 +58,47 @@ pub struct Answering {
     pub numbered: bool,
 }
 
-/// What the program is asked for. A file goes by its path, and sizes count bytes.
+/// How the file of a command that writes is taken and saved.
 #[derive(Clone, Copy, Debug, PartialEq, Eq)]
+pub struct Keeping {
+    /// How a file that is there is saved.
+    pub saving: Saving,
+    /// `--wait`: for how many seconds the right to write the file is waited for, where another has it.
+    pub wait: u64,
+}
+
+/// Where the script of a run comes from.
+#[derive(Debug, Drop, PartialEq, Eq)]
+pub enum Script<'a> {
+    /// Standard input.
+    Input,
+    /// A file, by its path.
+    File(&'a str),
+    /// The command line: `-c` before each line.
+    Lines(Vec<&'a str>),
+}
+
+/// What the program is asked for. A file goes by its path, and sizes count bytes.
+#[derive(Debug, Drop, PartialEq, Eq)]
 pub enum Invocation<'a> {
     /// To make an empty segment of this size in a file that is not there.
     Create(&'a str, u64),
     /// To run a script on the segment in a file, in a mode, with the size of a segment that is made. The modes
     /// `create_only` and `open_or_create` have a size.
-    Run(&'a str, ModeName, Option<u64>, Saving, Answering),
+    Run(&'a str, ModeName, Option<u64>, Script<'a>, Keeping, Answering),
     /// To check that a file holds a segment.
     Check(&'a str),
+    /// To check that of several files, or of one, and to name those that hold none; of the others nothing where the
+    /// second is true.
+    CheckAll(Vec<&'a str>, bool),
     /// To check the same, and where it holds none to tell in words why, and which byte shows it.
     Explain(&'a str),
     /// To make the segment in a file larger by so many bytes.
-    Grow(&'a str, u64),
+    Grow(&'a str, u64, Keeping),
     /// To make the segment in a file as small as its last block lets it be.
-    Shrink(&'a str),
+    Shrink(&'a str, Keeping),
     /// To write the segment in a file, of this format or an older one, in this format.
-    Migrate(&'a str),
+    Migrate(&'a str, Keeping),
     /// To tell how the bytes of the segment in a file are used, in figures.
     Stat(&'a str),
     /// To draw the segment in a file.
@@ -88,9 +111,11 @@ pub enum Invocation<'a> {
     DumpCapacities(&'a str),
     /// To write its objects as lines of JSON.
     DumpJson(&'a str),
-    /// To make a segment of such a text in a file that is not there: of this size, or as long as the text says and cut
-    /// behind its last block.
-    Load(&'a str, Option<u64>),
+    /// To print the names of the segment in a file that begin with a text, in their order, at most so many.
+    Names(&'a str, &'a str, Option<u64>),
+    /// To make a segment of such a text: of this size, or as long as the text says and cut behind its last block. It is
+    /// made in a file that is not there, or is to take the place of the one that is.
+    Load(&'a str, Option<u64>, Keeping),
     /// To tell which lines of a script are no commands.
     Lint,
     /// To print the commands of a script.

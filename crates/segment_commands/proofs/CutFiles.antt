@@ -1,12 +1,10 @@
 -- A file that ends before the size that its first words say is too short, whatever it holds.
-use Rattle.std.proofs.Common.{◌≡◌, ◌<◌, ◌≤◌, ◌&&◌, ◌||◌, ℕ, ◌+◌, Bool, true, false, inl, inr, List, [], ◌++◌, length, drop, Some, Err, IsTrue, nat_lt, find, refl, sym, ap₂, subst, arith}
+use Rattle.std.proofs.Common.{◌≡◌, ◌<◌, ◌≤◌, ◌&&◌, ◌||◌, ℕ, ◌+◌, Bool, true, false, inl, inr, List, [], ◌++◌, length, drop, Some, Err, IsTrue, nat_lt, find, refl, sym, ap, ap₂, subst, arith}
 use Rattle.std.proofs.lemmas.Bool.Decides.{nat_tests}
 use Rattle.std.proofs.lemmas.List.{append-nil, get_or_append_left, length-append}
 use Rattle.raw_region.specs.Device.{Gave, Given, Grows, given_since}
-use Rattle.raw_region.specs.Format.{current}
 use Rattle.raw_region.specs.Memory.{Same, bytes_of, half_word_at, word_at, zeros}
 use Rattle.raw_region.proofs.Laws.{Same-half_word, Same-word, added, both_added, length-zeros}
-use Rattle.segment_manager.specs.declared.modes.Mode.{Mode}
 use Rattle.image_check.specs.declared.classes.ImageClass.{ImageClass}
 use Rattle.image_check.specs.declared.classes.ImageClass.TheVariants.{Truncated}
 use Rattle.image_check.specs.declared.errors.OpenError.TheVariants.{Image, RegionTooSmall}
@@ -14,12 +12,10 @@ use Rattle.image_check.specs.EarlyTests.{has_front, size_word}
 use Rattle.image_check.specs.Classes.{class_of, classes, holds}
 use Rattle.image_check.specs.Formats.{format_of}
 use Rattle.image_check.specs.Opening.{IsTooSmallFor}
-use Rattle.segment_cli.specs.declared.faults.Start.TheVariants.{Image as OfImage}
 use Rattle.segment_cli.specs.declared.faults.SessionFault.{SessionFault}
 use Rattle.segment_cli.specs.declared.faults.SessionFault.TheVariants.{Image as Refused, RegionTooSmall as NoRoom}
-use Rattle.segment_cli.specs.Beginning.{Starts}
 use Rattle.segment_disk.specs.Events.{nothing_given}
-use Rattle.segment_commands.specs.Opening.{BeginsIn, EndsWithin, IsToldByLength}
+use Rattle.segment_commands.specs.Opening.{EndsWithin, IsToldByLength}
 use Rattle.segment_commands.specs.Migrating.{BeginsAny}
 
 -- ---- what a reader gives on
@@ -41,7 +37,7 @@ module _ (b more : List ℕ) (long : 24 ≤ length b) where
   front_same : Same (bytes_of b) (bytes_of (b ++ more)) 0 24
   front_same = record { at = λ k from below. get_or_append_left b more 0 k (omega arith) }
 
-  size-stays : size_word (b ++ more) ≡ size_word b
+  pub size-stays : size_word (b ++ more) ≡ size_word b
   size-stays = Same-word (bytes_of b) (bytes_of (b ++ more)) 0 24 16 front_same (omega arith) (omega arith)
 
   magic-stays : word_at (bytes_of (b ++ more)) 0 ≡ word_at (bytes_of b) 0
@@ -50,7 +46,7 @@ module _ (b more : List ℕ) (long : 24 ≤ length b) where
   version-stays : half_word_at (bytes_of (b ++ more)) 8 ≡ half_word_at (bytes_of b) 8
   version-stays = Same-half_word (bytes_of b) (bytes_of (b ++ more)) 0 24 8 front_same (omega arith) (omega arith)
 
-  front-stays : (format : ℕ) → has_front format (b ++ more) ≡ has_front format b
+  pub front-stays : (format : ℕ) → has_front format (b ++ more) ≡ has_front format b
   front-stays format = rw (magic-stays, version-stays, size-stays) refl
 
   format-stays : format_of (b ++ more) ≡ format_of b
@@ -62,14 +58,14 @@ is_true : (a : Bool) → IsTrue a → a ≡ true
 is_true true h = refl
 is_true false h = absurd (cc)
 
-second : (a b : Bool) → b ≡ true → (a || b) ≡ true
+pub second : (a b : Bool) → b ≡ true → (a || b) ≡ true
 second true b e = refl
 second false b e = e
 
-below : (m n : ℕ) → m < n → nat_lt m n ≡ true
+pub below : (m n : ℕ) → m < n → nat_lt m n ≡ true
 below m n h = grind (arith, nat_tests)
 
-find-first : (p : ImageClass → Bool) → p Truncated ≡ true → find p classes ≡ Some Truncated
+pub find-first : (p : ImageClass → Bool) → p Truncated ≡ true → find p classes ≡ Some Truncated
 find-first p e = rw e refl
 
 module _ (format : ℕ) (image image' : Given) (more : List ℕ) (grown : image'.bytes ≡ image.bytes ++ more) (capacity : ℕ) (h : IsTooSmallFor format image 0 capacity) where
@@ -90,7 +86,7 @@ module _ (format : ℕ) (image image' : Given) (more : List ℕ) (grown : image'
   is_short within = find-first (holds format image'.bytes) (second (nat_lt (length image'.bytes) 144) _
       (ap₂ ◌&&◌ (is_true _ still_too_small.front) (below _ _ (less within))))
 
--- ---- as a session answers it
+-- ---- as a session answers it, of an image of any of the three formats
 
 -- what was read before, and what was read on to
 module _ (mid new : Gave) (grows : Grows mid.bytes new.bytes) where
@@ -100,42 +96,6 @@ module _ (mid new : Gave) (grows : Grows mid.bytes new.bytes) where
   no_failure : new.failures ≡ 0 → image.failed ≡ false
   no_failure e = rw e refl
 
-  module _ (mode : Mode) (capacity : ℕ) (starts : Starts OfImage mode 0 capacity (given_since nothing_given mid) (Err NoRoom)) where
-    too_small_file : BeginsIn OfImage mode image (Err NoRoom)
-    too_small_file = inr (record {
-      capacity = capacity;
-      starts = record {
-        answers = still_too_small current (given_since nothing_given mid) image _ grows capacity starts.answers;
-        left = tt;
-        bad_size = λ e. absurd e;
-        too_small = λ t. refl;
-      };
-    })
-
-    cut_file : (most : ℕ) → most ≤ capacity → EndsWithin most new → BeginsIn OfImage mode image (Err (Refused Truncated))
-    cut_file most room ends =
-        let few = ends.few in
-        inr (record {
-          capacity = size_word image.bytes;
-          starts = record {
-            answers = (
-              refl,
-              record {
-                sound = no_failure ends.sound;
-                right = inl (ends.ended, is_short current (given_since nothing_given mid) image _ grows capacity starts.answers (omega (arith, few, room)));
-              },
-            );
-            left = tt;
-            bad_size = λ e. absurd e;
-            too_small = λ t. absurd (let small = t.small in omega (arith, small));
-          };
-        })
-
-    pub told_file : (most : ℕ) → most ≤ capacity → (fault : SessionFault) → IsToldByLength most new fault → BeginsIn OfImage mode image (Err fault)
-    told_file most room fault (inl t) = subst (λ (f : SessionFault). BeginsIn OfImage mode image (Err f)) (sym t.0) (cut_file most room t.1)
-    told_file most room fault (inr e) = subst (λ (f : SessionFault). BeginsIn OfImage mode image (Err f)) (sym e.0) too_small_file
-
-  -- of an image of any of the three formats
   module _ (capacity : ℕ) (h : IsTooSmallFor (format_of mid.bytes) (given_since nothing_given mid) 0 capacity) where
     same_format : format_of image.bytes ≡ format_of mid.bytes
     same_format = subst (λ (b : List ℕ). format_of b ≡ format_of mid.bytes) (sym grows) (format-stays mid.bytes _ h.read)
@@ -178,3 +138,8 @@ module _ (mid new : Gave) (grows : Grows mid.bytes new.bytes) where
     pub told_any : (region : List ℕ) → length region ≡ capacity → (most : ℕ) → most ≤ capacity → (fault : SessionFault) → IsToldByLength most new fault → BeginsAny image (Err fault)
     told_any region is most room fault (inl t) = subst (λ (f : SessionFault). BeginsAny image (Err f)) (sym t.0) (cut_any most room t.1)
     told_any region is most room fault (inr e) = subst (λ (f : SessionFault). BeginsAny image (Err f)) (sym e.0) (too_small_any region is)
+
+-- what is told of a file by its length, without the place
+pub told_as : (room : ℕ) (gave : Gave) (unfit : Unfit) → IsUnfitByLength room gave unfit → IsToldByLength room gave (fault_for unfit)
+told_as room gave (UnfitImage v) t = inl (ap (λ (c : ImageClass). Refused c) t.0, t.2)
+told_as room gave (UnfitFault fault) t = inr t

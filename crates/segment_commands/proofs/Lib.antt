@@ -2,6 +2,7 @@ mod Ran
 mod Opened
 mod Commanded
 mod CutFiles
+mod ReadOn
 mod NewSegments
 mod Verified
 mod Linted

@@ -3,18 +3,18 @@
 
 mod answering;
 mod checking;
-mod counting;
 mod creating;
-mod cutting;
+mod examining;
 mod explaining;
 mod gathering;
-mod keeping;
+mod heading;
 mod linting;
 mod loading;
 mod migrating;
 mod modes;
 mod opening;
 mod program_faults;
+mod reading_on;
 mod reporting;
 mod reports;
 mod resizing;

@@ -1,17 +1,79 @@
 //! The command that writes an image of an older format anew in its file.
-ghost use Rattle.std.specs.Prelude.{◌≡◌, ◌^◌, ◌-◌, ◌<◌};
+ghost use Rattle.std.specs.Prelude.{◌≡◌, ◌^◌, ◌-◌, ◌<◌, Err};
+ghost use Rattle.raw_region.specs.Device.{given_since};
+ghost use Rattle.segment_cli.specs.declared.faults.SessionFault.TheVariants.{RegionTooSmall};
+ghost use Rattle.segment_disk.specs.Events.{nothing_given};
 ghost use Rattle.segment_commands.specs.Holding.{Holds};
-ghost use Rattle.segment_commands.specs.Migrating.{IsMigrate, OpensAnyFile};
+ghost use Rattle.segment_commands.specs.Migrating.{BeginsAny, IsMigrate, OpensAnyFile};
 
 use crate::creating::WRITE_FAULT;
-use crate::cutting::begin_any_from;
+use crate::heading::Headed;
 use crate::program_faults::ProgramFault;
+use crate::reading_on::{Again, read_on};
 use crate::telling::tell;
+use grow_shrink::region_for;
+use image_check::open_any;
+use raw_region::{Source, Steps};
 use segment_cli::SessionFault;
 use segment_disk::{Disk, Making, Opened, Output};
 use segment_file::{room_needed, write_image};
-use segment_manager::Segment;
+use segment_manager::{Mode, Segment};
 use std::alloc::Global;
+
+/// The segment of an image of any of the three formats, at the front of a region with room for so many bytes.
+fn begin_any_in<S: Source>(
+    alloc: Global,
+    reader: &mut S,
+    bytes: u64,
+) -> Result<Segment, SessionFault>
+    requires fresh { S.history reader.old ≡ nothing_given }
+    ensures { BeginsAny (given_since nothing_given (S.history reader.new)) result }
+{
+    let Ok(region) = region_for(alloc, bytes) else {
+        return Err(SessionFault::OutOfMemory);
+    };
+    match open_any(alloc, reader, region, 0, Mode::Write, &mut Steps::new()) {
+        Ok(segment) => Ok(segment),
+        Err(refused) => Err(SessionFault::from(refused)),
+    }
+}
+
+/// The same of an image that says more bytes than there was room for, and its reader. The image is read first, and has
+/// as much room as it says.
+fn begin_any_behind<S: Source>(
+    alloc: Global,
+    headed: Headed<S>,
+) -> (Result<Segment, SessionFault>, S)
+    requires { BeginsAny (given_since nothing_given (S.history headed.inner)) (Err RegionTooSmall) }
+    ensures { BeginsAny (given_since nothing_given (S.history result.1)) result.0 }
+{
+    let mut headed = headed;
+    match read_on(alloc, &mut headed) {
+        Ok(text) => {
+            let room = room_needed(text.len() as u64, 0);
+            let mut again = Again::new(headed.into_inner(), text);
+            let begun = begin_any_in(alloc, &mut again, room);
+            (begun, again.into_inner())
+        }
+        Err(unfit) => (Err(unfit.into_fault()), headed.into_inner()),
+    }
+}
+
+/// The segment of the image of a reader that was told to give `len` bytes, and the reader.
+fn begin_any_from<S: Source>(
+    alloc: Global,
+    reader: S,
+    len: u64,
+) -> (Result<Segment, SessionFault>, S)
+    requires fresh { S.history reader ≡ nothing_given }
+    ensures { BeginsAny (given_since nothing_given (S.history result.1)) result.0 }
+{
+    let mut headed = Headed::new(reader);
+    match begin_any_in(alloc, &mut headed, room_needed(len, 0)) {
+        Err(SessionFault::RegionTooSmall) => begin_any_behind(alloc, headed),
+        begun => (begun, headed.into_inner()),
+    }
+}
 
 /// The segment of the image in a file, of any of the three formats. The file is closed.
 fn open_any_segment<D: Disk>(
@@ -24,8 +86,8 @@ fn open_any_segment<D: Disk>(
     let Ok(opened) = disk.open(path) else {
         return Err(SessionFault::ReadFault);
     };
-    let Opened { reader, len, front } = opened;
-    let (begun, reader) = begin_any_from(alloc, reader, room_needed(len, &front, 0));
+    let Opened { reader, len } = opened;
+    let (begun, reader) = begin_any_from(alloc, reader, len);
     disk.close(reader);
     begun
 }

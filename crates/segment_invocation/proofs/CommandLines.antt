@@ -1,5 +1,5 @@
 -- The command lines that are always understood.
-use Rattle.std.proofs.Common.{◌≡◌, refl, sym, ap, ap₂, ◌∙◌, ℕ, ◌==◌, ◌&&◌, Bool, true, false, not, List, [], ◌∷◌, ◌++◌, Option, Some, None, codes, arith, inl, inr, drop, tt}
+use Rattle.std.proofs.Common.{◌≡◌, refl, sym, subst, ap, ap₂, ◌∙◌, ℕ, ◌==◌, ◌&&◌, Bool, true, false, not, List, [], ◌∷◌, ◌++◌, Option, Some, None, codes, arith, inl, inr, drop, tt}
 use Rattle.std.specs.List.{list_all}
 use Rattle.std.specs.Prelude.{◌⊎◌, is_some, if◌then◌else◌, IsTrue, nat_le, option_map, option_and_then}
 use Rattle.std.proofs.lemmas.Bool.{and_parts}
@@ -12,7 +12,7 @@ use Rattle.clap.specs.Takes.{built_takes, default_passes, entered_passes, is_val
 use Rattle.clap.specs.Faults.{built_fault, fault_of, is_simple_and_free}
 use Rattle.clap.specs.declared.error.kind.ErrorKind.TheVariants.{DisplayVersion}
 use Rattle.segment_lang.specs.Words.{between, is_digit, is_numeral, number_after, number_of}
-use Rattle.segment_invocation.specs.Invocations.{Asked, Origin, create, run, check, check_all, explain, grow, shrink, migrate, stat, draw, draw_page, dump, dump_capacities, dump_json, names, load, lint, language, version, input, from_file, from_lines, IsModePart, IsMostPart, IsOriginPart, IsPart, IsRunWritten, IsSizePart, IsWritten, RunWords, asked_in, asked_of, asked_of_run, command_line, flag_words, is_path, is_set, lacks_size, line_words, mode_called, mode_of, mode_word, run_sized, saving_of, saving_part, seconds_of, size_of, wants_size}
+use Rattle.segment_invocation.specs.Invocations.{Asked, Origin, create, run, run_with, ran, is_plain_run, check, check_all, explain, grow, grow_with, shrink, shrink_with, migrate, migrate_with, stat, draw, draw_page, dump, dump_capacities, dump_json, names, load, lint, language, version, input, from_file, from_lines, IsModePart, IsMostPart, IsOriginPart, IsPart, IsRunWritten, IsSizePart, IsWritten, RunWords, asked_in, asked_of, asked_of_run, command_line, flag_words, is_path, is_set, lacks_size, line_words, mode_called, mode_of, mode_word, run_sized, saving_of, saving_part, seconds_of, size_of, wants_size}
 use Rattle.segment_invocation.specs.declared.invocations.ModeName.{ModeName}
 use Rattle.segment_invocation.specs.declared.invocations.ModeName.TheVariants.{CreateOnly, OpenOnly, OpenOrCreate, OpenReadOnly, OpenCopyOnWrite}
 use Rattle.segment_invocation.specs.declared.invocations.Saving.{Saving}
@@ -81,15 +81,18 @@ behind-create f d n p h = record {
   asks = (create-asks f d p (number-plain d n h)).found ∙ ap (option_and_then (λ n. Some (create f n))) h;
 }
 
-behind-grow : (f d : Text) (n : ℕ) (saving : Saving) → IsPlain f → number_of d ≡ Some n → Behind (codes "grow" ∷ f ∷ d ∷ saving_part saving) (grow f n saving 0)
+behind-grow : (f d : Text) (n : ℕ) → IsPlain f → number_of d ≡ Some n → Behind (codes "grow" ∷ f ∷ d ∷ []) (grow f n)
 unfolding clap_on_literals
-behind-grow f d n InPlace p h = record {
+behind-grow f d n p h = record {
   takes = ap (λ b. b && true) (grow-asks f d InPlace p (number-plain d n h)).passes;
-  asks = (grow-asks f d InPlace p (number-plain d n h)).found ∙ ap (option_and_then (λ n. Some (grow f n InPlace 0))) h;
+  asks = (grow-asks f d InPlace p (number-plain d n h)).found ∙ ap (option_and_then (λ n. Some (grow f n))) h;
 }
-behind-grow f d n Replacing p h = record {
+
+behind-grow-replaced : (f d : Text) (n : ℕ) → IsPlain f → number_of d ≡ Some n → Behind (codes "grow" ∷ f ∷ d ∷ codes "--replace" ∷ []) (grow_with f n Replacing 0)
+unfolding clap_on_literals
+behind-grow-replaced f d n p h = record {
   takes = ap (λ b. b && true) (grow-asks f d Replacing p (number-plain d n h)).passes;
-  asks = (grow-asks f d Replacing p (number-plain d n h)).found ∙ ap (option_and_then (λ n. Some (grow f n Replacing 0))) h;
+  asks = (grow-asks f d Replacing p (number-plain d n h)).found ∙ ap (option_and_then (λ n. Some (grow_with f n Replacing 0))) h;
 }
 
 behind-check : (f : Text) → IsPlain f → Behind (codes "check" ∷ f ∷ []) (check f)
@@ -104,15 +107,21 @@ behind-explain : (f : Text) → IsPlain f → Behind (codes "check" ∷ f ∷ co
 unfolding clap_on_literals
 behind-explain f p = record { takes = ap (λ b. b && true) (explain-asks f p).passes; asks = (explain-asks f p).found }
 
-behind-shrink : (f : Text) (saving : Saving) → IsPlain f → Behind (codes "shrink" ∷ f ∷ saving_part saving) (shrink f saving 0)
+behind-shrink : (f : Text) → IsPlain f → Behind (codes "shrink" ∷ f ∷ []) (shrink f)
 unfolding clap_on_literals
-behind-shrink f InPlace p = record { takes = ap (λ b. b && true) (shrink-asks f InPlace p).passes; asks = (shrink-asks f InPlace p).found }
-behind-shrink f Replacing p = record { takes = ap (λ b. b && true) (shrink-asks f Replacing p).passes; asks = (shrink-asks f Replacing p).found }
+behind-shrink f p = record { takes = ap (λ b. b && true) (shrink-asks f InPlace p).passes; asks = (shrink-asks f InPlace p).found }
 
-behind-migrate : (f : Text) (saving : Saving) → IsPlain f → Behind (codes "migrate" ∷ f ∷ saving_part saving) (migrate f saving 0)
+behind-shrink-replaced : (f : Text) → IsPlain f → Behind (codes "shrink" ∷ f ∷ codes "--replace" ∷ []) (shrink_with f Replacing 0)
 unfolding clap_on_literals
-behind-migrate f InPlace p = record { takes = ap (λ b. b && true) (migrate-asks f InPlace p).passes; asks = (migrate-asks f InPlace p).found }
-behind-migrate f Replacing p = record { takes = ap (λ b. b && true) (migrate-asks f Replacing p).passes; asks = (migrate-asks f Replacing p).found }
+behind-shrink-replaced f p = record { takes = ap (λ b. b && true) (shrink-asks f Replacing p).passes; asks = (shrink-asks f Replacing p).found }
+
+behind-migrate : (f : Text) → IsPlain f → Behind (codes "migrate" ∷ f ∷ []) (migrate f)
+unfolding clap_on_literals
+behind-migrate f p = record { takes = ap (λ b. b && true) (migrate-asks f InPlace p).passes; asks = (migrate-asks f InPlace p).found }
+
+behind-migrate-replaced : (f : Text) → IsPlain f → Behind (codes "migrate" ∷ f ∷ codes "--replace" ∷ []) (migrate_with f Replacing 0)
+unfolding clap_on_literals
+behind-migrate-replaced f p = record { takes = ap (λ b. b && true) (migrate-asks f Replacing p).passes; asks = (migrate-asks f Replacing p).found }
 
 behind-stat : (f : Text) → IsPlain f → Behind (codes "stat" ∷ f ∷ []) (stat f)
 unfolding clap_on_literals
@@ -204,7 +213,7 @@ sets false = refl
 -- a run of standard input in a mode, with a size where it wants one
 abbrev in_mode : Text → Option ModeName → Option (Option ℕ) → Saving → Bool → Bool → Option Asked
 in_mode f mode size saving strict numbered =
-    option_and_then (λ m. option_and_then (λ n. if lacks_size m n then None else Some (run f m n input saving 0 strict numbered)) size) mode
+    option_and_then (λ m. option_and_then (λ n. if lacks_size m n then None else Some (ran f m n input saving 0 strict numbered)) size) mode
 
 -- the flags say what is asked for
 flags-ask : (f : Text) (mode : Option Text) (size : Option Text) (saving : Saving) (strict numbered : Bool)
@@ -215,10 +224,10 @@ flags-ask f mode size saving strict numbered =
 
 -- a mode that has the size that it wants
 sized : (f : Text) (mode : ModeName) (size : Option ℕ) (saving : Saving) (strict numbered : Bool) → lacks_size mode size ≡ false
-    → in_mode f (mode_called (mode_word mode)) (Some size) saving strict numbered ≡ Some (run f mode size input saving 0 strict numbered)
+    → in_mode f (mode_called (mode_word mode)) (Some size) saving strict numbered ≡ Some (ran f mode size input saving 0 strict numbered)
 sized f mode size saving strict numbered h =
     ap (λ m. in_mode f m (Some size) saving strict numbered) (called mode)
-    ∙ ap (λ b. if b then None else Some (run f mode size input saving 0 strict numbered)) h
+    ∙ ap (λ b. if b then None else Some (ran f mode size input saving 0 strict numbered)) h
 
 with-size : (mode : ModeName) (n : ℕ) → lacks_size mode (Some n) ≡ false
 with-size CreateOnly n = refl
@@ -266,27 +275,27 @@ behind-read words what a r h = record {
   asks = ap (λ (w : Walk). asked_of (entered app w.stopped)) (run-walk words) ∙ (ap asked_of_run r.found ∙ h);
 }
 
-behind-run : (f : Text) (saving : Saving) (strict numbered : Bool) → IsPlain f → Behind (codes "run" ∷ f ∷ flag_words saving strict numbered) (run f OpenOnly None input saving 0 strict numbered)
+behind-run : (f : Text) (saving : Saving) (strict numbered : Bool) → IsPlain f → Behind (codes "run" ∷ f ∷ flag_words saving strict numbered) (ran f OpenOnly None input saving 0 strict numbered)
 behind-run f saving strict numbered p = behind-read _ _ _ (run-file f saving strict numbered p) (flags-ask f None None saving strict numbered)
 
 behind-mode : (f : Text) (mode : ModeName) (saving : Saving) (strict numbered : Bool) → IsPlain f → wants_size mode ≡ false
-    → Behind (codes "run" ∷ f ∷ codes "--mode" ∷ mode_word mode ∷ flag_words saving strict numbered) (run f mode None input saving 0 strict numbered)
+    → Behind (codes "run" ∷ f ∷ codes "--mode" ∷ mode_word mode ∷ flag_words saving strict numbered) (ran f mode None input saving 0 strict numbered)
 behind-mode f mode saving strict numbered p h = behind-read _ _ _ (run-mode f (mode_word mode) saving strict numbered p (mode-plain mode))
     (flags-ask f (Some (mode_word mode)) None saving strict numbered ∙ sized f mode None saving strict numbered (without-size mode h))
 
 behind-size : (f d : Text) (n : ℕ) (saving : Saving) (strict numbered : Bool) → IsPlain f → number_of d ≡ Some n
-    → Behind (codes "run" ∷ f ∷ codes "--size" ∷ d ∷ flag_words saving strict numbered) (run f OpenOnly (Some n) input saving 0 strict numbered)
+    → Behind (codes "run" ∷ f ∷ codes "--size" ∷ d ∷ flag_words saving strict numbered) (ran f OpenOnly (Some n) input saving 0 strict numbered)
 behind-size f d n saving strict numbered p h = behind-read _ _ _ (run-size f d saving strict numbered p (number-plain d n h))
     (flags-ask f None (Some d) saving strict numbered ∙ ap (λ o. in_mode f (Some OpenOnly) (option_map Some o) saving strict numbered) h)
 
 behind-both : (f d : Text) (mode : ModeName) (n : ℕ) (saving : Saving) (strict numbered : Bool) → IsPlain f → number_of d ≡ Some n
-    → Behind (codes "run" ∷ f ∷ codes "--mode" ∷ mode_word mode ∷ codes "--size" ∷ d ∷ flag_words saving strict numbered) (run f mode (Some n) input saving 0 strict numbered)
+    → Behind (codes "run" ∷ f ∷ codes "--mode" ∷ mode_word mode ∷ codes "--size" ∷ d ∷ flag_words saving strict numbered) (ran f mode (Some n) input saving 0 strict numbered)
 behind-both f d mode n saving strict numbered p h = behind-read _ _ _ (run-both f (mode_word mode) d saving strict numbered p (mode-plain mode) (number-plain d n h))
     (flags-ask f (Some (mode_word mode)) (Some d) saving strict numbered
     ∙ (ap (λ o. in_mode f (mode_called (mode_word mode)) (option_map Some o) saving strict numbered) h ∙ sized f mode (Some n) saving strict numbered (with-size mode n)))
 
 behind-options : (f : Text) (modes sizes flags : List Text) (mode : ModeName) (size : Option ℕ) (saving : Saving) (strict numbered : Bool) → flags ≡ flag_words saving strict numbered → IsPlain f
-    → IsModePart modes mode → IsSizePart sizes mode size → Behind (codes "run" ∷ f ∷ modes ++ (sizes ++ flags)) (run f mode size input saving 0 strict numbered)
+    → IsModePart modes mode → IsSizePart sizes mode size → Behind (codes "run" ∷ f ∷ modes ++ (sizes ++ flags)) (ran f mode size input saving 0 strict numbered)
 behind-options f modes sizes flags mode None v t n e p (inl m) (s, w) = rw (e, m, s) (behind-mode f mode v t n p w)
 behind-options f modes sizes flags mode None v t n e p (inr (m, o)) (s, w) = rw (e, m, s, o) (behind-run f v t n p)
 behind-options f modes sizes flags mode (Some k) v t n e p (inl m) (d, h, s) = rw (e, m, s) (behind-both f d mode k v t n p h)
@@ -294,7 +303,7 @@ behind-options f modes sizes flags mode (Some k) v t n e p (inr (m, o)) (d, h, s
 
 -- a run of a script that the command line names or has
 abbrev of_script : Text → Origin → Asked
-of_script f origin = run f OpenOnly None origin InPlace 0 false false
+of_script f origin = ran f OpenOnly None origin InPlace 0 false false
 
 behind-origin : (f : Text) (words : List Text) (origin : Origin) → IsPlain f → IsOriginPart words origin → Behind (codes "run" ∷ f ∷ words) (of_script f origin)
 behind-origin f words input p e = rw e (behind-run f InPlace false false p)
@@ -305,11 +314,11 @@ behind-origin f words (from_lines (l ∷ ls)) p (t, e) =
     rw e (behind-read _ _ _ (lines-ask f l ls p (path-plain l both.0) (lines-plain ls both.1)) refl)
 
 behind-script : (f : Text) (mode : ModeName) (size : Option ℕ) (origin : Origin) (saving : Saving) (strict numbered : Bool) (words origins : List Text) → IsPlain f → IsOriginPart origins origin
-    → mode ≡ OpenOnly → size ≡ None → saving ≡ InPlace → strict ≡ false → numbered ≡ false → words ≡ codes "run" ∷ f ∷ origins → Behind words (run f mode size origin saving 0 strict numbered)
+    → mode ≡ OpenOnly → size ≡ None → saving ≡ InPlace → strict ≡ false → numbered ≡ false → words ≡ codes "run" ∷ f ∷ origins → Behind words (ran f mode size origin saving 0 strict numbered)
 behind-script f mode size origin saving strict numbered words origins p o m z s t n e = rw (e, m, z, s, t, n) (behind-origin f origins origin p o)
 
 behind-written : (f : Text) (mode : ModeName) (size : Option ℕ) (origin : Origin) (saving : Saving) (strict numbered : Bool) (words : List Text) → IsPlain f
-    → IsRunWritten f mode size origin saving strict numbered words → Behind words (run f mode size origin saving 0 strict numbered)
+    → IsRunWritten f mode size origin saving strict numbered words → Behind words (ran f mode size origin saving 0 strict numbered)
 behind-written f mode size input saving strict numbered words p (modes, sizes, m, s, e) = rw e (behind-options f modes sizes _ mode size saving strict numbered refl p m s)
 behind-written f mode size (from_file path) saving strict numbered words p (origins, o, m, z, s, t, n, e) = behind-script f mode size (from_file path) saving strict numbered words origins p o m z s t n e
 behind-written f mode size (from_lines ls) saving strict numbered words p (origins, o, m, z, s, t, n, e) = behind-script f mode size (from_lines ls) saving strict numbered words origins p o m z s t n e
@@ -323,15 +332,25 @@ asks-version : IsVersion (codes "--version" ∷ []) version
 unfolding clap_on_literals
 asks-version = record { is = refl; fault = refl }
 
+-- a run that has options
+with-options : (f : Text) (mode : ModeName) (size : Option ℕ) (origin : Origin) (saving : Saving) (strict numbered : Bool) (words : List Text) → is_plain_run origin saving 0 strict numbered ≡ false
+    → Behind words (ran f mode size origin saving 0 strict numbered) → Behind words (run_with f mode size origin saving 0 strict numbered)
+with-options f mode size origin saving strict numbered words h b =
+    subst (Behind words) (ap (λ p. if p then run f mode size else run_with f mode size origin saving 0 strict numbered) h) b
+
 behind : (words : List Text) (a : Asked) → IsWritten a words → Behind words a ⊎ IsVersion words a
 behind words (create f n) (p, d, h, e) = inl (rw e (behind-create f d n (path-plain f p) h))
-behind words (run f mode size origin saving wait strict numbered) (p, w, r) = inl (rw w (behind-written f mode size origin saving strict numbered words (path-plain f p) r))
+behind words (run f mode size) (p, r) = inl (behind-written f mode size input InPlace false false words (path-plain f p) r)
+behind words (run_with f mode size origin saving wait strict numbered) (p, w, o, r) = inl (rw w (with-options f mode size origin saving strict numbered words o (behind-written f mode size origin saving strict numbered words (path-plain f p) r)))
 behind words (check f) (p, e) = inl (rw e (behind-check f (path-plain f p)))
 behind words (check_all files quiet) (f, p, l, q, e) = inl (rw (e, l, q) (behind-quiet f (path-plain f p)))
 behind words (explain f) (p, e) = inl (rw e (behind-explain f (path-plain f p)))
-behind words (grow f n saving wait) (p, w, d, h, e) = inl (rw (e, w) (behind-grow f d n saving (path-plain f p) h))
-behind words (shrink f saving wait) (p, w, e) = inl (rw (e, w) (behind-shrink f saving (path-plain f p)))
-behind words (migrate f saving wait) (p, w, e) = inl (rw (e, w) (behind-migrate f saving (path-plain f p)))
+behind words (grow f n) (p, d, h, e) = inl (rw e (behind-grow f d n (path-plain f p) h))
+behind words (grow_with f n saving wait) (p, w, v, d, h, e) = inl (rw (e, w, v) (behind-grow-replaced f d n (path-plain f p) h))
+behind words (shrink f) (p, e) = inl (rw e (behind-shrink f (path-plain f p)))
+behind words (shrink_with f saving wait) (p, w, v, e) = inl (rw (e, w, v) (behind-shrink-replaced f (path-plain f p)))
+behind words (migrate f) (p, e) = inl (rw e (behind-migrate f (path-plain f p)))
+behind words (migrate_with f saving wait) (p, w, v, e) = inl (rw (e, w, v) (behind-migrate-replaced f (path-plain f p)))
 behind words (stat f) (p, e) = inl (rw e (behind-stat f (path-plain f p)))
 behind words (draw f) (p, e) = inl (rw e (behind-draw f (path-plain f p)))
 behind words (draw_page f) (p, e) = inl (rw e (behind-page f (path-plain f p)))

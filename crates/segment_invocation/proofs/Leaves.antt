@@ -11,7 +11,7 @@ use Rattle.clap.specs.Takes.{default_passes, is_valid, level_passes, settle_pass
 use Rattle.clap.specs.declared.builder.value_parser.Reading.TheVariants as reading
 use Rattle.clap.specs.declared.parser.matches.ValueSource.TheVariants.{CommandLine}
 use Rattle.segment_lang.specs.Words.{number_of}
-use Rattle.segment_invocation.specs.Invocations.{Asked, RunWords, asked_in, check, check_all, check_command, create, create_command, draw, draw_command, draw_page, dump, dump_capacities, dump_command, dump_json, explain, file_command, flag_words, grow, grow_command, kept_command, line_words, load, load_command, migrate, names, names_command, program, run_command, run_words, saving_part, shrink, size_of, stat}
+use Rattle.segment_invocation.specs.Invocations.{Asked, RunWords, asked_in, check, check_all, check_command, create, create_command, draw, draw_command, draw_page, dump, dump_capacities, dump_command, dump_json, explain, file_command, flag_words, grow, grow_command, grow_with, kept_as, kept_command, line_words, load, load_command, migrate, migrate_with, names, names_command, program, run_command, run_words, saving_part, shrink, shrink_with, size_of, stat}
 use Rattle.segment_invocation.specs.declared.invocations.Saving.{Saving}
 use Rattle.segment_invocation.specs.declared.invocations.Saving.TheVariants.{InPlace, Replacing}
 use Rattle.segment_invocation.proofs.PlainWords.{IsPlain, plain_step, turn-plain, walked-plain}
@@ -168,15 +168,15 @@ pub json-asks : (f : Text) → IsPlain f → IsAsk (leaf dump_command) (asked_in
 unfolding clap_on_literals
 json-asks f p = flagged (leaf dump_command) (asked_in (codes "dump")) f (codes "--json" ∷ []) (Some (dump_json f)) p refl refl refl refl
 
-pub shrink-asks : (f : Text) (saving : Saving) → IsPlain f → IsAsk (leaf (kept_command (codes "shrink"))) (asked_in (codes "shrink")) (f ∷ saving_part saving) (Some (shrink f saving 0))
+pub shrink-asks : (f : Text) (saving : Saving) → IsPlain f → IsAsk (leaf (kept_command (codes "shrink"))) (asked_in (codes "shrink")) (f ∷ saving_part saving) (Some (kept_as (shrink f) (shrink_with f) saving 0))
 unfolding clap_on_literals
-shrink-asks f InPlace p = flagged (leaf (kept_command (codes "shrink"))) (asked_in (codes "shrink")) f (saving_part InPlace) (Some (shrink f InPlace 0)) p refl refl refl refl
-shrink-asks f Replacing p = flagged (leaf (kept_command (codes "shrink"))) (asked_in (codes "shrink")) f (saving_part Replacing) (Some (shrink f Replacing 0)) p refl refl refl refl
+shrink-asks f InPlace p = flagged (leaf (kept_command (codes "shrink"))) (asked_in (codes "shrink")) f (saving_part InPlace) (Some (shrink f)) p refl refl refl refl
+shrink-asks f Replacing p = flagged (leaf (kept_command (codes "shrink"))) (asked_in (codes "shrink")) f (saving_part Replacing) (Some (shrink_with f Replacing 0)) p refl refl refl refl
 
-pub migrate-asks : (f : Text) (saving : Saving) → IsPlain f → IsAsk (leaf (kept_command (codes "migrate"))) (asked_in (codes "migrate")) (f ∷ saving_part saving) (Some (migrate f saving 0))
+pub migrate-asks : (f : Text) (saving : Saving) → IsPlain f → IsAsk (leaf (kept_command (codes "migrate"))) (asked_in (codes "migrate")) (f ∷ saving_part saving) (Some (kept_as (migrate f) (migrate_with f) saving 0))
 unfolding clap_on_literals
-migrate-asks f InPlace p = flagged (leaf (kept_command (codes "migrate"))) (asked_in (codes "migrate")) f (saving_part InPlace) (Some (migrate f InPlace 0)) p refl refl refl refl
-migrate-asks f Replacing p = flagged (leaf (kept_command (codes "migrate"))) (asked_in (codes "migrate")) f (saving_part Replacing) (Some (migrate f Replacing 0)) p refl refl refl refl
+migrate-asks f InPlace p = flagged (leaf (kept_command (codes "migrate"))) (asked_in (codes "migrate")) f (saving_part InPlace) (Some (migrate f)) p refl refl refl refl
+migrate-asks f Replacing p = flagged (leaf (kept_command (codes "migrate"))) (asked_in (codes "migrate")) f (saving_part Replacing) (Some (migrate_with f Replacing 0)) p refl refl refl refl
 
 -- ---- a file and a number
 
@@ -192,15 +192,15 @@ create-asks f d p q =
     (number s (after_file s f).held d q refl) refl refl refl
 
 pub grow-asks : (f d : Text) (saving : Saving) → IsPlain f → IsPlain d
-    → IsAsk (leaf grow_command) (asked_in (codes "grow")) (f ∷ d ∷ saving_part saving) (option_and_then (λ n. Some (grow f n saving 0)) (number_of d))
+    → IsAsk (leaf grow_command) (asked_in (codes "grow")) (f ∷ d ∷ saving_part saving) (option_and_then (λ n. Some (kept_as (grow f n) (grow_with f n) saving 0)) (number_of d))
 unfolding clap_on_literals
 grow-asks f d InPlace p q =
     let s : Shape = leaf grow_command in
-    behind s (asked_in (codes "grow")) f (d ∷ []) (saving_part InPlace) (plain_step s.rules (after_file s f) d) (option_and_then (λ n. Some (grow f n InPlace 0)) (number_of d)) p refl
+    behind s (asked_in (codes "grow")) f (d ∷ []) (saving_part InPlace) (plain_step s.rules (after_file s f) d) (option_and_then (λ n. Some (grow f n)) (number_of d)) p refl
     (number s (after_file s f).held d q refl) refl refl refl
 grow-asks f d Replacing p q =
     let s : Shape = leaf grow_command in
-    behind s (asked_in (codes "grow")) f (d ∷ []) (saving_part Replacing) (plain_step s.rules (after_file s f) d) (option_and_then (λ n. Some (grow f n Replacing 0)) (number_of d)) p refl
+    behind s (asked_in (codes "grow")) f (d ∷ []) (saving_part Replacing) (plain_step s.rules (after_file s f) d) (option_and_then (λ n. Some (grow_with f n Replacing 0)) (number_of d)) p refl
     (number s (after_file s f).held d q refl) refl refl refl
 
 -- ---- a file, and options

@@ -15,7 +15,7 @@ use Rattle.clap.specs.declared.error.kind.ErrorKind.TheVariants.{DisplayVersion}
 use Rattle.clap.specs.declared.builder.action.ArgAction.TheVariants.{Append, Set, SetTrue}
 use Rattle.segment_lang.specs.Words.{number_of}
 use Rattle.segment_invocation.specs.declared.invocations.Invocation.{Invocation}
-use Rattle.segment_invocation.specs.declared.invocations.Invocation.TheVariants.{Create, Run, Check, CheckAll, Explain, Grow, Shrink, Migrate, Stat, Draw, DrawPage, Dump, DumpCapacities, DumpJson, Names, Load, Lint, Language, Version}
+use Rattle.segment_invocation.specs.declared.invocations.Invocation.TheVariants.{Create, Run, RunWith, Check, CheckAll, Explain, Grow, GrowWith, Shrink, ShrinkWith, Migrate, MigrateWith, Stat, Draw, DrawPage, Dump, DumpCapacities, DumpJson, Names, Load, Lint, Language, Version}
 use Rattle.segment_invocation.specs.declared.invocations.ModeName.{ModeName}
 use Rattle.segment_invocation.specs.declared.invocations.ModeName.TheVariants.{CreateOnly, OpenOnly, OpenOrCreate, OpenReadOnly, OpenCopyOnWrite}
 use Rattle.segment_invocation.specs.declared.invocations.Saving.{Saving}
@@ -113,18 +113,22 @@ pub data Origin : Type 0 where
   from_file : Text → Origin
   from_lines : List Text → Origin
 
--- a file goes by its path; a file that is written has how it is saved, and how many seconds are waited for it; a run says
--- whether it is strict, and whether its answers are numbered; a check of all says whether it is quiet; names begin with a
--- text and may be limited; a load has a size or takes the least
+-- a file goes by its path; a file that is written may have how it is saved, and how many seconds are waited for it; a run
+-- may also have a script, and whether it is strict, and its answers are numbered; a check of all says whether it is quiet;
+-- names begin with a text and may be limited; a load has a size or takes the least
 pub data Asked : Type 0 where
   create : Text → ℕ → Asked
-  run : Text → ModeName → Option ℕ → Origin → Saving → ℕ → Bool → Bool → Asked
+  run : Text → ModeName → Option ℕ → Asked
+  run_with : Text → ModeName → Option ℕ → Origin → Saving → ℕ → Bool → Bool → Asked
   check : Text → Asked
   check_all : List Text → Bool → Asked
   explain : Text → Asked
-  grow : Text → ℕ → Saving → ℕ → Asked
-  shrink : Text → Saving → ℕ → Asked
-  migrate : Text → Saving → ℕ → Asked
+  grow : Text → ℕ → Asked
+  grow_with : Text → ℕ → Saving → ℕ → Asked
+  shrink : Text → Asked
+  shrink_with : Text → Saving → ℕ → Asked
+  migrate : Text → Asked
+  migrate_with : Text → Saving → ℕ → Asked
   stat : Text → Asked
   draw : Text → Asked
   draw_page : Text → Asked
@@ -144,13 +148,17 @@ origin_by (script.Lines texts) = from_lines (map (λ s. s.now) texts.items)
 
 abbrev pub asked_by : Invocation → Asked
 asked_by (Create file size) = create file.now size
-asked_by (Run file mode size origin keeping answering) = run file.now mode size (origin_by origin) keeping.saving keeping.wait answering.strict answering.numbered
+asked_by (Run file mode size) = run file.now mode size
+asked_by (RunWith file mode size how) = run_with file.now mode size (origin_by how.script) how.keeping.saving how.keeping.wait how.answering.strict how.answering.numbered
 asked_by (Check file) = check file.now
 asked_by (CheckAll files quiet) = check_all (map (λ s. s.now) files.items) quiet
 asked_by (Explain file) = explain file.now
-asked_by (Grow file bytes keeping) = grow file.now bytes keeping.saving keeping.wait
-asked_by (Shrink file keeping) = shrink file.now keeping.saving keeping.wait
-asked_by (Migrate file keeping) = migrate file.now keeping.saving keeping.wait
+asked_by (Grow file bytes) = grow file.now bytes
+asked_by (GrowWith file bytes keeping) = grow_with file.now bytes keeping.saving keeping.wait
+asked_by (Shrink file) = shrink file.now
+asked_by (ShrinkWith file keeping) = shrink_with file.now keeping.saving keeping.wait
+asked_by (Migrate file) = migrate file.now
+asked_by (MigrateWith file keeping) = migrate_with file.now keeping.saving keeping.wait
 asked_by (Stat file) = stat file.now
 asked_by (Draw file) = draw file.now
 asked_by (DrawPage file) = draw_page file.now
@@ -216,6 +224,26 @@ origin_of None (line ∷ rest) = Some (from_lines (line ∷ rest))
 origin_of (Some path) [] = Some (from_file path)
 origin_of (Some path) (line ∷ rest) = None
 
+-- no option says otherwise how a file is taken and saved
+abbrev pub is_plain : Saving → ℕ → Bool
+is_plain InPlace wait = wait == 0
+is_plain Replacing wait = false
+
+-- no option says otherwise what a run is asked for
+abbrev pub is_plain_run : Origin → Saving → ℕ → Bool → Bool → Bool
+is_plain_run input saving wait strict numbered = is_plain saving wait && (not strict && not numbered)
+is_plain_run origin saving wait strict numbered = false
+
+-- a run, with its options where there are some
+abbrev pub ran : Text → ModeName → Option ℕ → Origin → Saving → ℕ → Bool → Bool → Asked
+ran file mode size origin saving wait strict numbered =
+    if is_plain_run origin saving wait strict numbered then run file mode size
+    else run_with file mode size origin saving wait strict numbered
+
+-- another command, with its options where there are some
+abbrev pub kept_as : Asked → (Saving → ℕ → Asked) → Saving → ℕ → Asked
+kept_as plain with saving wait = if is_plain saving wait then plain else with saving wait
+
 -- the values of a word that may stand there more than once
 abbrev pub list_of : Text → List Row → List Text
 list_of id words = unwrap_or (all_of id words) []
@@ -230,6 +258,12 @@ with_number ask words = with_file (λ file. option_and_then (ask file) (option_a
 -- how a file is taken and saved: the flag --replace, and the seconds of --wait
 abbrev pub with_kept : (Saving → ℕ → Asked) → List Row → Option Asked
 with_kept ask words = option_map (ask (saving_of (first_of (codes "replace") words))) (seconds_of (first_of (codes "wait") words))
+
+abbrev pub asked_kept : (Text → Asked) → (Text → Saving → ℕ → Asked) → List Row → Option Asked
+asked_kept plain with words = with_file (λ file. with_kept (kept_as (plain file) (with file)) words) words
+
+abbrev pub asked_grow : List Row → Option Asked
+asked_grow words = with_number (λ file n. with_kept (kept_as (grow file n) (grow_with file n)) words) words
 
 -- a check of these files, the first of which this is, and its flags --explain and --quiet: one file alone is explained
 abbrev pub checked_of : Text → List Text → Bool → Bool → Option Asked
@@ -291,7 +325,7 @@ lacks_size mode size = wants_size mode && not (is_some size)
 abbrev pub run_sized : RunWords → Text → ModeName → Option ℕ → Origin → ℕ → Option Asked
 run_sized said file mode size origin wait =
     if lacks_size mode size then None
-    else Some (run file mode size origin (saving_of said.replace) wait (is_set said.strict) (is_set said.numbered))
+    else Some (ran file mode size origin (saving_of said.replace) wait (is_set said.strict) (is_set said.numbered))
 
 abbrev pub asked_of_run : RunWords → Option Asked
 asked_of_run said =
@@ -307,9 +341,9 @@ asked_in subcommand words =
     if bytes_eq subcommand (codes "create") then with_number (λ file n. Some (create file n)) words
     else if bytes_eq subcommand (codes "run") then asked_run words
     else if bytes_eq subcommand (codes "check") then asked_check words
-    else if bytes_eq subcommand (codes "grow") then with_number (λ file n. with_kept (grow file n) words) words
-    else if bytes_eq subcommand (codes "shrink") then with_file (λ file. with_kept (shrink file) words) words
-    else if bytes_eq subcommand (codes "migrate") then with_file (λ file. with_kept (migrate file) words) words
+    else if bytes_eq subcommand (codes "grow") then asked_grow words
+    else if bytes_eq subcommand (codes "shrink") then asked_kept shrink shrink_with words
+    else if bytes_eq subcommand (codes "migrate") then asked_kept migrate migrate_with words
     else if bytes_eq subcommand (codes "stat") then with_file (λ file. Some (stat file)) words
     else if bytes_eq subcommand (codes "draw") then asked_draw words
     else if bytes_eq subcommand (codes "dump") then asked_dump words
@@ -463,13 +497,19 @@ IsRunWritten file mode size origin saving strict numbered words = (origins : Lis
 -- the words behind the program's name say what is asked for
 abbrev pub IsWritten : Asked → List Text → Type 0
 IsWritten (create file size) words = IsTrue (is_path file) × (digits : Text) × (number_of digits ≡ Some size) × (words ≡ codes "create" ∷ file ∷ digits ∷ [])
-IsWritten (run file mode size origin saving wait strict numbered) words = IsTrue (is_path file) × (wait ≡ 0) × IsRunWritten file mode size origin saving strict numbered words
+IsWritten (run file mode size) words = IsTrue (is_path file) × IsRunWritten file mode size input InPlace false false words
+IsWritten (run_with file mode size origin saving wait strict numbered) words = IsTrue (is_path file) × (wait ≡ 0) × (is_plain_run origin saving 0 strict numbered ≡ false)
+    × IsRunWritten file mode size origin saving strict numbered words
 IsWritten (check file) words = IsTrue (is_path file) × (words ≡ codes "check" ∷ file ∷ [])
 IsWritten (check_all files quiet) words = (file : Text) × IsTrue (is_path file) × (files ≡ file ∷ []) × (quiet ≡ true) × (words ≡ codes "check" ∷ file ∷ codes "--quiet" ∷ [])
 IsWritten (explain file) words = IsTrue (is_path file) × (words ≡ codes "check" ∷ file ∷ codes "--explain" ∷ [])
-IsWritten (grow file bytes saving wait) words = IsTrue (is_path file) × (wait ≡ 0) × (digits : Text) × (number_of digits ≡ Some bytes) × (words ≡ codes "grow" ∷ file ∷ digits ∷ saving_part saving)
-IsWritten (shrink file saving wait) words = IsTrue (is_path file) × (wait ≡ 0) × (words ≡ codes "shrink" ∷ file ∷ saving_part saving)
-IsWritten (migrate file saving wait) words = IsTrue (is_path file) × (wait ≡ 0) × (words ≡ codes "migrate" ∷ file ∷ saving_part saving)
+IsWritten (grow file bytes) words = IsTrue (is_path file) × (digits : Text) × (number_of digits ≡ Some bytes) × (words ≡ codes "grow" ∷ file ∷ digits ∷ [])
+IsWritten (grow_with file bytes saving wait) words = IsTrue (is_path file) × (wait ≡ 0) × (saving ≡ Replacing) × (digits : Text) × (number_of digits ≡ Some bytes)
+    × (words ≡ codes "grow" ∷ file ∷ digits ∷ codes "--replace" ∷ [])
+IsWritten (shrink file) words = IsTrue (is_path file) × (words ≡ codes "shrink" ∷ file ∷ [])
+IsWritten (shrink_with file saving wait) words = IsTrue (is_path file) × (wait ≡ 0) × (saving ≡ Replacing) × (words ≡ codes "shrink" ∷ file ∷ codes "--replace" ∷ [])
+IsWritten (migrate file) words = IsTrue (is_path file) × (words ≡ codes "migrate" ∷ file ∷ [])
+IsWritten (migrate_with file saving wait) words = IsTrue (is_path file) × (wait ≡ 0) × (saving ≡ Replacing) × (words ≡ codes "migrate" ∷ file ∷ codes "--replace" ∷ [])
 IsWritten (stat file) words = IsTrue (is_path file) × (words ≡ codes "stat" ∷ file ∷ [])
 IsWritten (draw file) words = IsTrue (is_path file) × (words ≡ codes "draw" ∷ file ∷ [])
 IsWritten (draw_page file) words = IsTrue (is_path file) × (words ≡ codes "draw" ∷ file ∷ codes "--html" ∷ [])

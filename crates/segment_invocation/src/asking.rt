@@ -7,13 +7,13 @@ ghost use Rattle.clap.specs.Values.{kind_of};
 ghost use Rattle.clap.specs.Walk.{first_of, rows_of};
 ghost use Rattle.clap.specs.declared.error.kind.ErrorKind.TheVariants.{DisplayVersion, OutOfMemory as NoMemory};
 ghost use Rattle.segment_lang.specs.Words.{number_of};
-ghost use Rattle.segment_invocation.specs.Invocations.{Asked, IsAskedBy, IsWritten, IsWrongBy, Reads, asked_by, asked_check, asked_in, asked_names, asked_run, is_set, list_of, many_files, mode_of, no_mode, no_number, origin_by, origin_of, run_words, saving_of, seconds_of, size_of, two_scripts, wrong_by, wrong_filed, wrong_in, wrong_run};
+ghost use Rattle.segment_invocation.specs.Invocations.{Asked, IsAskedBy, IsWritten, IsWrongBy, Reads, asked_by, asked_check, asked_grow, asked_in, asked_kept, asked_names, asked_run, is_set, list_of, many_files, migrate, migrate_with, mode_of, no_mode, no_number, origin_by, origin_of, run_words, saving_of, seconds_of, shrink, shrink_with, size_of, two_scripts, wrong_by, wrong_filed, wrong_in, wrong_run};
 ghost use Rattle.segment_invocation.specs.declared.invocations.Invocation.TheVariants.{Version};
 ghost use Rattle.segment_invocation.specs.declared.usage.InvocationFault.TheVariants.{OutOfMemory, Usage};
 ghost use Rattle.segment_invocation.specs.declared.usage.UsageError.TheVariants.{Words};
 
 use crate::command_line::command_line;
-use crate::invocations::{Answering, Invocation, Keeping, ModeName, Saving, Script};
+use crate::invocations::{Answering, Invocation, Keeping, ModeName, Running, Saving, Script};
 use crate::nearest::nearest_mode;
 use crate::usage::{InvocationFault, UsageError};
 use clap::error::ErrorKind;
@@ -158,8 +158,15 @@ fn read_run<'a>(
         return Err(UsageError::Size);
     }
     let keeping = keeping_in(words)?;
-    let script = script_in(words, lines)?;
-    Ok(Invocation::Run(file, mode, size, script, keeping, answering_in(words)))
+    let running = Running {
+        script: script_in(words, lines)?,
+        keeping,
+        answering: answering_in(words),
+    };
+    if running.is_plain() {
+        return Ok(Invocation::Run(file, mode, size));
+    }
+    Ok(Invocation::RunWith(file, mode, size, running))
 }
 
 /// What the words of the command `check` ask for, of these files, the first of which this is.
@@ -189,6 +196,49 @@ fn read_check<'a>(
         return Ok(Invocation::CheckAll(files, true));
     }
     Ok(Invocation::Check(file))
+}
+
+/// What the words of the command `grow` ask for, of a file.
+fn read_grow<'a>(file: &'a str, words: &ArgMatches<'a>) -> Result<Invocation<'a>, UsageError>
+    requires { first_of (codes "file") (rows_of (found_of words.now)) ≡ Some file.now }
+    ensures read { MatchResult result (λ i. asked_grow (rows_of (found_of words.now)) ≡ Some (asked_by i))
+        (λ e. asked_grow (rows_of (found_of words.now)) ≡ None) }
+    ensures wrong { IfErr result (λ e. wrong_by e ≡ Some no_number) }
+{
+    let bytes = number_in(words)?;
+    let keeping = keeping_in(words)?;
+    if keeping.is_plain() {
+        return Ok(Invocation::Grow(file, bytes));
+    }
+    Ok(Invocation::GrowWith(file, bytes, keeping))
+}
+
+/// What the words of the command `shrink` ask for, of a file.
+fn read_shrink<'a>(file: &'a str, words: &ArgMatches<'a>) -> Result<Invocation<'a>, UsageError>
+    requires { first_of (codes "file") (rows_of (found_of words.now)) ≡ Some file.now }
+    ensures read { MatchResult result (λ i. asked_kept shrink shrink_with (rows_of (found_of words.now)) ≡ Some (asked_by i))
+        (λ e. asked_kept shrink shrink_with (rows_of (found_of words.now)) ≡ None) }
+    ensures wrong { IfErr result (λ e. wrong_by e ≡ Some no_number) }
+{
+    let keeping = keeping_in(words)?;
+    if keeping.is_plain() {
+        return Ok(Invocation::Shrink(file));
+    }
+    Ok(Invocation::ShrinkWith(file, keeping))
+}
+
+/// What the words of the command `migrate` ask for, of a file.
+fn read_migrate<'a>(file: &'a str, words: &ArgMatches<'a>) -> Result<Invocation<'a>, UsageError>
+    requires { first_of (codes "file") (rows_of (found_of words.now)) ≡ Some file.now }
+    ensures read { MatchResult result (λ i. asked_kept migrate migrate_with (rows_of (found_of words.now)) ≡ Some (asked_by i))
+        (λ e. asked_kept migrate migrate_with (rows_of (found_of words.now)) ≡ None) }
+    ensures wrong { IfErr result (λ e. wrong_by e ≡ Some no_number) }
+{
+    let keeping = keeping_in(words)?;
+    if keeping.is_plain() {
+        return Ok(Invocation::Migrate(file));
+    }
+    Ok(Invocation::MigrateWith(file, keeping))
 }
 
 /// What the words of the command `names` ask for, of a file.
@@ -225,9 +275,9 @@ fn read_filed<'a>(
         "create" => Ok(Invocation::Create(file, number_in(words)?)),
         "run" => read_run(alloc, file, words, lines),
         "check" => read_check(file, words, files),
-        "grow" => Ok(Invocation::Grow(file, number_in(words)?, keeping_in(words)?)),
-        "shrink" => Ok(Invocation::Shrink(file, keeping_in(words)?)),
-        "migrate" => Ok(Invocation::Migrate(file, keeping_in(words)?)),
+        "grow" => read_grow(file, words),
+        "shrink" => read_shrink(file, words),
+        "migrate" => read_migrate(file, words),
         "stat" => Ok(Invocation::Stat(file)),
         "draw" if is_set(words, "html") => Ok(Invocation::DrawPage(file)),
         "draw" => Ok(Invocation::Draw(file)),

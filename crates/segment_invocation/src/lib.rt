@@ -9,7 +9,7 @@ mod usage;
 mod version;
 
 pub use asking::{invocation, is_verbose};
-pub use invocations::{Answering, Invocation, Keeping, ModeName, Saving, Script};
+pub use invocations::{Answering, Invocation, Keeping, ModeName, Running, Saving, Script};
 pub use nearest::Tip;
 pub use usage::{InvocationFault, UsageError};
 pub use version::VERSION;

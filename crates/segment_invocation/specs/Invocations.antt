@@ -1,11 +1,12 @@
 -- What the program may be asked on its command line, over the matches that clap states for its words.
 use Rattle.std.specs.Prelude.{◌≡◌, ◌⊎◌, ◌==◌, ◌∷◌, ◌++◌, ℕ, Bool, true, false, not, List, [], Option, Some, None}
 use Rattle.std.specs.Prelude.{is_some, Result, MatchResult, IsTrue, option_map, option_and_then, codes, fold}
-use Rattle.std.specs.Prelude.{◌&&◌, length, map, nat_lt, unwrap_or}
+use Rattle.std.specs.Prelude.{◌&&◌, flat_map, length, map, nat_lt, unwrap_or}
 use Rattle.std.specs.List.{list_all}
 use Rattle.std.specs.Option.{option_map_or}
 use Rattle.std.specs.Prelude.{if◌then◌else◌}
 use Rattle.std.specs.Str.{bytes_eq}
+use denote.Ref.{Bor}
 use Rattle.clap.specs.Walk.{Row, Rule, Text, all_of, first_of}
 use Rattle.clap.specs.Simple.{App, Shape, new_rule, new_shape, subcommand_of, with_subcommand}
 use Rattle.clap.specs.Faults.{fault_of}
@@ -145,6 +146,10 @@ abbrev pub origin_by : Script → Origin
 origin_by script.Input = input
 origin_by (script.File path) = from_file path.now
 origin_by (script.Lines texts) = from_lines (map (λ s. s.now) texts.items)
+
+-- the script of these lines: a line end stands behind each
+abbrev pub script_text : List (Bor Text) → Text
+script_text = flat_map (λ line. line.now ++ 0x0A ∷ [])
 
 abbrev pub asked_by : Invocation → Asked
 asked_by (Create file size) = create file.now size

@@ -1,6 +1,8 @@
 //! What the program may be asked for.
-ghost use Rattle.std.specs.Prelude.{◌≡◌};
-ghost use Rattle.segment_invocation.specs.Invocations.{is_plain, is_plain_run, mode_called, origin_by, wants_size};
+ghost use Rattle.std.specs.Prelude.{◌≡◌, IfOk};
+ghost use Rattle.segment_invocation.specs.Invocations.{is_plain, is_plain_run, mode_called, origin_by, script_text, wants_size};
+
+use std::alloc::{AllocError, Global};
 
 /// The name of a mode on the command line.
 #[derive(Clone, Copy, Debug, PartialEq, Eq)]
@@ -94,6 +96,22 @@ pub enum Script<'a> {
     File(&'a str),
     /// The command line: `-c` before each line.
     Lines(Vec<&'a str>),
+}
+
+/// The script of these lines: each with a line end behind it.
+///
+/// # Errors
+///
+/// Memory for it was refused.
+pub fn script_text(alloc: Global, lines: &[&str]) -> Result<Vec<u8>, AllocError>
+    ensures { IfOk result (λ text. text.items ≡ script_text lines.now) }
+{
+    let mut text = Vec::new(alloc);
+    'lines: for line in lines {
+        text.extend_from_slice(line.as_bytes())?;
+        text.push(b'\n')?;
+    }
+    Ok(text)
 }
 
 /// What a run is asked for beside its file, mode and size.

@@ -8,7 +8,7 @@ use raw_region::{DeviceFault, Source};
 use raw_region::stream::{ReadOnce, Reading, Writing};
 use segment_cli::SessionFault;
 use segment_commands::{
-    ProgramFault, check, check_all, create, draw, draw_page, dump, dump_capacities, dump_json, explain, grow,
+    ProgramFault, check, create, draw, draw_page, dump, dump_capacities, dump_json, explain, grow,
     lint, load, migrate, names, print, print_language, report, report_file, run_strict, shrink, stat,
 };
 use segment_disk::{Disk, HostDisk, Numbered, Outlet, Output, StopsAtError, Trouble};
@@ -16,6 +16,7 @@ use segment_invocation::{
     Invocation, InvocationFault, Keeping, ModeName, Running, Saving, Script, VERSION, invocation,
     is_verbose, script_text,
 };
+use segment_lang::{Piece, put_pieces};
 use segment_scripts::command_rows;
 use std::alloc::{AllocError, Global};
 use std::io::{self, BufWriter, ErrorKind, IsTerminal, Read, Write};
@@ -23,6 +24,9 @@ use std::process::ExitCode;
 
 /// Memory for reading the command line, or for the answers, was refused.
 const OUT_OF_MEMORY: ProgramFault = ProgramFault::Session(SessionFault::OutOfMemory);
+
+/// Standard output failed.
+const WRITE_FAULT: ProgramFault = ProgramFault::Session(SessionFault::WriteFault);
 
 /// How many bytes of answers go out at once, at most.
 const PIECE: usize = 65536;
@@ -67,17 +71,58 @@ fn perform(rt: &HostRuntime, asked: &Invocation<'_>, is_verbose: bool) -> Result
     };
     let mut disk = HostDisk::patient(rt, seconds_of(asked));
     let mut scripts = HostDisk::new(rt);
-    let fault = match command(rt, &mut disk, &mut scripts, asked, Outlet::new(buffer)) {
+    let out = Outlet::new(buffer);
+    let is_verbose = is_verbose || rt.stderr().is_terminal();
+    let fault = match command(rt, &mut disk, &mut scripts, asked, is_verbose, out) {
         Ok(status) => return Ok(status),
         Err(fault) => fault,
     };
     let status = tell(rt, fault);
-    if is_of_file(fault) && (is_verbose || rt.stderr().is_terminal()) {
+    if is_of_file(fault) && is_verbose {
         if let Some((path, trouble)) = trouble_of(asked, &disk, &scripts) {
             report_file(path, trouble, &mut Writing::new(rt.stderr()));
         }
     }
     Ok(status)
+}
+
+/// Checks files one after another, and answers the worst status. Each line that is said of one begins with its path,
+/// which stands there as a text of the language.
+fn check_all<W: Write>(
+    rt: &HostRuntime,
+    disk: &mut HostDisk<'_, HostRuntime>,
+    files: &[&str],
+    is_quiet: bool,
+    is_verbose: bool,
+    out: &mut Outlet<W>,
+) -> Result<u8, ProgramFault> {
+    let mut worst = 0;
+    for file in files {
+        let front = Piece::Text(file.as_bytes());
+        match check(rt.alloc(), disk, file, &mut Outlet::new(io::sink())) {
+            Ok(()) if is_quiet => {}
+            Ok(()) => {
+                let line = [front, Piece::Bytes(b": ok\n")];
+                if put_pieces(out, &line).is_err() {
+                    return Err(WRITE_FAULT);
+                }
+            }
+            Err(fault) => {
+                let _ = put_pieces(
+                    &mut Writing::new(rt.stderr()),
+                    &[front, Piece::Bytes(b": ")],
+                );
+                worst = worst.max(tell(rt, fault));
+                if let (true, Some(trouble)) = (is_verbose, disk.trouble()) {
+                    report_file(file, trouble, &mut Writing::new(rt.stderr()));
+                }
+            }
+        }
+    }
+    match out.flush() {
+        Ok(()) => Ok(worst),
+        Err(_) => Err(WRITE_FAULT),
+    }
 }
 
 /// What the system said of the script that was to be opened, or else of the file, and its path.
@@ -110,6 +155,7 @@ fn command<W: Write + Drop>(
     disk: &mut HostDisk<'_, HostRuntime>,
     scripts: &mut HostDisk<'_, HostRuntime>,
     asked: &Invocation<'_>,
+    is_verbose: bool,
     out: Outlet<W>,
 ) -> Result<u8, ProgramFault>
     requires { out.history ≡ nothing_taken }
@@ -130,8 +176,7 @@ fn command<W: Write + Drop>(
         }
         Invocation::Check(file) => check(alloc, disk, file, &mut out),
         Invocation::CheckAll(files, is_quiet) => {
-            let mut err = Writing::new(rt.stderr());
-            return check_all(alloc, disk, files.as_slice(), *is_quiet, &mut out, &mut err);
+            return check_all(rt, disk, files.as_slice(), *is_quiet, is_verbose, &mut out);
         }
         Invocation::Grow(file, bytes) => grow(alloc, disk, file, *bytes, Saving::InPlace, &mut out),
         Invocation::GrowWith(file, bytes, keeping) => {

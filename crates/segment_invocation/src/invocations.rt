@@ -127,7 +127,7 @@ pub struct Running<'a> {
 
 impl<'a> Running<'a> {
     /// As it is where no option says otherwise.
-    pub const PLAIN: Running<'a> = Running {
+    pub const PLAIN: Running<'static> = Running {
         script: Script::Input,
         keeping: Keeping::PLAIN,
         answering: Answering {

@@ -1,7 +1,7 @@
 //! The library in one place: what a program needs that keeps typed objects under names in a file.
 //!
 //! A program opens or makes a [`SegmentFile`] over the files of the system ([`HostDisk`]), constructs and finds objects
-//! in its [`Segment`] by their names ([`named`]), and saves it. `crates/examples` has twelve programs that do so.
+//! in its [`Segment`] by their names ([`named`]), and saves it. `crates/examples` has programs that do so.
 //!
 //! Every call on a segment takes whatever the segment holds, and answers or refuses. A few ask for something else
 //! before they are called, say so under `# Conditions`, and which call does the same without:

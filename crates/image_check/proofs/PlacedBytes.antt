@@ -1,8 +1,9 @@
 -- An image that lies in memory: why no segment is opened of it.
 use Rattle.std.proofs.Common.{◌≡◌, refl, sym, ap, subst, ◌∙◌, ℕ, ◌+◌, ◌<◌, ◌≤◌, Bool, true, false, ◌&&◌, List, [], ◌++◌, length, take, drop, arith, Some, Ok, Err}
 use Rattle.std.specs.Prelude.{IsTrue, if◌then◌else◌}
-use Rattle.std.proofs.lemmas.Bool.{both_ways, cond-true}
+use Rattle.std.proofs.lemmas.Bool.{both_ways, cond-true, eqb-true}
 use Rattle.std.proofs.lemmas.List.{append-nil}
+use Rattle.raw_region.specs.Format.{current}
 use Rattle.raw_region.specs.Memory.{Cut, whole}
 use Rattle.block_tags.specs.Format.{is_legal_size}
 use Rattle.segment_manager.specs.declared.modes.Mode.{Mode}
@@ -12,6 +13,8 @@ use Rattle.image_check.specs.declared.classes.ImageClass.TheVariants.{Truncated,
 use Rattle.image_check.specs.declared.errors.OpenError.{OpenError}
 use Rattle.image_check.specs.declared.errors.OpenError.TheVariants.{Image}
 use Rattle.image_check.specs.declared.errors.OpenRefused.{OpenRefused}
+use Rattle.image_check.specs.declared.versions.Versions.{Versions}
+use Rattle.image_check.specs.declared.versions.Versions.TheVariants.{Current, All}
 use Rattle.image_check.specs.declared.errors.ExamineError.{ExamineError}
 use Rattle.image_check.specs.declared.errors.ExamineError.TheVariants.{Image as Judged, RegionTooSmall, OutOfMemory, ReadFault}
 use Rattle.image_check.specs.declared.errors.ExamineRefused.{ExamineRefused}
@@ -20,15 +23,18 @@ use Rattle.image_check.specs.Classes.{class_of, holds}
 use Rattle.image_check.specs.Causes.{IsShown, error_for, opened_as}
 use Rattle.image_check.specs.Checking.{IsWhyRefused}
 use Rattle.image_check.specs.Examining.{ExaminesBytes}
+use Rattle.image_check.specs.Formats.{format_in, version_word}
 use Rattle.image_check.specs.HeaderPlaces.{IsFrontPlace}
 use Rattle.image_check.specs.Opening.{IsHandedBack, IsImage, IsTooSmallFor, has_early_class}
 use Rattle.image_check.specs.OpeningBytes.{IsMisfit, IsNotOpenedOf, IsNotPlaced, IsWhyNotOf, OpensBytes, as_given}
 use Rattle.image_check.specs.Passes.{has_block}
-use Rattle.image_check.specs.Reading.{IsImageRead, front_of}
+use Rattle.image_check.specs.Reading.{HasFront, IsImageRead, front_of}
 use Rattle.image_check.proofs.Deciding.{decided-some, first_class}
 use Rattle.image_check.proofs.Early.{cut-Truncated}
+use Rattle.image_check.proofs.Filled.{HasFront-IsRight}
 use Rattle.image_check.proofs.Fronts.{IsRight, front-decided, front-wrong, has_front-IsRight}
 use Rattle.image_check.specs.Verdicts.{Shows}
+use Rattle.image_check.proofs.ReadFormats.{format_of-few}
 use Rattle.image_check.proofs.Refused.{back-from, no-room, shown-why, verified}
 use Rattle.image_check.proofs.Stopping.{front-early, more-decided}
 use Rattle.image_check.proofs.ToldPlaces.{front-shown}
@@ -108,6 +114,23 @@ not-placed format b region base mode refused n = record {
   answers = record { why = n.misfit.why; handed_back = back-as-was format b region base refused.region n.back; unwritten = λ other. n.back };
   too_small = n.misfit.too_small;
 }
+
+-- ---- the format that it says
+
+format_in-few : (versions : Versions) (b : List ℕ) → format_in versions b ≤ 2
+unfolding current
+format_in-few Current b = omega arith
+format_in-few All b = format_of-few b
+
+module _ (versions : Versions) (b region : List ℕ) (base : ℕ) (w : Cut) (h : IsImageRead (format_in versions b) (as_given b) region base w) (v : ℕ) (said : v ≡ version_word w.bytes) where
+  pub said-format : v ≡ format_in versions b
+  said-format = said ∙ eqb-true (version_word w.bytes) (format_in versions b) (HasFront-IsRight (format_in versions b) w h.front).version
+
+  pub said-few : v ≤ 2
+  said-few = let same = said-format in let few = format_in-few versions b in omega arith
+
+  pub said-front : HasFront v w
+  said-front = subst (λ (f : ℕ). HasFront f w) (sym said-format) h.front
 
 -- ---- why no segment is opened
 

@@ -43,10 +43,7 @@ pub fn examine<S: Source>(
     ensures late { IfErr result (λ refused. is_late (error_for refused.cause) ≡ true
         → CountsTiles (given_since (S.history reader.old) (S.history reader.new)).bytes steps.old steps.new) }
 {
-    let window = match read_image(Versions::Current, reader, region, base) {
-        Ok(window) => window,
-        Err(refused) => return Err(refused),
-    };
+    let window = read_image(Versions::Current, reader, region, base)?;
     match check(FORMAT, alloc, &window, steps) {
         Ok(()) => Ok(window.into_region()),
         Err(cause) => Err(ExamineRefused {

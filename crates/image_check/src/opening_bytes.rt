@@ -8,6 +8,7 @@ ghost use Rattle.image_check.specs.Passes.{CountsTiles};
 use crate::checking::check;
 use crate::errors::OpenRefused;
 use crate::placing::place_image;
+use crate::versions::Versions;
 use raw_region::{RawRegion, Steps};
 use segment_manager::conditioned::adopt;
 use segment_manager::layout::FORMAT;
@@ -40,7 +41,7 @@ pub fn open_bytes(
     ensures tiles { OnOk result (CountsTiles image.now steps.old steps.new) }
     ensures late { IfErr result (λ refused. is_late refused.cause ≡ true → CountsTiles image.now steps.old steps.new) }
 {
-    let window = match place_image(image, region, base) {
+    let window = match place_image(Versions::Current, image, region, base) {
         Ok(window) => window,
         Err(refused) => return Err(refused.into_opened()),
     };

@@ -2,7 +2,7 @@ use Rattle.std.proofs.Common.{Err, subst, sym}
 use Rattle.segment_cli.specs.declared.faults.SessionFault.{SessionFault}
 use Rattle.segment_commands.specs.Opening.{VerifiesFile}
 use Rattle.segment_commands.proofs.Explained.{unfit_fault}
-use Rattle.segment_commands.proofs.opening.verify_segment.Goals as goal
+use Rattle.segment_commands.proofs.examining.verify_segment.Goals as goal
 
 pub returns-in-Err : goal.returns-in-Err
 returns-in-Err g c =

@@ -4,12 +4,13 @@
 ghost use Rattle.std.specs.Prelude.{◌≡◌, ⊤};
 ghost use Rattle.segment_disk.specs.Events.{nothing_taken};
 
-use raw_region::{DeviceFault, Source};
 use raw_region::stream::{ReadOnce, Reading, Writing};
+use raw_region::{DeviceFault, Source};
 use segment_cli::SessionFault;
 use segment_commands::{
     ProgramFault, check, create, draw, draw_page, dump, dump_capacities, dump_json, explain, grow,
-    lint, load, migrate, names, print, print_language, report, report_file, run_strict, shrink, stat,
+    lint, load, load_over, migrate, names, print, print_language, report, report_file, run_strict,
+    shrink, stat,
 };
 use segment_disk::{Disk, HostDisk, Numbered, Outlet, Output, StopsAtError, Trouble};
 use segment_invocation::{
@@ -165,12 +166,20 @@ fn command<W: Write + Drop>(
     let answer = match asked {
         Invocation::Create(file, size) => create(alloc, disk, file, *size),
         Invocation::Run(file, mode, size) => {
-            let run = Run { file, mode: *mode, size: *size };
+            let run = Run {
+                file,
+                mode: *mode,
+                size: *size,
+            };
             answer(rt, disk, scripts, run, &Running::PLAIN, out)?;
             return Ok(0);
         }
         Invocation::RunWith(file, mode, size, how) => {
-            let run = Run { file, mode: *mode, size: *size };
+            let run = Run {
+                file,
+                mode: *mode,
+                size: *size,
+            };
             answer(rt, disk, scripts, run, how, out)?;
             return Ok(0);
         }
@@ -198,11 +207,21 @@ fn command<W: Write + Drop>(
         Invocation::DumpCapacities(file) => dump_capacities(alloc, disk, file, &mut out),
         Invocation::DumpJson(file) => dump_json(alloc, disk, file, &mut out),
         Invocation::Names(file, prefix, most) => {
-            names(alloc, disk, file, prefix, most.unwrap_or(u64::MAX), &mut out)
+            names(
+                alloc,
+                disk,
+                file,
+                prefix,
+                most.unwrap_or(u64::MAX),
+                &mut out,
+            )
         }
         Invocation::Load(file, size, keeping) => {
             let mut text = Reading::new(rt.reader());
-            load(alloc, disk, file, *size, keeping.saving, &mut text)
+            match keeping.saving {
+                Saving::InPlace => load(alloc, disk, file, *size, &mut text),
+                Saving::Replacing => load_over(alloc, disk, file, *size, &mut text),
+            }
         }
         Invocation::Lint => lint(command_rows(), &mut Reading::new(rt.reader()), &mut out),
         Invocation::Language => print_language(&mut out, command_rows()),

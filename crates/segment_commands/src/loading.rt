@@ -74,7 +74,7 @@ fn is_unfit(size: Option<u64>) -> bool
 }
 
 /// A segment of the dump that a reader gives. A size that no segment has is refused before the dump is read.
-fn load_dump<S: Source>(
+pub(crate) fn load_dump<S: Source>(
     alloc: Global,
     size: Option<u64>,
     script: &mut S,

@@ -12,7 +12,7 @@ use segment_commands::{
     lint, load, load_over, migrate, names, print, print_language, report, report_file, run_strict,
     shrink, stat,
 };
-use segment_disk::{Disk, HostDisk, Numbered, Outlet, Output, StopsAtError, Trouble};
+use segment_disk::{Disk, HostDisk, Numbered, Opened, Outlet, Output, StopsAtError, Trouble};
 use segment_invocation::{
     Invocation, InvocationFault, Keeping, ModeName, Running, Saving, Script, VERSION, invocation,
     is_verbose, script_text,
@@ -279,7 +279,8 @@ fn answer<O: Output + Drop>(
             let Ok(opened) = scripts.open(path) else {
                 return Err(ProgramFault::Session(SessionFault::ReadFault));
             };
-            let mut script = opened.reader;
+            let Opened { reader, len: _ } = opened;
+            let mut script = reader;
             answer_script(rt, disk, run, how, &mut script, out)
         }
         Script::Lines(lines) => {

@@ -96,17 +96,19 @@ fn check_all<W: Write>(
     is_quiet: bool,
     is_verbose: bool,
     out: &mut Outlet<W>,
-) -> Result<u8, ProgramFault> {
+) -> Result<u8, ProgramFault>
+    requires { out.old.history ≡ nothing_taken }
+{
     let mut worst = 0;
-    for file in files {
+    'files: for file in files {
         let front = Piece::Text(file.as_bytes());
         match check(rt.alloc(), disk, file, &mut Outlet::new(io::sink())) {
             Ok(()) if is_quiet => {}
             Ok(()) => {
                 let line = [front, Piece::Bytes(b": ok\n")];
-                if put_pieces(out, &line).is_err() {
+                let Ok(()) = put_pieces(out, &line) else {
                     return Err(WRITE_FAULT);
-                }
+                };
             }
             Err(fault) => {
                 let _ = put_pieces(

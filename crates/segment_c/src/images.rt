@@ -22,8 +22,9 @@ ghost use Rattle.segment_manager.specs.declared.modes.Mode.TheVariants.{Write};
 use crate::calls::passed;
 use crate::codes::{BAD_IMAGE, BAD_MODE, BAD_SIZE, DONE, NO_MEMORY, SHORT_BUFFER, SHORT_REGION};
 use crate::handle::{Handle, Holder, put, put_new, take};
-use crate::resizing::{capacity_for, is_capacity};
+use crate::resizing::is_capacity;
 use block_tags::is_legal_size;
+use grow_shrink::region_for;
 use image_check::{FRONT, ImageClass, OpenError, open_bytes, size_in};
 use raw_region::{RawRegion, Steps};
 use segment_manager::{Mode, Segment};
@@ -219,7 +220,7 @@ fn checked(alloc: Global, image: &[u8]) -> Result<Segment, u32>
     if (image.len() as u64) < size {
         return Err(class_code(ImageClass::Truncated));
     }
-    let Ok(region) = RawRegion::new(alloc, capacity_for(size)) else {
+    let Ok(region) = region_for(alloc, size) else {
         return Err(NO_MEMORY);
     };
     open_in(alloc, image, region, Mode::ReadOnly)

@@ -1,0 +1,136 @@
+-- Elements that are read where they stand in the image.
+use Rattle.std.proofs.Common.{◌≡◌, refl, sym, ap, subst, ◌∙◌, ℕ, zero, suc, ◌+◌, ◌*◌, ◌<◌, ◌≤◌, ◌⊎◌, inl, inr, ℤ, true}
+use Rattle.std.proofs.Common.{Bool, Some, None, Option, Ok, Err, List, [], ◌∷◌, length, length-append, map, set, arith}
+use Rattle.std.proofs.Common.{take, IsTrue, zero-add}
+use Rattle.std.specs.Prelude.{drop, slice_get}
+use Rattle.std.specs.List.{list_all}
+use Rattle.std.proofs.Math.Nat.{mul-le-mul_left}
+use Rattle.std.proofs.lemmas.Bool.{and_from, and_parts}
+use Rattle.raw_region.specs.Memory.{Has, bytes_of, part}
+use Rattle.raw_region.proofs.Laws.{part-part, read-part}
+use Rattle.seg_types.specs.declared.kinds.Kind.{Kind}
+use Rattle.seg_types.specs.declared.kinds.Kind.TheVariants.{Scalar, Vector}
+use Rattle.seg_types.specs.declared.kinds.ScalarKind.{ScalarKind}
+use Rattle.seg_types.specs.Kinds.{is_value, size_of, spelling}
+use Rattle.seg_types.specs.Names.{ByHandle}
+use Rattle.seg_types.proofs.Laws.{all_spell_one}
+use Rattle.seg_vector.specs.Vector.{spelled}
+use Rattle.seg_vector.proofs.Typed.{all-at, flat-element, flat-take, has-element}
+use Rattle.segment_manager.specs.declared.containers.element_runs.ElementRun.{ElementRun}
+use Rattle.segment_manager.specs.declared.objects.targets.Object.{Object as Located}
+use Rattle.segment_manager.specs.Directory.{Directory, Value, Numbers, Elements, Object, kind_of}
+use Rattle.segment_manager.specs.containers.ElementRuns.{IsRunOf, run_at, spelled_in}
+use Rattle.segment_manager.specs.objects.ElementLists.{numbers_in}
+use Rattle.segment_manager.specs.objects.Located.{IsLocated}
+use Rattle.segment_manager.specs.State.{Answers, IsSegment, State, StandsFor}
+use Rattle.segment_manager.proofs.Laws.{IsSaidAt, said-at}
+use Rattle.segment_manager.proofs.ElementLaws.{AVector, AnArray, IsRowOfKind, row-element, run-kind}
+use Rattle.segment_values.specs.Ranges.{AreSpelled, HasRow, is_row, row_of}
+use Rattle.segment_values.proofs.RangeLists.{read-more}
+use Rattle.segment_values.proofs.RangeRows.{its-numbers, row-cases}
+
+-- ---- bytes that spell values
+
+all-from : (test : ℤ → Bool) (zs : List ℤ) → ((i : ℕ) {z : ℤ} → slice_get zs i ≡ Some z → test z ≡ true)
+    → IsTrue (list_all test zs)
+all-from test [] each = refl
+all-from test (z ∷ zs) each =
+    and_from (test z) (list_all test zs) (each 0 refl) (all-from test zs (λ i e. each (suc i) e))
+
+all-behind : (test : ℤ → Bool) (n : ℕ) (zs : List ℤ) → IsTrue (list_all test zs) → IsTrue (list_all test (drop n zs))
+all-behind test zero zs v = v
+all-behind test (suc n) [] v = v
+all-behind test (suc n) (z ∷ zs) v = all-behind test n zs (and_parts (test z) (list_all test zs) v).1
+
+all-before : (test : ℤ → Bool) (n : ℕ) (zs : List ℤ) → IsTrue (list_all test zs) → IsTrue (list_all test (take n zs))
+all-before test zero zs v = refl
+all-before test (suc n) [] v = refl
+all-before test (suc n) (z ∷ zs) v =
+    let both = and_parts (test z) (list_all test zs) v in
+    and_from (test z) (list_all test (take n zs)) both.0 (all-before test n zs both.1)
+
+long : (k : ScalarKind) (z : ℤ) → is_value k z ≡ true → length (spelling k z) ≡ size_of k
+long k z e = (all_spell_one k z e).len
+
+spelled-length : (k : ScalarKind) (zs : List ℤ) → IsTrue (list_all (is_value k) zs)
+    → length (spelled k zs) ≡ size_of k * length zs
+spelled-length k [] v = let none : size_of k * 0 ≡ 0 = omega arith in sym none
+spelled-length k (z ∷ zs) v =
+    let both = and_parts (is_value k z) (list_all (is_value k) zs) v in
+    let own = long k z both.0 in let rest = spelled-length k zs both.1 in
+    let all = length-append (spelling k z) (spelled k zs) in
+    let step : size_of k * suc (length zs) ≡ size_of k + size_of k * length zs = omega arith in
+    omega (arith, own, rest, all, step)
+
+spelled-drop : (k : ScalarKind) (n : ℕ) (zs : List ℤ) → IsTrue (list_all (is_value k) zs)
+    → drop (size_of k * n) (spelled k zs) ≡ spelled k (drop n zs)
+spelled-drop k zero zs v = let none : size_of k * 0 ≡ 0 = omega arith in ap (λ j. drop j (spelled k zs)) none
+spelled-drop k (suc n) [] v = drop-nil (size_of k * suc n)
+spelled-drop k (suc n) (z ∷ zs) v =
+    let both = and_parts (is_value k z) (list_all (is_value k) zs) v in let own = long k z both.0 in
+    let step : size_of k * suc n ≡ length (spelling k z) + size_of k * n = omega (arith, own) in
+    ap (λ j. drop j (spelling k z ++ spelled k zs)) step
+    ∙ drop-append-add (spelling k z) (spelled k zs) (size_of k * n) ∙ spelled-drop k n zs both.1
+
+-- those of so many from a place on
+pub range-spelled : (k : ScalarKind) (zs : List ℤ) (bytes : List ℕ) (first n : ℕ) → AreSpelled k zs bytes
+    → AreSpelled k (take n (drop first zs)) (part bytes (size_of k * first) (size_of k * n))
+range-spelled k zs bytes first n a =
+    let behind = all-behind (is_value k) first zs a.values in
+    record {
+      values = all-before (is_value k) n (drop first zs) behind;
+      spelled_are = ap (λ bs. part bs (size_of k * first) (size_of k * n)) a.spelled_are
+          ∙ ap (take (size_of k * n)) (spelled-drop k first zs a.values)
+          ∙ flat-take (size_of k) (is_value k) (spelling k) (long k) n (drop first zs) behind;
+    }
+
+-- ---- values that are read of them, one after another
+
+-- the first i are read
+abbrev pub AreReadOf : {A : Type 0} → (A → ℤ) → ScalarKind → List ℕ → List A → ℕ → Type 0
+AreReadOf whole k bytes row i = (zs : List ℤ) → AreSpelled k zs bytes → map whole (take i row) ≡ take i zs
+
+pub reads-value : {A : Type 0} (whole : A → ℤ) (k : ScalarKind) (bytes : List ℕ) (row : List A) (i : ℕ) (x : A)
+    (from : List ℕ) → 1 ≤ size_of k → length bytes ≡ size_of k * length row → i < length row
+    → from ≡ part bytes (size_of k * i) (size_of k)
+    → ((z : ℤ) → is_value k z ≡ true → from ≡ spelling k z → whole x ≡ z) → AreReadOf whole k bytes row i
+    → AreReadOf whole k bytes (set row i x) (i + 1)
+reads-value whole k bytes row i x from some many within e reads before = λ zs a.
+    let all : size_of k * length row ≡ size_of k * length zs =
+    sym many ∙ ap (λ bs. length bs) a.spelled_are ∙ spelled-length k zs a.values in
+    let one = has-element zs i (fewer (size_of k) (length row) (length zs) i some all within) in
+    let same : from ≡ spelling k one.0 =
+    e ∙ ap (λ bs. part bs (size_of k * i) (size_of k)) a.spelled_are
+    ∙ flat-element (size_of k) (is_value k) (spelling k) (long k) zs i a.values one.1 in
+    let is = reads one.0 (all-at (is_value k) zs i a.values one.1) same in
+    read-more whole zs 0 i row x within
+    (ap (slice_get zs) (zero-add i) ∙ one.1 ∙ ap Some (sym is)) (before zs a)
+  where
+    fewer : (c n m i : ℕ) → 1 ≤ c → c * n ≡ c * m → i < n → i < m
+    fewer c n m i some e l = lt-of-mul c i m (subst (λ j. c * suc i ≤ j) e (mul-le-mul_left c l))
+      where
+        lt-of-mul : (c i m : ℕ) → c * suc i ≤ c * m → i < m
+        lt-of-mul c i m h = ?
+
+-- all are read
+pub reads-all : {A : Type 0} (whole : A → ℤ) (k : ScalarKind) (bytes : List ℕ) (row : List A) (i : ℕ)
+    → 1 ≤ size_of k → length bytes ≡ size_of k * length row → length row ≤ i → AreReadOf whole k bytes row i
+    → (zs : List ℤ) → AreSpelled k zs bytes → map whole row ≡ zs
+reads-all whole k bytes row i some many last before zs a = ?
+
+-- ---- the object
+
+module _ (s : State) (o : Located) (k : ScalarKind) (located : IsLocated s (ByHandle o.handle) o)
+    (row : is_row k o.kind ≡ true) where
+  there : (d : Directory) → StandsFor s.cut.bytes d → IsSaidAt d (ByHandle o.handle) o
+  there d st = said-at s (ByHandle o.handle) o located d st
+
+  of-kind : (d : Directory) (st : StandsFor s.cut.bytes d) → IsRowOfKind k (there d st).object.value
+  of-kind d st = cases (row-cases k o.kind row)
+    where
+      said : o.kind ≡ kind_of (there d st).object.value
+      said = ap (λ (l : Located). l.kind) (there d st).said
+
+      cases : (o.kind ≡ Vector k) ⊎ (o.kind ≡ Scalar k) → IsRowOfKind k (there d st).object.value
+      cases (inl e) = AVector (sym said ∙ e)
+      cases (inr e) = AnArray (sym said ∙ e)

@@ -4,8 +4,7 @@ ghost use Rattle.seg_types.specs.Keys.{key_seen};
 ghost use Rattle.seg_types.specs.Kinds.{is_value, spelling};
 ghost use Rattle.seg_types.specs.Names.{ByHandle};
 ghost use Rattle.segment_manager.specs.Directory.{Directory};
-ghost use Rattle.segment_manager.specs.objects.ElementLists.{number_or_none as number_of};
-ghost use Rattle.segment_manager.specs.objects.Located.{IsLocated, IsObject};
+ghost use Rattle.segment_manager.specs.objects.Located.{IsLocated};
 ghost use Rattle.segment_manager.specs.State.{Answers, StandsFor};
 ghost use Rattle.segment_values.specs.Ranges.{AreSpelled, HasRow, is_row, range_at, read_into, row_of};
 
@@ -56,7 +55,7 @@ fn read_object<T: Scalar>(
 }
 
 /// Where the elements of such an object stand in the image.
-fn row_run<T: Scalar>(segment: &Segment, object: &Object) -> ElementRun
+pub(crate) fn row_run<T: Scalar>(segment: &Segment, object: &Object) -> ElementRun
     requires object { IsLocated segment.now (ByHandle object.now.handle) object.now }
     requires kind { is_row T.kind object.now.kind ≡ true }
     ensures { HasRow segment.now object.now T.kind result }
@@ -75,30 +74,18 @@ pub(crate) fn is_row<T: Scalar>(kind: Kind) -> bool
     Kind::Vector(T::kind()).code() == kind.code() || Kind::Scalar(T::kind()).code() == kind.code()
 }
 
-/// How many elements such an object has.
-pub(crate) fn len_of<T: Scalar>(segment: &Segment, object: &Object) -> u64
-    requires object { IsObject object.now segment.now }
-    requires kind { is_row T.kind object.now.kind ≡ true }
-    ensures { Answers segment.now (λ d. length (row_of object.now d)) result }
-{
-    match object.kind {
-        Kind::Vector(_) => number_or_none(segment.vec_len::<T, Object>(object)),
-        _ => number_or_none(segment.array_len::<T, Object>(object)),
-    }
-}
-
 /// Copies elements of such an object, which has so many, from where they stand.
 fn copy_row<T: Scalar>(
     segment: &Segment,
-    object: &Object,
+    _object: &Object,
     run: ElementRun,
     first: u64,
     row: &mut [T],
 )
-    requires row { HasRow segment.now object.now T.kind run }
+    requires row { HasRow segment.now _object.now T.kind run }
     requires there { first + length row.old ≤ run.count }
     ensures { (d : Directory) → StandsFor segment.now.cut.bytes d
-        → map T.whole row.new ≡ take (length row.old) (drop first (row_of object.now d)) }
+        → map T.whole row.new ≡ take (length row.old) (drop first (row_of _object.now d)) }
 {
     let from = (run.offset + T::SIZE * first) as usize;
     let len = T::SIZE as usize * row.len();
@@ -125,13 +112,6 @@ fn value_or<T: Scalar>(bytes: &[u8], other: T) -> T
         Some(value) => value,
         None => other,
     }
-}
-
-/// A number, or 0 where there is none.
-fn number_or_none(number: Result<u64, Refusal>) -> u64
-    ensures { result ≡ number_of number }
-{
-    number.unwrap_or(0)
 }
 
 /// Whether so many elements have `count` from `first` on.

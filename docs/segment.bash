@@ -33,7 +33,7 @@ _segment() {
             fi ;;
         dump)
             if [[ $word == -* ]]; then
-                COMPREPLY=($(compgen -W '--capacities --verbose --help' -- "$word"))
+                COMPREPLY=($(compgen -W '--capacities --json --verbose --help' -- "$word"))
                 return
             fi ;;
         load)

@@ -14,3 +14,4 @@ complete -c segment -n '__fish_seen_subcommand_from run' -l numbered -d 'number 
 complete -c segment -n '__fish_seen_subcommand_from check' -l explain -d 'tell where and why'
 complete -c segment -n '__fish_seen_subcommand_from draw' -l html -d 'show a page for a browser'
 complete -c segment -n '__fish_seen_subcommand_from dump' -l capacities -d 'tell capacities too'
+complete -c segment -n '__fish_seen_subcommand_from dump' -l json -d 'as lines of JSON'

@@ -257,7 +257,7 @@ pub tree-planted : (c : Cut) (old stepped planted : ℕ) → Spends step_rates 5
     → Spends planting_rates 0 c.bytes stepped planted → Spends tree_rates 50 c.bytes old planted
 tree-planted c old stepped planted x y = spend-both c.bytes step_rates planting_rates 50 0 old stepped planted x y
 
--- the tags, and in place of the tree a walk over the tiles
+-- in place of the tree a walk over the tiles
 planted-more : (u : Option Role) → rate_of tag_rates u ≤ rate_of planting_rates u
 planted-more None = omega arith
 planted-more (Some Object) = omega arith
@@ -268,10 +268,9 @@ planted-more (Some Node) = omega arith
 steps-none : (b : List ℕ) (old : ℕ) → Spends step_rates 50 b old old
 steps-none b old = (omega arith, omega arith)
 
-pub treeless-spend : (c : Cut) (old tagged new : ℕ) → Spends tag_rates 1 c.bytes old tagged → Spends tag_rates 0 c.bytes tagged new → Spends frame_rates 51 c.bytes old new
-treeless-spend c old tagged new x y = spend-both c.bytes tag_rates tree_rates 1 50 old tagged new x
-    (tree-planted c tagged tagged new (steps-none c.bytes tagged) (spend-within c.bytes tag_rates planting_rates 0
-    tagged new planted-more y))
+pub treeless-spend : (c : Cut) (old new : ℕ) → Spends tag_rates 0 c.bytes old new → Spends tree_rates 50 c.bytes old new
+treeless-spend c old new x =
+    tree-planted c old old new (steps-none c.bytes old) (spend-within c.bytes tag_rates planting_rates 0 old new planted-more x)
 
 -- ---- the whole
 

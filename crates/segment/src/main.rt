@@ -1,14 +1,15 @@
 //! The program `segment`: keeps a segment in a file, and does to it what the command line asks for.
 #![tactic(auto)]
 
-ghost use Rattle.std.specs.Prelude.{◌≡◌};
+ghost use Rattle.std.specs.Prelude.{◌≡◌, ⊤};
 ghost use Rattle.segment_disk.specs.Events.{nothing_taken};
 
-use raw_region::stream::{Reading, Writing};
+use raw_region::DeviceFault;
+use raw_region::stream::{ReadOnce, Reading, Writing};
 use segment_cli::SessionFault;
 use segment_commands::{
-    ProgramFault, check, create, draw, draw_page, dump, dump_capacities, explain, grow, lint, load,
-    migrate, print, print_language, report, report_file, run, run_strict, shrink, stat,
+    ProgramFault, check, create, draw, draw_page, dump, dump_capacities, dump_json, explain, grow,
+    lint, load, migrate, print, print_language, report, report_file, run, run_strict, shrink, stat,
 };
 use segment_disk::{HostDisk, Numbered, Outlet, Output, StopsAtError};
 use segment_invocation::{
@@ -16,7 +17,7 @@ use segment_invocation::{
 };
 use segment_scripts::command_rows;
 use std::alloc::{AllocError, Global};
-use std::io::{self, BufWriter, ErrorKind, IsTerminal};
+use std::io::{self, BufWriter, ErrorKind, IsTerminal, Read, Write};
 use std::process::ExitCode;
 
 /// Memory for reading the command line, or for the answers, was refused.
@@ -24,6 +25,9 @@ const OUT_OF_MEMORY: ProgramFault = ProgramFault::Session(SessionFault::OutOfMem
 
 /// How many bytes of answers go out at once, at most.
 const PIECE: usize = 65536;
+
+/// The status where the reader of standard output ended first, as of a program that SIGPIPE ends.
+const CLOSED_PIPE: u8 = 141;
 
 /// Ends with the status of what came of the command line; where that is a fault, its line goes to standard error.
 fn main(rt: HostRuntime) -> ExitCode {
@@ -61,8 +65,9 @@ fn perform(rt: &HostRuntime, asked: Invocation<'_>, is_verbose: bool) -> Result<
         return Err(OUT_OF_MEMORY);
     };
     let mut disk = HostDisk::new(rt);
-    let Err(fault) = command(rt, &mut disk, asked, Outlet::new(buffer)) else {
-        return Ok(0);
+    let fault = match command(rt, &mut disk, asked, Outlet::new(buffer)) {
+        Ok(status) => return Ok(status),
+        Err(fault) => fault,
     };
     let status = tell(rt, fault);
     if is_of_file(fault) && (is_verbose || rt.stderr().is_terminal()) {
@@ -73,21 +78,22 @@ fn perform(rt: &HostRuntime, asked: Invocation<'_>, is_verbose: bool) -> Result<
     Ok(status)
 }
 
-/// Does what the command line asks for.
-fn command<O: Output + Drop>(
+/// Does what the command line asks for, and answers the status.
+fn command<W: Write + Drop>(
     rt: &HostRuntime,
     disk: &mut HostDisk<'_, HostRuntime>,
     asked: Invocation<'_>,
-    out: O,
-) -> Result<(), ProgramFault>
-    requires { O.history out ≡ nothing_taken }
+    out: Outlet<W>,
+) -> Result<u8, ProgramFault>
+    requires { out.history ≡ nothing_taken }
 {
     let alloc = rt.alloc();
     let mut out = out;
-    match asked {
+    let answer = match asked {
         Invocation::Create(file, size) => create(alloc, disk, file, size),
         Invocation::Run(file, mode, size, saving, answering) => {
-            answer(rt, disk, file, mode, size, saving, answering, out)
+            answer(rt, disk, file, mode, size, saving, answering, out)?;
+            return Ok(0);
         }
         Invocation::Check(file) => check(alloc, disk, file, &mut out),
         Invocation::Grow(file, bytes) => grow(alloc, disk, file, bytes, &mut out),
@@ -99,13 +105,35 @@ fn command<O: Output + Drop>(
         Invocation::DrawPage(file) => draw_page(alloc, disk, file, &mut out),
         Invocation::Dump(file) => dump(alloc, disk, file, &mut out),
         Invocation::DumpCapacities(file) => dump_capacities(alloc, disk, file, &mut out),
+        Invocation::DumpJson(file) => dump_json(alloc, disk, file, &mut out),
         Invocation::Load(file, size) => {
             load(alloc, disk, file, size, &mut Reading::new(rt.reader()))
         }
         Invocation::Lint => lint(command_rows(), &mut Reading::new(rt.reader()), &mut out),
         Invocation::Language => print_language(&mut out, command_rows()),
         Invocation::Version => print(&mut out, VERSION),
+    };
+    match answer {
+        Ok(()) => Ok(0),
+        Err(_) if ends_quietly(asked) && out.is_closed_pipe() => Ok(CLOSED_PIPE),
+        Err(fault) => Err(fault),
     }
+}
+
+/// Whether a command says nothing where the reader of standard output ended first, as other tools have it.
+fn ends_quietly(asked: Invocation<'_>) -> bool {
+    matches!(
+        asked,
+        Invocation::Explain(_)
+            | Invocation::Stat(_)
+            | Invocation::Draw(_)
+            | Invocation::DrawPage(_)
+            | Invocation::Dump(_)
+            | Invocation::DumpCapacities(_)
+            | Invocation::DumpJson(_)
+            | Invocation::Lint
+            | Invocation::Language
+    )
 }
 
 /// Runs the script of standard input, and gives its answers to an output that makes of them what is wanted.
@@ -151,13 +179,42 @@ fn answer_as<O: Output + Drop>(
     requires { O.history out ≡ nothing_taken }
 {
     let alloc = rt.alloc();
-    let mut script = Reading::new(rt.reader());
+    let mut script = Reading::new(Prompted::new(rt, rt.reader()));
     if is_strict {
         let mut out = StopsAtError::new(out);
         return run_strict(alloc, disk, file, mode, size, saving, &mut script, &mut out);
     }
     let mut out = out;
     run(alloc, disk, file, mode, size, saving, &mut script, &mut out)
+}
+
+/// The script of standard input. Where a person types it, and reads standard error, they are prompted for each line.
+#[derive(Drop)]
+struct Prompted<'a, R> {
+    inner: R,
+    rt: &'a HostRuntime,
+    is_prompting: bool,
+}
+
+impl<'a, R: Read> Prompted<'a, R> {
+    fn new(rt: &'a HostRuntime, inner: R) -> Prompted<'a, R> {
+        Prompted {
+            inner,
+            rt,
+            is_prompting: rt.stdin().is_terminal() && rt.stderr().is_terminal(),
+        }
+    }
+}
+
+impl<'a, R: Read> ReadOnce for Prompted<'a, R> {
+    ghost read_gives = { λ old answer bytes new. ⊤ };
+
+    fn read_once(&mut self, into: &mut [u8]) -> Result<usize, DeviceFault> {
+        if self.is_prompting && !into.is_empty() {
+            let _ = eprint!(self.rt; "> ");
+        }
+        self.inner.read_once(into)
+    }
 }
 
 /// The file that the command line names, if there is one.
@@ -175,6 +232,7 @@ fn file_of<'a>(asked: Invocation<'a>) -> Option<&'a str> {
         | Invocation::DrawPage(file)
         | Invocation::Dump(file)
         | Invocation::DumpCapacities(file)
+        | Invocation::DumpJson(file)
         | Invocation::Load(file, _) => Some(file),
         Invocation::Lint | Invocation::Language | Invocation::Version => None,
     }

@@ -1,5 +1,5 @@
 -- A dump that fits is loaded, if memory is given.
-use Rattle.std.proofs.Common.{◌≡◌, ◌⊎◌, ℕ, ◌+◌, ◌^◌, ◌<◌, ◌≤◌, Bool, true, false, nat_lt, List, length, Option, Some, None, Ok, Err, if◌then◌else◌, refl, sym, ap, subst, ◌∙◌, inl, inr, arith}
+use Rattle.std.proofs.Common.{◌≡◌, ℕ, ◌+◌, ◌≤◌, Bool, true, false, nat_lt, List, length, Option, Some, None, Err, if◌then◌else◌, refl, sym, ap, subst, ◌∙◌, inl, inr, arith}
 use Rattle.std.specs.Prelude.{Result, min, not}
 use Rattle.std.proofs.lemmas.Bool.{false≢true, ltb-true}
 use Rattle.std.proofs.lemmas.Bool.Decides.{nat_tests}
@@ -10,7 +10,7 @@ use Rattle.segment_dump.specs.declared.faults.LoadError.{LoadError}
 use Rattle.segment_dump.specs.declared.faults.LoadError.TheVariants as load
 use Rattle.segment_dump.specs.declared.faults.LoadRefused.{LoadRefused}
 use Rattle.segment_dump.specs.Items.{portable}
-use Rattle.segment_dump.specs.Loading.{IsExact, asked_of, cause_but_bad, cause_in}
+use Rattle.segment_dump.specs.Loading.{IsExact, asked_of, cause_but_bad}
 use Rattle.segment_dump.specs.Need.{items_needs}
 use Rattle.segment_dump.specs.Notes.{without_notes}
 use Rattle.segment_dump.specs.Succeeding.{Succeeds}

@@ -3,6 +3,7 @@
 use Rattle.std.proofs.Common.{◌≡◌, ℕ, refl, sym, ap, subst, inr, List, length, Result, Ok, Err}
 use Rattle.raw_region.specs.Device.{Given}
 use Rattle.raw_region.specs.Format.{current}
+use Rattle.segment_manager.specs.declared.modes.Mode.{Mode}
 use Rattle.segment_manager.specs.declared.modes.Mode.TheVariants.{ReadOnly}
 use Rattle.segment_manager.specs.Calls.{HasZeroGaps}
 use Rattle.segment_manager.specs.State.{State, StandsFor}
@@ -14,15 +15,15 @@ use Rattle.segment_cli.specs.declared.faults.SessionFault.{SessionFault}
 use Rattle.segment_cli.specs.declared.faults.Start.TheVariants.{Image}
 use Rattle.segment_cli.specs.Beginning.{IsWhyNotBegun, Starts, opened_fault}
 use Rattle.segment_cli.specs.Session.{HasZeroGapsIn}
-use Rattle.segment_commands.specs.Opening.{BeginsIn, VerifiesIn}
+use Rattle.segment_commands.specs.Opening.{BeginsIn}
 
 module _ (image : Given) (region : List ℕ) where
   zeros_read : (s : State) → s.cut.bytes ≡ image.bytes → HasZeroGapsIn image.bytes → HasZeroGaps s
   zeros_read s e h = record { zeros = (subst HasZeroGapsIn (sym e) h).zeros }
 
-  begun : (s : State) → IsOpened current image region 0 ReadOnly s → (IsTooSmallFor current image 0 (length region) → ⊥)
-      → Starts Image ReadOnly 0 (length region) image (Ok s)
-  begun s h small =
+  pub begun : (mode : Mode) (s : State) → IsOpened current image region 0 mode s → (IsTooSmallFor current image 0 (length region) → ⊥)
+      → Starts Image mode 0 (length region) image (Ok s)
+  begun mode s h small =
       let d = h.denotes.0 in
       let stands : StandsFor image.bytes d = record { denotes = h.denotes.1 } in
       record {
@@ -39,10 +40,10 @@ module _ (image : Given) (region : List ℕ) where
         too_small = λ p. absurd (small p);
       }
 
-  pub verified_in : (back : List ℕ) → Verifies current image region 0 (Ok back) → VerifiesIn image (Ok tt)
+  pub verified_in : (back : List ℕ) → Verifies current image region 0 (Ok back) → (s : State) × BeginsIn Image ReadOnly image (Ok s)
   verified_in back v =
       let s = v.answers.segment in
-      (s, inr (record { capacity = length region; starts = begun s v.answers.opened v.too_small }))
+      (s, inr (record { capacity = length region; starts = begun ReadOnly s v.answers.opened v.too_small }))
 
   why_not_begun : (cause : OpenError) → IsWhyNot current image 0 (length region) cause
       → IsWhyNotBegun Image image 0 (length region) (opened_fault cause)

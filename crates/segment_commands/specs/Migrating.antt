@@ -4,6 +4,7 @@ use Rattle.raw_region.specs.Device.{Given, Took}
 use Rattle.segment_manager.specs.declared.modes.Mode.TheVariants.{Write}
 use Rattle.segment_manager.specs.State.{State}
 use Rattle.image_check.specs.declared.errors.OpenRefused.{OpenRefused}
+use Rattle.image_check.specs.Formats.{format_of}
 use Rattle.image_check.specs.OpeningAny.{OpensAny}
 use Rattle.segment_cli.specs.declared.faults.SessionFault.{SessionFault}
 use Rattle.segment_cli.specs.declared.faults.SessionFault.TheVariants.{WriteFault}
@@ -33,7 +34,7 @@ pub record IsOpenedAnyIn (image : Given) (result : Result State SessionFault) : 
   pub answer : result ≡ as_session opened
 
 abbrev pub BeginsAny : Given → Result State SessionFault → Type 0
-BeginsAny image result = IsRegionless image result ⊎ IsOpenedAnyIn image result
+BeginsAny image result = IsRegionless (format_of image.bytes) image result ⊎ IsOpenedAnyIn image result
 
 module _ {D : Type 0} (step : D → Event → D → Type 0) (old new : D) (path : List ℕ) where
   -- the file was opened, read and closed, and nothing else was asked

@@ -1,37 +1,29 @@
 -- How the segment of a file is opened, or only its image checked.
-use Rattle.std.specs.Prelude.{◌≡◌, ◌⊎◌, ◌≤◌, ◌<◌, ℕ, true, List, Result, Ok, Err, MatchResult, length}
-use Rattle.raw_region.specs.Device.{Gave, Given}
+use Rattle.std.specs.Prelude.{◌≡◌, ◌⊎◌, ℕ, false, List, None, Result, Ok, Err, MatchResult}
+use Rattle.raw_region.specs.Device.{Given}
 use Rattle.segment_manager.specs.declared.modes.Mode.{Mode}
 use Rattle.segment_manager.specs.declared.modes.Mode.TheVariants.{ReadOnly}
 use Rattle.segment_manager.specs.State.{State}
 use Rattle.segment_cli.specs.declared.faults.SessionFault.{SessionFault}
-use Rattle.segment_cli.specs.declared.faults.SessionFault.TheVariants.{Image as Refused, OutOfMemory, ReadFault, RegionTooSmall}
-use Rattle.image_check.specs.declared.classes.ImageClass.TheVariants.{Truncated}
+use Rattle.segment_cli.specs.declared.faults.SessionFault.TheVariants.{OutOfMemory, ReadFault}
 use Rattle.segment_cli.specs.declared.faults.Start.{Start}
 use Rattle.segment_cli.specs.declared.faults.Start.TheVariants.{Image}
 use Rattle.segment_cli.specs.Beginning.{Starts}
+use Rattle.raw_region.specs.Format.{current}
+use Rattle.image_check.specs.Deciding.{decided}
 use Rattle.image_check.specs.Opening.{IsUntouched}
 use Rattle.segment_disk.specs.Events.{Event, After}
 use Rattle.segment_file.specs.Files.{opens, does_not_open}
 
--- a reader ended, and never failed, within so many bytes
-pub record EndsWithin (most : ℕ) (gave : Gave) : Type 0 where
-  pub ended : gave.ended ≡ true
-  pub sound : gave.failures ≡ 0
-  pub few : length gave.bytes ≤ most
+-- what was read of an image decides no class of it, and no read failed
+pub record IsOpenYet (format : ℕ) (image : Given) : Type 0 where
+  pub sound : image.failed ≡ false
+  pub undecided : decided format image.bytes ≡ None
 
--- a reader failed, or gave more than so many bytes
-abbrev pub GoesBeyond : ℕ → Gave → Type 0
-GoesBeyond most gave = (0 < gave.failures) ⊎ (most < length gave.bytes)
-
--- how an image is told whose size is more than the room for it: it ended within the room, or it has no place there
-abbrev pub IsToldByLength : ℕ → Gave → SessionFault → Type 0
-IsToldByLength room gave fault =
-    ((fault ≡ Refused Truncated) × EndsWithin room gave) ⊎ ((fault ≡ RegionTooSmall) × GoesBeyond room gave)
-
--- memory for a region was refused before the image was read
-pub record IsRegionless (image : Given) (result : Result State SessionFault) : Type 0 where
-  pub unread : IsUntouched image
+-- memory for a region was refused before the image was read, or, of one that says more bytes than its file was told to
+-- have, memory for what was read
+pub record IsRegionless (format : ℕ) (image : Given) (result : Result State SessionFault) : Type 0 where
+  pub unread : IsUntouched image ⊎ IsOpenYet format image
   pub refused : result ≡ Err OutOfMemory
 
 -- a session began in a region of some capacity
@@ -40,7 +32,7 @@ pub record IsBegunIn (start : Start) (mode : Mode) (image : Given) (result : Res
   pub starts : Starts start mode 0 capacity image result
 
 abbrev pub BeginsIn : Start → Mode → Given → Result State SessionFault → Type 0
-BeginsIn start mode image result = IsRegionless image result ⊎ IsBegunIn start mode image result
+BeginsIn start mode image result = IsRegionless current image result ⊎ IsBegunIn start mode image result
 
 -- the file could not be opened, and nothing else was asked
 pub record IsUnopened {D : Type 0} (step : D → Event → D → Type 0) (old new : D) (path : List ℕ) (result : Result State SessionFault) : Type 0 where
@@ -57,10 +49,6 @@ abbrev pub OpensFile : {D : Type 0} → (D → Event → D → Type 0) → D →
 OpensFile step old new path mode result = IsUnopened step old new path result ⊎ IsReadFrom step old new path mode result
 
 -- ---- the same for reading, but that no segment is made: there is one, or this is why there is none
-
-abbrev pub VerifiesIn : Given → Result (Unit {0}) SessionFault → Type 0
-VerifiesIn image result =
-    MatchResult result (λ done. (s : State) × BeginsIn Image ReadOnly image (Ok s)) (λ fault. BeginsIn Image ReadOnly image (Err fault))
 
 abbrev pub VerifiesFile : {D : Type 0} → (D → Event → D → Type 0) → D → D → List ℕ → Result (Unit {0}) SessionFault → Type 0
 VerifiesFile step old new path result =

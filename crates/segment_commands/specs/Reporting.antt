@@ -8,9 +8,10 @@ use Rattle.segment_cli.specs.declared.faults.SessionFault.TheVariants.{WriteFaul
 use Rattle.segment_commands.specs.declared.program_faults.ProgramFault.{ProgramFault}
 use Rattle.segment_commands.specs.declared.program_faults.ProgramFault.TheVariants.{Session}
 use Rattle.segment_commands.specs.declared.reporting.Report.{Report}
-use Rattle.segment_commands.specs.declared.reporting.Report.TheVariants.{Figures, Picture, Page, Dump, Capacities}
+use Rattle.segment_commands.specs.declared.reporting.Report.TheVariants.{Figures, Picture, Page, Dump, Capacities, Json}
 use Rattle.segment_disk.specs.Events.{Event}
 use Rattle.segment_dump.specs.Capacities.{capacities, capacities_text}
+use Rattle.segment_dump.specs.Json.{json_dump}
 use Rattle.segment_dump.specs.Items.{portable}
 use Rattle.segment_dump.specs.Texts.{dump_text}
 use Rattle.segment_report.specs.Page.{page_of}
@@ -27,6 +28,7 @@ text_of Picture = picture_of
 text_of Page = page_of
 text_of Dump = λ d. dump_text d.size (portable d)
 text_of Capacities = λ d. dump_text d.size (portable d) ++ capacities_text (capacities d)
+text_of Json = λ d. json_dump (portable d)
 
 -- the text of each directory that a segment's bytes denote was said
 abbrev pub TellsOf : {O E : Type 0} → (O → Took) → (O → Bool → O → Type 0) → O → O → State → (Directory → List ℕ) → Result (Unit {0}) E → Type 0

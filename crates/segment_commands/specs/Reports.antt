@@ -15,7 +15,7 @@ use Rattle.segment_commands.specs.declared.program_faults.ProgramFault.{ProgramF
 use Rattle.segment_commands.specs.declared.program_faults.ProgramFault.TheVariants.{Usage, Exists, InUse, Stopped, Misspelled, Growth, BadDump, NoSpace, Session}
 use Rattle.segment_lang.specs.Texts.{quoted_text}
 use Rattle.segment_disk.specs.declared.presence.Trouble.{Trouble}
-use Rattle.segment_disk.specs.declared.presence.Trouble.TheVariants.{Missing, Homeless, Unnamed, Folder, Denied}
+use Rattle.segment_disk.specs.declared.presence.Trouble.TheVariants.{Missing, Homeless, Unnamed, Folder, Denied, Taken}
 
 -- ---- the line of a fault
 
@@ -101,6 +101,7 @@ trouble_words Homeless = codes ": no such folder\n"
 trouble_words Unnamed = codes ": is no name of a file\n"
 trouble_words Folder = codes ": is a folder\n"
 trouble_words Denied = codes ": permission denied\n"
+trouble_words Taken = codes ": another file is there\n"
 
 abbrev pub trouble_text : List ℕ → Trouble → List ℕ
 trouble_text path trouble = codes "segment: " ++ (quoted_text path ++ (trouble_words trouble ++ []))

@@ -3,7 +3,7 @@ ghost use Rattle.std.specs.Prelude.{◌≡◌, ◌^◌, ◌-◌, ◌<◌};
 ghost use Rattle.segment_commands.specs.Commands.{IsCheck};
 
 use crate::creating::WRITE_FAULT;
-use crate::opening::verify_segment;
+use crate::examining::verify_segment;
 use crate::program_faults::ProgramFault;
 use crate::telling::tell;
 use segment_disk::{Disk, Output};

@@ -8,11 +8,12 @@ use crate::creating::WRITE_FAULT;
 use crate::gathering::read_text;
 use crate::program_faults::ProgramFault;
 use block_tags::is_legal_size;
+use grow_shrink::region_for;
 use raw_region::Source;
 use segment_cli::SessionFault;
 use segment_disk::{Disk, Making, Presence};
 use segment_dump::{LoadError, said_size};
-use segment_file::{region_for, write_image};
+use segment_file::write_image;
 use segment_manager::Segment;
 use std::alloc::Global;
 

@@ -1,17 +1,69 @@
 //! The command that writes an image of an older format anew in its file.
-ghost use Rattle.std.specs.Prelude.{◌≡◌, ◌^◌, ◌-◌, ◌<◌};
+ghost use Rattle.std.specs.Prelude.{◌≡◌, ◌^◌, ◌-◌, ◌<◌, Err};
+ghost use Rattle.raw_region.specs.Device.{given_since};
+ghost use Rattle.segment_cli.specs.declared.faults.SessionFault.TheVariants.{RegionTooSmall};
+ghost use Rattle.segment_disk.specs.Events.{nothing_given};
 ghost use Rattle.segment_commands.specs.Holding.{Holds};
-ghost use Rattle.segment_commands.specs.Migrating.{IsMigrate, OpensAnyFile};
+ghost use Rattle.segment_commands.specs.Migrating.{BeginsAny, IsMigrate, OpensAnyFile};
 
 use crate::creating::WRITE_FAULT;
-use crate::cutting::begin_any_from;
+use crate::heading::Headed;
 use crate::program_faults::ProgramFault;
+use crate::reading_on::read_on;
 use crate::telling::tell;
+use grow_shrink::region_for;
+use image_check::open_any;
+use raw_region::{Source, Steps};
 use segment_cli::SessionFault;
 use segment_disk::{Disk, Making, Opened, Output};
 use segment_file::{room_needed, write_image};
-use segment_manager::Segment;
+use segment_manager::{Mode, Segment};
 use std::alloc::Global;
+
+/// The segment of an image of any of the three formats, at the front of a region with room for so many bytes.
+fn begin_any_in<S: Source>(
+    alloc: Global,
+    reader: &mut S,
+    bytes: u64,
+) -> Result<Segment, SessionFault>
+    requires fresh { S.history reader.old ≡ nothing_given }
+    ensures { BeginsAny (given_since nothing_given (S.history reader.new)) result }
+{
+    let Ok(region) = region_for(alloc, bytes) else {
+        return Err(SessionFault::OutOfMemory);
+    };
+    match open_any(alloc, reader, region, 0, Mode::Write, &mut Steps::new()) {
+        Ok(segment) => Ok(segment),
+        Err(refused) => Err(SessionFault::from(refused)),
+    }
+}
+
+/// Why there is no segment of an image that says more bytes than there is room for: it is read on, and where it has as
+/// many as it says, there is no room.
+fn refused_behind<S: Source>(alloc: Global, reader: &mut Headed<S>) -> SessionFault
+    requires small { BeginsAny (given_since nothing_given (S.history reader.old.inner)) (Err RegionTooSmall) }
+    ensures { BeginsAny (given_since nothing_given (S.history reader.new.inner)) (Err result) }
+{
+    match read_on(alloc, reader) {
+        Ok(_) => SessionFault::RegionTooSmall,
+        Err(unfit) => unfit.into_fault(),
+    }
+}
+
+/// The segment of the image of a reader that was told to give `len` bytes.
+fn begin_any_from<S: Source>(
+    alloc: Global,
+    reader: &mut Headed<S>,
+    len: u64,
+) -> Result<Segment, SessionFault>
+    requires fresh { S.history reader.old.inner ≡ nothing_given }
+    ensures { BeginsAny (given_since nothing_given (S.history reader.new.inner)) result }
+{
+    match begin_any_in(alloc, reader, room_needed(len, 0)) {
+        Err(SessionFault::RegionTooSmall) => Err(refused_behind(alloc, reader)),
+        begun => begun,
+    }
+}
 
 /// The segment of the image in a file, of any of the three formats. The file is closed.
 fn open_any_segment<D: Disk>(
@@ -24,9 +76,10 @@ fn open_any_segment<D: Disk>(
     let Ok(opened) = disk.open(path) else {
         return Err(SessionFault::ReadFault);
     };
-    let Opened { reader, len, front } = opened;
-    let (begun, reader) = begin_any_from(alloc, reader, room_needed(len, &front, 0));
-    disk.close(reader);
+    let Opened { reader, len } = opened;
+    let mut reader = Headed::new(reader);
+    let begun = begin_any_from(alloc, &mut reader, len);
+    disk.close(reader.into_inner());
     begun
 }
 

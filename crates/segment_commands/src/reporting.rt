@@ -4,6 +4,7 @@ ghost use Rattle.segment_manager.specs.Directory.{Directory};
 ghost use Rattle.segment_manager.specs.State.{StandsFor};
 ghost use Rattle.raw_region.specs.Device.{Writes};
 ghost use Rattle.segment_dump.specs.Capacities.{capacities, capacities_text};
+ghost use Rattle.segment_dump.specs.Json.{json_dump};
 ghost use Rattle.segment_dump.specs.Items.{portable};
 ghost use Rattle.segment_dump.specs.Texts.{dump_text};
 ghost use Rattle.segment_report.specs.Page.{page_of};
@@ -32,6 +33,8 @@ enum Report {
     Dump,
     /// All that it holds, and behind it the capacities of what has one.
     Capacities,
+    /// Its objects as lines of JSON.
+    Json,
 }
 
 /// Writes what is told of a segment.
@@ -46,6 +49,7 @@ fn write_report<O: Output>(out: &mut O, segment: &Segment, what: Report) -> Resu
         Report::Page => segment_report::draw_page(segment, out),
         Report::Dump => segment_dump::dump(segment, out),
         Report::Capacities => segment_dump::dump_with_capacities(segment, out),
+        Report::Json => segment_dump::dump_json(segment, out),
     }
 }
 
@@ -163,4 +167,22 @@ pub fn dump_capacities<D: Disk, O: Output>(
         (λ d. dump_text d.size (portable d) ++ capacities_text (capacities d)) result }
 {
     tell_of_file(alloc, disk, path, out, Report::Capacities)
+}
+
+/// Says the objects of the segment in a file as lines of JSON. The file is opened for reading.
+///
+/// # Errors
+///
+/// Those of [`check`](crate::check).
+pub fn dump_json<D: Disk, O: Output>(
+    alloc: Global,
+    disk: &mut D,
+    path: &str,
+    out: &mut O,
+) -> Result<(), ProgramFault>
+    requires { (O.history out.old).failures < 2 ^ 64 - 1 }
+    ensures { IsReport D.step disk.old disk.new path.now O.history O.flushes out.old out.new
+        (λ d. json_dump (portable d)) result }
+{
+    tell_of_file(alloc, disk, path, out, Report::Json)
 }

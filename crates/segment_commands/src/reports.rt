@@ -169,6 +169,7 @@ fn trouble_words(trouble: Trouble) -> &'static [u8]
         Trouble::Unnamed => b": is no name of a file\n",
         Trouble::Folder => b": is a folder\n",
         Trouble::Denied => b": permission denied\n",
+        Trouble::Taken => b": another file is there\n",
     }
 }
 

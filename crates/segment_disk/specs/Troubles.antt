@@ -1,17 +1,18 @@
 -- What an error of the system says of a file.
 use Rattle.std.specs.Prelude.{◌==◌, ◌-◌, ℕ, Bool, true, List, Option, Some, None, length, slice_get, if◌then◌else◌}
 use Rattle.std_io.specs.declared.io.kind.ErrorKind.{ErrorKind}
-use Rattle.std_io.specs.declared.io.kind.ErrorKind.TheVariants.{NotFound, PermissionDenied, IsADirectory}
+use Rattle.std_io.specs.declared.io.kind.ErrorKind.TheVariants.{AlreadyExists, NotFound, PermissionDenied, IsADirectory}
 use Rattle.segment_disk.specs.declared.presence.Making.{Making}
 use Rattle.segment_disk.specs.declared.presence.Making.TheVariants.{New, Emptied, Beside}
 use Rattle.segment_disk.specs.declared.presence.Trouble.{Trouble}
-use Rattle.segment_disk.specs.declared.presence.Trouble.TheVariants.{Missing, Homeless, Unnamed, Folder, Denied}
+use Rattle.segment_disk.specs.declared.presence.Trouble.TheVariants.{Missing, Homeless, Unnamed, Folder, Denied, Taken}
 
 -- of a file that was to be opened
 abbrev pub trouble_of : ErrorKind → Option Trouble
 trouble_of NotFound = Some Missing
 trouble_of IsADirectory = Some Folder
 trouble_of PermissionDenied = Some Denied
+trouble_of AlreadyExists = Some Taken
 trouble_of _ = None
 
 -- no file can be made by this path: it is empty, or ends as that of a folder does

@@ -1,6 +1,7 @@
 //! Files of the system that are made beside others, to take their place.
 
 use crate::durable::write_through;
+use crate::locks::Identity;
 use std::fs::{self, File, OpenFile, OpenOptions};
 use std::io::{self, ErrorKind};
 use std::os::unix::fs::OpenOptionsExt;
@@ -25,12 +26,12 @@ fn may_be_written<R: Files<File = File>>(files: &R, path: &str) -> io::Result<()
 }
 
 impl Beside {
-    /// Makes an empty file beside the one of a path, with its rights. What an earlier run left there is removed before,
-    /// if the file is held; else nothing may be there.
+    /// Makes an empty file beside the one of a path, with its rights. Where a file is locked, the path leads to it, and
+    /// what an earlier run left there is removed before; else nothing may be there.
     pub(crate) fn make<R: Files<File = File> + AllocGlobal>(
         rt: &R,
         path: &str,
-        is_held: bool,
+        held: Option<Identity>,
     ) -> io::Result<(File, Beside)> {
         let old = fs::canonicalize(rt, path)?;
         let described = fs::metadata(rt, old.as_path())?;
@@ -38,8 +39,11 @@ impl Beside {
             return Err(io::Error::from(ErrorKind::InvalidInput));
         }
         may_be_written(rt, old.as_str())?;
+        if held.is_some() && Identity::at(rt, old.as_str()).ok() != held {
+            return Err(io::Error::from(ErrorKind::AlreadyExists));
+        }
         let new = format!(in rt.alloc(); "{}.new", old.as_str())?;
-        if is_held {
+        if held.is_some() {
             let _ = fs::remove_file(rt, new.as_str());
         }
         let mut options = OpenOptions::new();

@@ -2,7 +2,7 @@
 //! answered.
 ghost use Rattle.std.specs.Prelude.{◌≡◌, Bool, IfOk, is_ok};
 ghost use Rattle.raw_region.specs.Device.{given_since, taken_since};
-ghost use Rattle.segment_disk.specs.Events.{Event, Looked, Held, Released, Opened as WasOpened, Read, Made, Wrote, Placed, Discarded, nothing_given, nothing_taken};
+ghost use Rattle.segment_disk.specs.Events.{Event, Looked, Held, Released, Opened as WasOpened, Read, Compared, Made, Wrote, Placed, Discarded, nothing_given, nothing_taken};
 
 use crate::presence::{InUse, Making, Presence};
 use raw_region::{DeviceFault, Sink, Source};
@@ -13,8 +13,6 @@ pub struct Opened<R> {
     pub reader: R,
     /// How many bytes it has, as far as that is known; 0 also where it is not.
     pub len: u64,
-    /// Its first bytes, and zeros behind them where it has fewer.
-    pub front: [u8; 24],
 }
 
 /// Where files are kept. A reader or a writer that it hands out comes back to it.
@@ -51,8 +49,14 @@ pub trait Disk {
     fn close(&mut self, reader: Self::Reader)
         ensures { step self.old (Read (given_since nothing_given (Self.Reader.history reader))) self.new };
 
+    /// Compares the file of a path with the one that the right to write was given for. An error where another file has
+    /// taken its name; Ok also where no right was given, and where nothing is there.
+    fn compare(&mut self, path: &str) -> Result<(), DeviceFault>
+        ensures { step self.old (Compared path.now (is_ok result)) self.new };
+
     /// Makes a file, or empties it, and opens it for writing. One that is made beside another is put in its place or
-    /// discarded when it is closed.
+    /// discarded when it is closed. Where the right to write a file was given and another file has taken its name, that
+    /// one is neither emptied nor replaced, and the answer is an error.
     fn make(&mut self, path: &str, how: Making) -> Result<Self::Writer, DeviceFault>
         ensures asked { step self.old (Made how path.now (is_ok result)) self.new }
         ensures fresh { IfOk result (λ writer. Self.Writer.history writer ≡ nothing_taken) };
@@ -63,7 +67,8 @@ pub trait Disk {
             (Wrote (taken_since nothing_taken (Self.Writer.history writer)) (is_ok result)) self.new };
 
     /// Puts the file that was made beside this one, and is closed, in its place. At each moment the name leads to one
-    /// of the two. Ok says that it leads to the new one, and that this lasts.
+    /// of the two. Ok says that it leads to the new one, and that this lasts. An error where another file has taken the
+    /// name of the one whose right was given.
     fn place(&mut self, path: &str) -> Result<(), DeviceFault>
         ensures { step self.old (Placed path.now (is_ok result)) self.new };
 

@@ -4,23 +4,23 @@ ghost use Rattle.std.specs.Prelude.{⊤};
 use crate::beside::Beside;
 use crate::disk::{Disk, Opened};
 use crate::durable::write_through;
-use crate::locks::lock;
+use crate::locks::{Identity, lock};
 use crate::outlet::Outlet;
 use crate::presence::{InUse, Making, Presence, Trouble};
 use crate::sparse::SparseFile;
 use crate::troubles::{making_trouble, trouble_of};
 use raw_region::stream::Reading;
-use raw_region::{DeviceFault, fill};
-use std::fs::{self, File, OpenFile};
-use std::io::{self, ErrorKind, Seek};
+use raw_region::DeviceFault;
+use std::fs::{self, File, OpenFile, OpenOptions};
+use std::io::{self, ErrorKind};
 use std::rt::Files;
 
 /// The files of the system. A file is written through before it is closed, where it is one that can be.
 #[derive(Drop)]
 pub struct HostDisk<'a, R: Files> {
     files: &'a R,
-    /// Whether a file is locked.
-    is_held: bool,
+    /// The file that is locked, if one is.
+    held: Option<Identity>,
     /// The file that was made beside another last, while its fate is open.
     beside: Option<Beside>,
     /// What the system said last of a file that was to be opened or made.
@@ -38,7 +38,7 @@ impl<'a, R: Files> HostDisk<'a, R> {
     pub fn new(files: &'a R) -> HostDisk<'a, R> {
         HostDisk {
             files,
-            is_held: false,
+            held: None,
             beside: None,
             trouble: None,
         }
@@ -56,13 +56,44 @@ impl<'a, R: Files<File = File> + AllocGlobal> HostDisk<'a, R> {
     fn file_for(&mut self, path: &str, how: Making) -> io::Result<File> {
         match how {
             Making::New => File::create_new(self.files, path),
-            Making::Emptied => fs::create(self.files, path),
+            Making::Emptied => emptied(self.files, path, self.held),
             Making::Beside => {
-                let (file, beside) = Beside::make(self.files, path, self.is_held)?;
+                let (file, beside) = Beside::make(self.files, path, self.held)?;
                 self.beside = Some(beside);
                 Ok(file)
             }
         }
+    }
+
+    /// Whether another file has taken the name of the one that is locked.
+    fn is_taken(&self, path: &str) -> bool {
+        match (self.held, Identity::at(self.files, path)) {
+            (Some(held), Ok(named)) => held != named,
+            _ => false,
+        }
+    }
+}
+
+/// Opens a file for writing, and empties it. One that is not there is made. Where a file is locked, no other is emptied
+/// that has taken its name: they are compared when the file is open.
+fn emptied<R: Files<File = File>>(
+    files: &R,
+    path: &str,
+    held: Option<Identity>,
+) -> io::Result<File> {
+    if held.is_none() {
+        return fs::create(files, path);
+    }
+    let mut options = OpenOptions::new();
+    options.write(true);
+    match options.open(files, path) {
+        Ok(file) if Identity::of(&file) == held => {
+            file.set_len(0)?;
+            Ok(file)
+        }
+        Ok(_) => Err(io::Error::from(ErrorKind::AlreadyExists)),
+        Err(error) if error.kind() == ErrorKind::NotFound => File::create_new(files, path),
+        Err(error) => Err(error),
     }
 }
 
@@ -74,12 +105,10 @@ struct Found<F> {
     is_folder: bool,
 }
 
-/// Opens a file for reading, and reads its first bytes.
-fn open_file<R: Files>(files: &R, path: &str, front: &mut [u8; 24]) -> io::Result<Found<R::File>> {
-    let mut file = fs::open(files, path)?;
+/// Opens a file for reading. Nothing is read of it, and what cannot seek can be opened too, as a pipe.
+fn open_file<R: Files>(files: &R, path: &str) -> io::Result<Found<R::File>> {
+    let file = fs::open(files, path)?;
     let metadata = file.metadata()?;
-    let _ = fill(&mut Reading::new(&mut file), front);
-    file.rewind()?;
     Ok(Found {
         file,
         len: metadata.len(),
@@ -107,7 +136,7 @@ impl<'a, R: Files<File = File> + AllocGlobal> Disk for HostDisk<'a, R> {
     fn hold(&mut self, path: &str) -> Result<HostHold, InUse> {
         match lock(self.files, path) {
             Ok(lock) => {
-                self.is_held = lock.is_some();
+                self.held = lock.as_ref().and_then(Identity::of);
                 Ok(HostHold { _lock: lock })
             }
             Err(in_use) => Err(in_use),
@@ -115,12 +144,11 @@ impl<'a, R: Files<File = File> + AllocGlobal> Disk for HostDisk<'a, R> {
     }
 
     fn release(&mut self, _hold: HostHold) {
-        self.is_held = false;
+        self.held = None;
     }
 
     fn open(&mut self, path: &str) -> Result<Opened<Reading<File>>, DeviceFault> {
-        let mut front = [0u8; 24];
-        match open_file(self.files, path, &mut front) {
+        match open_file(self.files, path) {
             Ok(
                 Found {
                     file,
@@ -130,7 +158,7 @@ impl<'a, R: Files<File = File> + AllocGlobal> Disk for HostDisk<'a, R> {
             ) => {
                 self.trouble = is_folder.then_some(Trouble::Folder);
                 let reader = Reading::new(file);
-                Ok(Opened { reader, len, front })
+                Ok(Opened { reader, len })
             }
             Err(error) => {
                 self.trouble = trouble_of(error.kind());
@@ -140,6 +168,14 @@ impl<'a, R: Files<File = File> + AllocGlobal> Disk for HostDisk<'a, R> {
     }
 
     fn close(&mut self, _reader: Reading<File>) {}
+
+    fn compare(&mut self, path: &str) -> Result<(), DeviceFault> {
+        if self.is_taken(path) {
+            self.trouble = Some(Trouble::Taken);
+            return Err(DeviceFault);
+        }
+        Ok(())
+    }
 
     fn make(&mut self, path: &str, how: Making) -> Result<Outlet<SparseFile>, DeviceFault> {
         match self.file_for(path, how) {
@@ -163,11 +199,11 @@ impl<'a, R: Files<File = File> + AllocGlobal> Disk for HostDisk<'a, R> {
         }
     }
 
-    fn place(&mut self, _path: &str) -> Result<(), DeviceFault> {
+    fn place(&mut self, path: &str) -> Result<(), DeviceFault> {
         let Some(beside) = self.beside.take() else {
             return Err(DeviceFault);
         };
-        if beside.place(self.files).is_err() {
+        if self.is_taken(path) || beside.place(self.files).is_err() {
             self.beside = Some(beside);
             return Err(DeviceFault);
         }

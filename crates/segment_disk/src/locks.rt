@@ -2,17 +2,41 @@
 
 use crate::presence::InUse;
 use std::fs::{self, File, TryLockError};
+use std::io;
 use std::os::unix::fs::MetadataExt;
 use std::rt::Files;
 
 /// How often a file is opened anew that was replaced before it was locked.
 const TRIES: u32 = 8;
 
+/// Which file one is, whatever names lead to it while it is open.
+#[derive(Clone, Copy, Debug, PartialEq, Eq)]
+pub(crate) struct Identity {
+    device: u64,
+    number: u64,
+}
+
+impl Identity {
+    /// That of a file that is open, if the system tells.
+    pub(crate) fn of(file: &File) -> Option<Identity> {
+        match file.metadata() {
+            Ok(found) => Some(Identity { device: found.dev(), number: found.ino() }),
+            Err(_) => None,
+        }
+    }
+
+    /// That of the file that a path leads to.
+    pub(crate) fn at<R: Files<File = File>>(files: &R, path: &str) -> io::Result<Identity> {
+        let found = fs::metadata(files, path)?;
+        Ok(Identity { device: found.dev(), number: found.ino() })
+    }
+}
+
 /// Whether a path still leads to a file that was opened by it.
 fn leads_to<R: Files<File = File>>(files: &R, path: &str, file: &File) -> bool {
-    match (fs::metadata(files, path), file.metadata()) {
-        (Ok(named), Ok(opened)) => named.dev() == opened.dev() && named.ino() == opened.ino(),
-        _ => false,
+    match Identity::at(files, path) {
+        Ok(named) => Identity::of(file) == Some(named),
+        Err(_) => false,
     }
 }
 

@@ -5,7 +5,7 @@ ghost use Rattle.segment_disk.specs.Events.{nothing_taken};
 use crate::disk::Output;
 use raw_region::stream::{WriteOnce, Writing};
 use raw_region::{DeviceFault, Sink};
-use std::io::Write;
+use std::io::{ErrorKind, Write};
 use std::marker::Model;
 
 /// Takes all bytes, and does nothing with them: what went to a writer is counted by what came by here.
@@ -25,6 +25,8 @@ impl WriteOnce for Passing {
 pub struct Outlet<W> {
     inner: W,
     failures: u64,
+    /// Whether it failed last since its reader had ended.
+    is_closed_pipe: bool,
     passed: Writing<Passing>,
 }
 
@@ -49,8 +51,14 @@ impl<W> Outlet<W> {
         Outlet {
             inner,
             failures: 0,
+            is_closed_pipe: false,
             passed: Writing::new(Passing),
         }
+    }
+
+    /// Whether it failed last since it is a pipe whose reader had ended.
+    pub fn is_closed_pipe(&self) -> bool {
+        self.is_closed_pipe
     }
 
     /// The writer of std.
@@ -63,9 +71,13 @@ impl<W: Write> Sink for Outlet<W> {
     ghost history = { λ o. o.history };
 
     fn write(&mut self, bytes: &[u8]) -> Result<usize, DeviceFault> {
-        let Ok(count) = self.inner.write(bytes) else {
-            self.failures += 1;
-            return Err(DeviceFault);
+        let count = match self.inner.write(bytes) {
+            Ok(count) => count,
+            Err(error) => {
+                self.is_closed_pipe = error.kind() == ErrorKind::BrokenPipe;
+                self.failures += 1;
+                return Err(DeviceFault);
+            }
         };
         if count == 0 && !bytes.is_empty() {
             self.failures += 1;
@@ -82,7 +94,10 @@ impl<W: Write> Output for Outlet<W> {
     fn flush(&mut self) -> Result<(), DeviceFault> {
         match self.inner.flush() {
             Ok(()) => Ok(()),
-            Err(_) => Err(DeviceFault),
+            Err(error) => {
+                self.is_closed_pipe = error.kind() == ErrorKind::BrokenPipe;
+                Err(DeviceFault)
+            }
         }
     }
 

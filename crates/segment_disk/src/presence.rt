@@ -42,4 +42,6 @@ pub enum Trouble {
     Folder,
     /// Its rights do not let it be.
     Denied,
+    /// Another file has taken the name meanwhile.
+    Taken,
 }

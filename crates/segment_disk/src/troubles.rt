@@ -13,6 +13,7 @@ pub(crate) fn trouble_of(kind: ErrorKind) -> Option<Trouble>
         ErrorKind::NotFound => Some(Trouble::Missing),
         ErrorKind::IsADirectory => Some(Trouble::Folder),
         ErrorKind::PermissionDenied => Some(Trouble::Denied),
+        ErrorKind::AlreadyExists => Some(Trouble::Taken),
         _ => None,
     }
 }

@@ -1,6 +1,6 @@
 -- A segment with the path of its file: what the disk is asked, in order, and what becomes of the segment.
-use Rattle.std.specs.Prelude.{◌≡◌, ◌≢◌, ◌⊎◌, ◌≤◌, ◌<◌, ℕ, ◌+◌, ◌%◌, false, List, [], ◌∷◌, length, IsTrue, string_bytes}
-use Rattle.std.specs.Prelude.{Option, Some, None, Result, Ok, Err, IfErr, MatchResult}
+use Rattle.std.specs.Prelude.{◌≡◌, ◌≢◌, ◌⊎◌, ℕ, false, List, [], ◌∷◌, IsTrue, string_bytes}
+use Rattle.std.specs.Prelude.{Some, None, Result, Ok, Err, IfErr, MatchResult}
 use Rattle.raw_region.specs.Device.{Given}
 use Rattle.raw_region.specs.Format.{current}
 use Rattle.block_tags.specs.Format.{is_legal_size}
@@ -17,8 +17,11 @@ use Rattle.image_check.specs.declared.errors.OpenError.TheVariants.{OutOfMemory 
 use Rattle.image_check.specs.declared.errors.OpenRefused.{OpenRefused}
 use Rattle.image_check.specs.Opening.{Opens, IsUntouched}
 use Rattle.image_check.specs.OpeningAny.{OpensAny}
+use Rattle.grow_shrink.specs.declared.larger_region.GrowOrMoveError.{GrowOrMoveError}
+use Rattle.grow_shrink.specs.declared.larger_region.GrowOrMoveError.TheVariants.{Growth as NoGrowth, OutOfMemory as NoLargerRegion}
 use Rattle.grow_shrink.specs.declared.refusals.GrowError.{GrowError}
-use Rattle.grow_shrink.specs.Resized.{grown, growth_refusal, room_of, shrink_refusal, shrunk}
+use Rattle.grow_shrink.specs.LargerRegion.{GrowsOrMovesErr, GrowsOrMovesOk}
+use Rattle.grow_shrink.specs.Resized.{shrink_refusal, shrunk}
 use Rattle.segment_disk.specs.declared.presence.Making.{Making}
 use Rattle.segment_disk.specs.declared.presence.Making.TheVariants.{New, Emptied}
 use Rattle.segment_disk.specs.declared.presence.Presence.{Presence}
@@ -245,57 +248,20 @@ Migrates step old new path result = IsUnmigrated step old new path result ⊎ Is
 
 -- ---- other sizes
 
--- the first reason not to grow a segment, which is none of its region
-abbrev pub growth_reason : Mode → ℕ → ℕ → Option GrowError
-growth_reason mode size extra = growth_refusal mode size extra (size + extra)
+-- why a segment does not grow, as a file's call answers it
+abbrev pub growing_error : GrowOrMoveError → FileError
+growing_error (NoGrowth reason) = Growth reason
+growing_error (NoLargerRegion refusal) = OutOfMemory
 
--- it may grow
-pub record MayGrow (s : State) (extra : ℕ) : Type 0 where
-  pub may : (d : Directory) → StandsFor s.cut.bytes d → growth_reason s.mode d.size extra ≡ None
-
--- its region has no room for so many bytes more
-abbrev pub IsTooLongFor : State → ℕ → Type 0
-IsTooLongFor s extra = room_of s.cut < length s.cut.bytes + extra
-
--- it may grow, and its region has no room for it
-pub record IsShortOfRoom (s : State) (extra : ℕ) : Type 0 where
-  pub writing : is_read_only s.mode ≡ false
-  pub long : 32 ≤ extra
-  pub whole : extra % 16 ≡ 0
-  pub small : length s.cut.bytes + extra ≤ 1073741824
-  pub may : MayGrow s extra
-  pub short : IsTooLongFor s extra
-
--- open as it was, and each directory has so many bytes more; at its place in its region, or that has no room for it
-pub record IsLonger (old new : State) (extra : ℕ) : Type 0 where
-  pub may : MayGrow old extra
-  pub mode : new.mode ≡ old.mode
-  pub denotes : (d : Directory) → StandsFor old.cut.bytes d → StandsFor new.cut.bytes (grown d extra)
-  pub place : Resizes old new (λ d. grown d extra) ⊎ IsTooLongFor old extra
-
--- it does not grow, for this reason
+-- it does not grow, and may not move, for this reason
 pub record IsNotLonger (old new : State) (extra : ℕ) (why : FileError) : Type 0 where
-  pub same : new ≡ old
-  pub reason : GrowError
-  pub applies : (d : Directory) → StandsFor old.cut.bytes d → growth_reason old.mode d.size extra ≡ Some reason
-  pub refused : why ≡ Growth reason
-
--- it may grow, its region has no room for it, and memory for a larger one was refused
-pub record IsWithoutRoom (old new : State) (extra : ℕ) (why : FileError) : Type 0 where
-  pub same : new ≡ old
-  pub may : MayGrow old extra
-  pub short : IsTooLongFor old extra
-  pub refused : why ≡ OutOfMemory
+  pub cause : GrowOrMoveError
+  pub refused : GrowsOrMovesErr old new extra cause
+  pub answer : why ≡ growing_error cause
 
 -- `grow`
 abbrev pub Grows : State → State → ℕ → Result (Unit {0}) FileError → Type 0
-Grows old new extra result = MatchResult result (λ u. IsLonger old new extra) (λ why. IsNotLonger old new extra why ⊎ IsWithoutRoom old new extra why)
-
--- a copy of a segment, in a region with room for so many bytes from its base on
-pub record IsCopyWithRoom (old new : State) (bytes : ℕ) : Type 0 where
-  pub bytes_same : new.cut.bytes ≡ old.cut.bytes
-  pub mode : new.mode ≡ old.mode
-  pub room : bytes ≤ room_of new.cut
+Grows old new extra result = MatchResult result (λ u. GrowsOrMovesOk old new extra) (IsNotLonger old new extra)
 
 -- it ends behind its last block
 pub record IsShorter (old new : State) : Type 0 where

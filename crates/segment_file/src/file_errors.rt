@@ -1,9 +1,9 @@
 //! Why a segment's file is not made, read or written.
 ghost use Rattle.std.specs.Prelude.{◌≡◌};
 ghost use Rattle.segment_file.specs.declared.file_errors.FileError.TheVariants.{Growth, OutOfMemory as NoMemory};
-ghost use Rattle.segment_file.specs.SegmentFiles.{file_error};
+ghost use Rattle.segment_file.specs.SegmentFiles.{file_error, growing_error};
 
-use grow_shrink::GrowError;
+use grow_shrink::{GrowError, GrowOrMoveError};
 use image_check::{ImageClass, OpenError, OpenRefused};
 use std::alloc::AllocError;
 use thiserror::Error;
@@ -61,6 +61,17 @@ impl From<GrowError> for FileError {
 
     fn from(why: GrowError) -> FileError {
         FileError::Growth(why)
+    }
+}
+
+impl From<GrowOrMoveError> for FileError {
+    ghost from_gives = { λ why error. error ≡ growing_error why };
+
+    fn from(why: GrowOrMoveError) -> FileError {
+        match why {
+            GrowOrMoveError::Growth(reason) => FileError::Growth(reason),
+            GrowOrMoveError::OutOfMemory(_) => FileError::OutOfMemory,
+        }
     }
 }
 

@@ -4,9 +4,10 @@ ghost use Rattle.raw_region.specs.Device.{given_since};
 ghost use Rattle.segment_file.specs.SegmentFiles.{ChecksFile, IsEmptySegment, IsWhyNoSegment, MakesSegmentFile, Migrates, OpensAnyIn, OpensIn, ReadsAnySegment, ReadsSegment, VerifiesIn, WritesHeld};
 
 use crate::file_errors::FileError;
-use crate::regions::{region_for, room_needed};
+use crate::regions::room_needed;
 use crate::writing::write_image;
 use block_tags::is_legal_size;
+use grow_shrink::region_for;
 use image_check::{open, open_any, verify};
 use raw_region::{Source, Steps};
 use segment_disk::{Disk, Making, Opened};
@@ -75,9 +76,8 @@ pub(crate) fn read_segment<D: Disk>(
     let Opened {
         mut reader,
         len,
-        front,
     } = opened;
-    let read = open_in(alloc, mode, &mut reader, room_needed(len, &front, 0));
+    let read = open_in(alloc, mode, &mut reader, room_needed(len, 0));
     disk.close(reader);
     read
 }
@@ -96,9 +96,8 @@ pub(crate) fn read_any_segment<D: Disk>(
     let Opened {
         mut reader,
         len,
-        front,
     } = opened;
-    let read = open_any_in(alloc, &mut reader, room_needed(len, &front, 0));
+    let read = open_any_in(alloc, &mut reader, room_needed(len, 0));
     disk.close(reader);
     read
 }
@@ -113,9 +112,8 @@ pub(crate) fn verify_file<D: Disk>(alloc: Global, disk: &mut D, path: &str) -> R
     let Opened {
         mut reader,
         len,
-        front,
     } = opened;
-    let verified = verify_in(alloc, &mut reader, room_needed(len, &front, 0));
+    let verified = verify_in(alloc, &mut reader, room_needed(len, 0));
     disk.close(reader);
     verified
 }

@@ -3,13 +3,12 @@ ghost use Rattle.std.specs.Prelude.{◌≡◌, IfOk, string_bytes};
 ghost use Rattle.segment_disk.specs.declared.presence.Making.TheVariants.{Beside, Emptied};
 ghost use Rattle.segment_file.specs.SegmentFiles.{ChecksFile, CreatesSegment, Grows, HoldsFile, KeepsFile, Migrates, OpensOrCreates, ReadsSegment, Saves, SavesAs, Shrinks};
 
-use crate::enlarging::grow_segment;
 use crate::file_errors::FileError;
 use crate::file_steps::{
     make_segment_file, migrate_segment, read_segment, verify_file, write_held,
 };
 use crate::writing::write_image;
-use grow_shrink::shrink_to_fit;
+use grow_shrink::{grow_or_move, shrink_to_fit};
 use segment_disk::{Disk, Making, Presence};
 use segment_manager::{Mode, Segment};
 use std::alloc::Global;
@@ -184,7 +183,10 @@ impl SegmentFile {
         ensures grows { Grows self.old.segment self.new.segment extra result }
         ensures path { self.new.path ≡ self.old.path }
     {
-        grow_segment(alloc, &mut self.segment, extra)
+        match grow_or_move(alloc, &mut self.segment, extra) {
+            Ok(()) => Ok(()),
+            Err(why) => Err(FileError::from(why)),
+        }
     }
 
     /// Makes the segment as short as its last block lets it be. Every object keeps its handle and its value. The file

@@ -12,13 +12,13 @@ use Rattle.clap.specs.Takes.{built_takes, default_passes, entered_passes, is_val
 use Rattle.clap.specs.Faults.{built_fault, fault_of, is_simple_and_free}
 use Rattle.clap.specs.declared.error.kind.ErrorKind.TheVariants.{DisplayVersion}
 use Rattle.segment_lang.specs.Words.{between, is_digit, is_numeral, number_after, number_of}
-use Rattle.segment_invocation.specs.Invocations.{Asked, create, run, check, explain, grow, shrink, migrate, stat, draw, draw_page, dump, dump_capacities, load, lint, language, version, IsModePart, IsSizePart, IsWritten, RunWords, asked_in, asked_of, asked_of_run, command_line, flag_words, is_path, is_set, mode_called, mode_of, mode_word, run_sized, saving_of, size_of, wants_size}
+use Rattle.segment_invocation.specs.Invocations.{Asked, create, run, check, explain, grow, shrink, migrate, stat, draw, draw_page, dump, dump_capacities, dump_json, load, lint, language, version, IsModePart, IsSizePart, IsWritten, RunWords, asked_in, asked_of, asked_of_run, command_line, flag_words, is_path, is_set, mode_called, mode_of, mode_word, run_sized, saving_of, size_of, wants_size}
 use Rattle.segment_invocation.specs.declared.invocations.ModeName.{ModeName}
 use Rattle.segment_invocation.specs.declared.invocations.ModeName.TheVariants.{CreateOnly, OpenOnly, OpenOrCreate, OpenReadOnly, OpenCopyOnWrite}
 use Rattle.segment_invocation.specs.declared.invocations.Saving.{Saving}
 use Rattle.segment_invocation.specs.declared.invocations.Saving.TheVariants.{InPlace, Replacing}
 use Rattle.segment_invocation.proofs.PlainWords.{IsPlain}
-use Rattle.segment_invocation.proofs.Leaves.{IsRead, saving_word, truth_word, capacities-asks, capacities-passes, check-asks, check-passes, draw-asks, draw-passes, dump-asks, dump-passes, explain-asks, explain-passes, file-passes, file-rows, html-asks, html-passes, load-asks, load-passes, number-passes, number-rows, run-both, run-file, run-mode, run-size, sized-asks, sized-passes}
+use Rattle.segment_invocation.proofs.Leaves.{IsRead, saving_word, truth_word, capacities-asks, capacities-passes, check-asks, check-passes, draw-asks, draw-passes, dump-asks, dump-passes, explain-asks, explain-passes, json-asks, json-passes, file-passes, file-rows, html-asks, html-passes, load-asks, load-passes, number-passes, number-rows, run-both, run-file, run-mode, run-size, sized-asks, sized-passes}
 
 -- ---- words that are no options
 
@@ -127,6 +127,10 @@ behind-dump f p = record { takes = ap (λ b. b && true) (dump-passes f p); asks 
 behind-capacities : (f : Text) → IsPlain f → Behind (codes "dump" ∷ f ∷ codes "--capacities" ∷ []) (dump_capacities f)
 unfolding clap_on_literals
 behind-capacities f p = record { takes = ap (λ b. b && true) (capacities-passes f p); asks = capacities-asks f p }
+
+behind-json : (f : Text) → IsPlain f → Behind (codes "dump" ∷ f ∷ codes "--json" ∷ []) (dump_json f)
+unfolding clap_on_literals
+behind-json f p = record { takes = ap (λ b. b && true) (json-passes f p); asks = json-asks f p }
 
 behind-load : (f : Text) → IsPlain f → Behind (codes "load" ∷ f ∷ []) (load f None)
 unfolding clap_on_literals
@@ -262,6 +266,7 @@ behind words (draw f) (p, e) = inl (rw e (behind-draw f (path-plain f p)))
 behind words (draw_page f) (p, e) = inl (rw e (behind-page f (path-plain f p)))
 behind words (dump f) (p, e) = inl (rw e (behind-dump f (path-plain f p)))
 behind words (dump_capacities f) (p, e) = inl (rw e (behind-capacities f (path-plain f p)))
+behind words (dump_json f) (p, e) = inl (rw e (behind-json f (path-plain f p)))
 behind words (load f None) (p, e) = inl (rw e (behind-load f (path-plain f p)))
 behind words (load f (Some n)) (p, sizes, (d, h, s), e) = inl (rw (e, s) (behind-sized f d n (path-plain f p) h))
 behind words lint e = inl (rw e behind-lint)

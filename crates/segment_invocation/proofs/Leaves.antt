@@ -9,7 +9,7 @@ use Rattle.clap.specs.Simple.{Shape, built_leaf, inherited}
 use Rattle.clap.specs.Takes.{default_passes, is_valid, level_passes, settle_passes, turn_passes, walk_passes}
 use Rattle.clap.specs.declared.builder.value_parser.Reading.TheVariants as reading
 use Rattle.clap.specs.declared.parser.matches.ValueSource.TheVariants.{CommandLine, DefaultValue}
-use Rattle.segment_invocation.specs.Invocations.{RunWords, asked_check, asked_draw, asked_dump, asked_load, check, check_command, draw, draw_command, draw_page, dump, dump_capacities, dump_command, explain, file_command, flag_words, load, load_command, number_command, program, run_command, run_words, size_of}
+use Rattle.segment_invocation.specs.Invocations.{RunWords, asked_check, asked_draw, asked_dump, asked_load, check, check_command, draw, draw_command, draw_page, dump, dump_capacities, dump_command, dump_json, explain, file_command, flag_words, load, load_command, number_command, program, run_command, run_words, size_of}
 use Rattle.segment_invocation.specs.declared.invocations.Saving.{Saving}
 use Rattle.segment_invocation.specs.declared.invocations.Saving.TheVariants.{InPlace, Replacing}
 use Rattle.segment_invocation.proofs.PlainWords.{IsPlain, plain_step, turn-plain, walked-plain}
@@ -126,7 +126,7 @@ html-passes f p =
     let s : Shape = leaf draw_command in
     ap₂ (passes_at s) (ap₂ (λ a b. a && (b && true)) (turn-plain s nothing_held idle 1 f p) (ap (λ (w : Walk). turn_passes s [] w (codes "--html")) (draw-walk f p))) (html-walk f p)
 
--- ---- a file, which may have `--capacities` behind it
+-- ---- a file, which may have `--capacities` or `--json` behind it
 
 dump-walk : (f : Text) → IsPlain f → walk (leaf dump_command).rules [] nothing_held (f ∷ []) ≡ plain_step (leaf dump_command).rules (walk_from nothing_held) f
 dump-walk f p = walked-plain (leaf dump_command).rules nothing_held idle 1 f p
@@ -153,6 +153,21 @@ unfolding clap_on_literals
 capacities-passes f p =
     let s : Shape = leaf dump_command in
     ap₂ (passes_at s) (ap₂ (λ a b. a && (b && true)) (turn-plain s nothing_held idle 1 f p) (ap (λ (w : Walk). turn_passes s [] w (codes "--capacities")) (dump-walk f p))) (capacities-walk f p)
+
+json-walk : (f : Text) → IsPlain f
+    → walk (leaf dump_command).rules [] nothing_held (f ∷ codes "--json" ∷ [])
+    ≡ walked (leaf dump_command).rules [] (plain_step (leaf dump_command).rules (walk_from nothing_held) f) (codes "--json")
+json-walk f p = ap (λ (w : Walk). walked (leaf dump_command).rules [] w (codes "--json")) (dump-walk f p)
+
+pub json-asks : (f : Text) → IsPlain f → asked_dump (rows_after (leaf dump_command).rules [] (f ∷ codes "--json" ∷ [])) ≡ Some (dump_json f)
+unfolding clap_on_literals
+json-asks f p = ap (λ (w : Walk). asked_dump (finished (leaf dump_command).rules w.held)) (json-walk f p)
+
+pub json-passes : (f : Text) → IsPlain f → level_passes (leaf dump_command) [] nothing_held (f ∷ codes "--json" ∷ []) false ≡ true
+unfolding clap_on_literals
+json-passes f p =
+    let s : Shape = leaf dump_command in
+    ap₂ (passes_at s) (ap₂ (λ a b. a && (b && true)) (turn-plain s nothing_held idle 1 f p) (ap (λ (w : Walk). turn_passes s [] w (codes "--json")) (dump-walk f p))) (json-walk f p)
 
 -- ---- a file, which may have `--size` behind it
 

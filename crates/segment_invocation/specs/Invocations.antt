@@ -12,7 +12,7 @@ use Rattle.clap.specs.declared.error.kind.ErrorKind.TheVariants.{DisplayVersion}
 use Rattle.clap.specs.declared.builder.action.ArgAction.TheVariants.{Set, SetTrue}
 use Rattle.segment_lang.specs.Words.{number_of}
 use Rattle.segment_invocation.specs.declared.invocations.Invocation.{Invocation}
-use Rattle.segment_invocation.specs.declared.invocations.Invocation.TheVariants.{Create, Run, Check, Explain, Grow, Shrink, Migrate, Stat, Draw, DrawPage, Dump, DumpCapacities, Load, Lint, Language, Version}
+use Rattle.segment_invocation.specs.declared.invocations.Invocation.TheVariants.{Create, Run, Check, Explain, Grow, Shrink, Migrate, Stat, Draw, DrawPage, Dump, DumpCapacities, DumpJson, Load, Lint, Language, Version}
 use Rattle.segment_invocation.specs.declared.invocations.ModeName.{ModeName}
 use Rattle.segment_invocation.specs.declared.invocations.ModeName.TheVariants.{CreateOnly, OpenOnly, OpenOrCreate, OpenReadOnly, OpenCopyOnWrite}
 use Rattle.segment_invocation.specs.declared.invocations.Saving.{Saving}
@@ -56,7 +56,7 @@ abbrev pub draw_command : Shape
 draw_command = taking (codes "draw") (operand (codes "file") ∷ flag (codes "html") ∷ [])
 
 abbrev pub dump_command : Shape
-dump_command = taking (codes "dump") (operand (codes "file") ∷ flag (codes "capacities") ∷ [])
+dump_command = taking (codes "dump") (operand (codes "file") ∷ flag (codes "capacities") ∷ flag (codes "json") ∷ [])
 
 abbrev pub load_command : Shape
 load_command = taking (codes "load") (operand (codes "file") ∷ option (codes "size") ∷ [])
@@ -91,6 +91,7 @@ pub data Asked : Type 0 where
   draw_page : Text → Asked
   dump : Text → Asked
   dump_capacities : Text → Asked
+  dump_json : Text → Asked
   load : Text → Option ℕ → Asked
   lint : Asked
   language : Asked
@@ -109,6 +110,7 @@ asked_by (Draw file) = draw file.now
 asked_by (DrawPage file) = draw_page file.now
 asked_by (Dump file) = dump file.now
 asked_by (DumpCapacities file) = dump_capacities file.now
+asked_by (DumpJson file) = dump_json file.now
 asked_by (Load file size) = load file.now size
 asked_by Lint = lint
 asked_by Language = language
@@ -176,9 +178,9 @@ asked_check words = with_file (λ file. Some (if is_set (first_of (codes "explai
 abbrev pub asked_draw : List Row → Option Asked
 asked_draw words = with_file (λ file. Some (if is_set (first_of (codes "html") words) then draw_page file else draw file)) words
 
--- a dump's file, and its flag --capacities
+-- a dump's file, and its flags --json and --capacities
 abbrev pub asked_dump : List Row → Option Asked
-asked_dump words = with_file (λ file. Some (if is_set (first_of (codes "capacities") words) then dump_capacities file else dump file)) words
+asked_dump words = with_file (λ file. Some (if is_set (first_of (codes "json") words) then dump_json file else if is_set (first_of (codes "capacities") words) then dump_capacities file else dump file)) words
 
 -- a load's file and size
 abbrev pub asked_load : List Row → Option Asked
@@ -335,6 +337,7 @@ IsWritten (draw file) words = IsTrue (is_path file) × (words ≡ codes "draw" �
 IsWritten (draw_page file) words = IsTrue (is_path file) × (words ≡ codes "draw" ∷ file ∷ codes "--html" ∷ [])
 IsWritten (dump file) words = IsTrue (is_path file) × (words ≡ codes "dump" ∷ file ∷ [])
 IsWritten (dump_capacities file) words = IsTrue (is_path file) × (words ≡ codes "dump" ∷ file ∷ codes "--capacities" ∷ [])
+IsWritten (dump_json file) words = IsTrue (is_path file) × (words ≡ codes "dump" ∷ file ∷ codes "--json" ∷ [])
 IsWritten (load file None) words = IsTrue (is_path file) × (words ≡ codes "load" ∷ file ∷ [])
 IsWritten (load file (Some size)) words = IsTrue (is_path file) × (sizes : List Text) × IsSized sizes size × (words ≡ codes "load" ∷ file ∷ sizes)
 IsWritten lint words = words ≡ codes "lint" ∷ []

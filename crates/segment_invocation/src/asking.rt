@@ -142,6 +142,7 @@ fn read_filed<'a>(
         "stat" => Ok(Invocation::Stat(file)),
         "draw" if is_set(words, "html") => Ok(Invocation::DrawPage(file)),
         "draw" => Ok(Invocation::Draw(file)),
+        "dump" if is_set(words, "json") => Ok(Invocation::DumpJson(file)),
         "dump" if is_set(words, "capacities") => Ok(Invocation::DumpCapacities(file)),
         "dump" => Ok(Invocation::Dump(file)),
         "load" => Ok(Invocation::Load(file, size_in(words)?)),

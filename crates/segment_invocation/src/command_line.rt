@@ -166,6 +166,11 @@ const HTML: Word = Word::Flag(
 );
 
 /// What a dump has behind its end.
+const JSON: Word = Word::Flag(
+    "json",
+    "Writes each object as a line of JSON: class, name, kind and value; then --capacities tells nothing",
+);
+
 const CAPACITIES: Word = Word::Flag(
     "capacities",
     "Behind the objects, tells the capacities: of the indexes, vectors, strings and vectors of strings",
@@ -199,7 +204,7 @@ static COMMANDS: [Row; 12] = [
     ("migrate", MIGRATE, None, &[FILE, VERBOSE]),
     ("stat", STAT, None, &[FILE, VERBOSE]),
     ("draw", DRAW, None, &[FILE, HTML, VERBOSE]),
-    ("dump", DUMP, None, &[FILE, CAPACITIES, VERBOSE]),
+    ("dump", DUMP, None, &[FILE, CAPACITIES, JSON, VERBOSE]),
     ("load", LOAD, None, &[FILE, LOADED, VERBOSE]),
     ("lint", LINT, None, &[VERBOSE]),
     ("language", LANGUAGE, Some(WORDS), &[VERBOSE]),

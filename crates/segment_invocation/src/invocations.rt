@@ -86,6 +86,8 @@ pub enum Invocation<'a> {
     Dump(&'a str),
     /// To write the same, and behind it the capacities of what has one.
     DumpCapacities(&'a str),
+    /// To write its objects as lines of JSON.
+    DumpJson(&'a str),
     /// To make a segment of such a text in a file that is not there: of this size, or as long as the text says and cut
     /// behind its last block.
     Load(&'a str, Option<u64>),

@@ -834,8 +834,8 @@ int main(int count, char **arguments) {
         an_anonymous_object, names, files, mapped_files, index_and_object_do_not_both_fit, arrays,
         the_only_object_of_its_kind, places_reserved_in_the_indexes, best_fit, storage_is_lengthened_then_replaced,
         a_string_grows_and_shrinks, a_map, refusals_of_a_vector, a_vector_of_strings, objects_found_or_made, many_at_once,
-        another_kind_under_the_handle, one_of_each, size_and_region, modes, calls_of_c, what_is_refused, what_shows_a_class, segments_move,
-        segments_end_before_their_objects, errors_say_what};
+        another_kind_under_the_handle, one_of_each, size_and_region, modes, calls_of_c, what_is_refused, what_shows_a_class,
+        segments_move, segments_end_before_their_objects, errors_say_what};
     for (void (*each)() : cases) {
         try {
             each();

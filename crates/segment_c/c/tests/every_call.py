@@ -1391,7 +1391,8 @@ for case in (an_anonymous_object, names, index_and_object_do_not_both_fit, array
              refusals_have_names,
              copies, a_list_as_list_is_one, threads_that_follow_each_other, one_segment_of_many_threads, groups,
              transactions,
-             records, views, size_and_region, calls_of_c, what_is_refused, what_shows_a_class, one_thread, files, files_that_are_mapped,
+             records, views, size_and_region, calls_of_c, what_is_refused, what_shows_a_class, one_thread,
+             files, files_that_are_mapped,
              what_is_refused_by_name, a_process_that_forks, a_relative_path, files_that_fail, what_is_not_closed):
     try:
         case()

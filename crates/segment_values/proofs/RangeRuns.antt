@@ -2,7 +2,7 @@
 use Rattle.std.proofs.Common.{◌≡◌, refl, sym, ap, subst, ◌∙◌, ℕ, zero, suc, ◌+◌, ◌*◌, ◌<◌, ◌≤◌, ◌⊎◌, inl, inr, ℤ, true}
 use Rattle.std.proofs.Common.{Bool, Some, None, Option, Result, Ok, Err, List, [], ◌∷◌, ◌++◌, length, length-append, map}
 use Rattle.std.proofs.Common.{set, take, IsTrue, zero-add, arith}
-use Rattle.std.specs.Prelude.{drop, slice_get}
+use Rattle.std.specs.Prelude.{◌-◌, drop, slice_get}
 use Rattle.std.specs.List.{list_all}
 use Rattle.std.proofs.Math.Nat.{eq_of_mul-eq-mul_left, lt_of_mul-lt-mul_left, mul-le-mul_left, mul-lt-mul_of_pos_left}
 use Rattle.std.proofs.Math.Seq.{drop-append-add, drop-nil}
@@ -10,9 +10,12 @@ use Rattle.std.proofs.lemmas.Bool.{and_from, and_parts}
 use Rattle.std.proofs.lemmas.List.{take_all}
 use Rattle.raw_region.specs.Memory.{bytes_of, part, read}
 use Rattle.raw_region.proofs.Laws.{part-part, read-part}
-use Rattle.best_fit.specs.Extents.{handle}
+use Rattle.raw_region.proofs.Facts.{first}
+use Rattle.block_tags.specs.Format.{is_legal_size}
+use Rattle.best_fit.specs.Extents.{handle, is_proper, proper_from}
 use Rattle.seg_types.specs.declared.kinds.Kind.TheVariants.{Scalar, Vector}
 use Rattle.seg_types.specs.declared.kinds.ScalarKind.{ScalarKind}
+use Rattle.seg_types.specs.declared.kinds.ScalarKind.TheVariants.{Bool as BoolKind, U8, I32, I64, U64}
 use Rattle.seg_types.specs.declared.refusals.Refusal.{Refusal}
 use Rattle.seg_types.specs.declared.refusals.Refusal.TheVariants.{NotFound}
 use Rattle.seg_types.specs.Kinds.{is_value, size_of, spelling}
@@ -22,7 +25,7 @@ use Rattle.seg_vector.specs.Vector.{spelled}
 use Rattle.seg_vector.proofs.Typed.{all-at, flat-element, flat-take, has-element}
 use Rattle.segment_manager.specs.declared.containers.element_runs.ElementRun.{ElementRun}
 use Rattle.segment_manager.specs.declared.objects.targets.Object.{Object as Located}
-use Rattle.segment_manager.specs.Directory.{Directory, Value, Numbers, Elements, Object, kind_of, padded}
+use Rattle.segment_manager.specs.Directory.{Directory, Value, Numbers, Elements, Object, kind_of, live, padded}
 use Rattle.segment_manager.specs.Layout.{head_len}
 use Rattle.segment_manager.specs.containers.ElementRuns.{IsRunOf, run_at, run_in, run_of, spelled_at, spelled_in}
 use Rattle.segment_manager.specs.objects.ElementLists.{numbers_in}
@@ -36,11 +39,11 @@ use Rattle.segment_values.proofs.RangeRows.{its-numbers, row-cases}
 
 -- ---- bytes that spell values
 
-all-from : (test : ℤ → Bool) (zs : List ℤ) → ((i : ℕ) {z : ℤ} → slice_get zs i ≡ Some z → test z ≡ true)
+all-from : (test : ℤ → Bool) (zs : List ℤ) → ((i : ℕ) (z : ℤ) → slice_get zs i ≡ Some z → test z ≡ true)
     → IsTrue (list_all test zs)
 all-from test [] each = refl
 all-from test (z ∷ zs) each =
-    and_from (test z) (list_all test zs) (each 0 refl) (all-from test zs (λ i e. each (suc i) e))
+    and_from (test z) (list_all test zs) (each 0 z refl) (all-from test zs (λ i y e. each (suc i) y e))
 
 all-behind : (test : ℤ → Bool) (n : ℕ) (zs : List ℤ) → IsTrue (list_all test zs) → IsTrue (list_all test (drop n zs))
 all-behind test zero zs v = v
@@ -56,6 +59,13 @@ all-before test (suc n) (z ∷ zs) v =
 
 long : (k : ScalarKind) (z : ℤ) → is_value k z ≡ true → length (spelling k z) ≡ size_of k
 long k z e = (all_spell_one k z e).len
+
+some : (k : ScalarKind) → 0 < size_of k
+some BoolKind = omega arith
+some U8 = omega arith
+some I32 = omega arith
+some I64 = omega arith
+some U64 = omega arith
 
 spelled-length : (k : ScalarKind) (zs : List ℤ) → IsTrue (list_all (is_value k) zs)
     → length (spelled k zs) ≡ size_of k * length zs
@@ -89,6 +99,22 @@ range-spelled k zs bytes first n a =
           ∙ flat-take (size_of k) (is_value k) (spelling k) (long k) n (drop first zs) behind;
     }
 
+-- ---- parts of slices
+
+pub slice-part : {b image : List ℕ} {from f len n : ℕ} → image ≡ b → from ≡ f → len ≡ n
+    → take (from + len - from) (drop from image) ≡ part b f n
+slice-part {b} {image} {from} {f} {len} {n} p q r =
+    ap (λ m. take m (drop from image)) (let e : from + len - from ≡ len = omega arith in e) ∙ (λ i. part (p i) (q i) (r i))
+
+pub slice-element : (bytes : List ℕ) {each size : ℕ} (i : ℕ) → each ≡ size
+    → take (each * (i + 1) - each * i) (drop (each * i) bytes) ≡ part bytes (size * i) size
+slice-element bytes {each} {size} i e =
+    ap (λ m. take m (drop (each * i) bytes)) (let f : each * (i + 1) - each * i ≡ each = one-more each i in f)
+    ∙ (λ j. part bytes (e j * i) (e j))
+  where
+    one-more : (each i : ℕ) → each * (i + 1) - each * i ≡ each
+    one-more each i = let step : each * (i + 1) ≡ each * i + each = omega arith in omega (arith, step)
+
 -- ---- values that are read of them, one after another
 
 -- the first i are read
@@ -96,15 +122,15 @@ abbrev pub AreReadOf : {A : Type 0} → (A → ℤ) → ScalarKind → List ℕ 
 AreReadOf whole k bytes row i = (zs : List ℤ) → AreSpelled k zs bytes → map whole (take i row) ≡ take i zs
 
 pub reads-value : {A : Type 0} (whole : A → ℤ) (k : ScalarKind) (bytes : List ℕ) (row : List A) (i : ℕ) (x : A)
-    (from : List ℕ) → 0 < size_of k → length bytes ≡ size_of k * length row → i < length row
+    (from : List ℕ) → length bytes ≡ size_of k * length row → i < length row
     → from ≡ part bytes (size_of k * i) (size_of k)
     → ((z : ℤ) → is_value k z ≡ true → from ≡ spelling k z → whole x ≡ z) → AreReadOf whole k bytes row i
     → AreReadOf whole k bytes (set row i x) (i + 1)
-reads-value whole k bytes row i x from some many within e reads before = λ zs a.
+reads-value whole k bytes row i x from many within e reads before = λ zs a.
     let all : size_of k * length row ≡ size_of k * length zs =
     sym many ∙ ap (λ bs. length bs) a.spelled_are ∙ spelled-length k zs a.values in
     let fits : i < length zs =
-    lt_of_mul-lt-mul_left (size_of k) (subst (λ n. size_of k * i < n) all (mul-lt-mul_of_pos_left within some)) in
+    lt_of_mul-lt-mul_left (size_of k) (subst (λ n. size_of k * i < n) all (mul-lt-mul_of_pos_left within (some k))) in
     let one = has-element zs i fits in
     let same : from ≡ spelling k one.0 =
     e ∙ ap (λ bs. part bs (size_of k * i) (size_of k)) a.spelled_are
@@ -113,16 +139,27 @@ reads-value whole k bytes row i x from some many within e reads before = λ zs a
     read-more whole zs 0 i row x within (ap (slice_get zs) (zero-add i) ∙ one.1 ∙ ap Some (sym is)) (before zs a)
 
 -- all are
-pub reads-all : {A : Type 0} (whole : A → ℤ) (k : ScalarKind) (bytes : List ℕ) (row : List A) (i : ℕ) → 0 < size_of k
+pub reads-all : {A : Type 0} (whole : A → ℤ) (k : ScalarKind) (bytes : List ℕ) (row : List A) (i : ℕ)
     → length bytes ≡ size_of k * length row → length row ≤ i → AreReadOf whole k bytes row i → (zs : List ℤ)
     → AreSpelled k zs bytes → map whole row ≡ zs
-reads-all whole k bytes row i some many last before zs a =
+reads-all whole k bytes row i many last before zs a =
     let all : size_of k * length row ≡ size_of k * length zs =
     sym many ∙ ap (λ bs. length bs) a.spelled_are ∙ spelled-length k zs a.values in
-    let same = eq_of_mul-eq-mul_left (size_of k) some (length row) (length zs) all in
+    let same = eq_of_mul-eq-mul_left (size_of k) (some k) (length row) (length zs) all in
     ap (map whole) (sym (take_all i row last)) ∙ before zs a ∙ take_all i zs (omega (arith, same, last))
 
 -- ---- the object
+
+-- a segment is not too long
+segment-short : (b : List ℕ) → IsSegment b → length b ≤ 1073741824
+unfolding is_proper
+segment-short b (d, st) =
+    let legal : IsTrue (is_legal_size (live d).size) =
+    first (is_legal_size (live d).size) (proper_from 128 (live d).extents ((live d).size - 16)) st.denotes.directory.proper in
+    let small = legal-most (live d).size legal in let size = st.denotes.heap.size in omega (arith, small, size)
+  where
+    legal-most : (n : ℕ) → IsTrue (is_legal_size n) → n ≤ 1073741824
+    legal-most n l = grind arith
 
 spelled-if : (k : ScalarKind) (v : Value) → IsRowOfKind k v → spelled_in v ≡ spelled k (numbers_in v)
 spelled-if k (Numbers j zs) (AnArray e) = let same : j ≡ k = cc in ap (λ l. spelled l zs) same
@@ -167,7 +204,7 @@ module _ (s : State) (o : Located) (k : ScalarKind) (located : IsLocated s (ByHa
         (said.0, said.1 ∙ ap (λ zs. length zs) (sym (numbers-are d st)))
 
     values-are : (d : Directory) → StandsFor s.cut.bytes d → IsTrue (list_all (is_value k) (row_of o d))
-    values-are d st = all-from (is_value k) (row_of o d) (λ i e. (row-element s (ByHandle o.handle) run k bytes d st
+    values-are d st = all-from (is_value k) (row_of o d) (λ i z e. (row-element s (ByHandle o.handle) run k bytes d st
         (there d st).object (there d st).is (of-kind d st) i (ap (λ zs. slice_get zs i) (sym (numbers-are d st)) ∙ e)).value)
 
     spelled-is : (d : Directory) (st : StandsFor s.cut.bytes d) → spelled_at d (ByHandle o.handle) ≡ spelled k (row_of o d)
@@ -181,6 +218,7 @@ module _ (s : State) (o : Located) (k : ScalarKind) (located : IsLocated s (ByHa
     pub has-row : IsSegment s.cut.bytes → HasRow s o k run
     has-row g = record {
       inside = row-inside g.0 g.1;
+      short = segment-short s.cut.bytes g;
       many = record { answers = λ d st. (run-said d st).1 };
       spells = λ d st. record {
         values = values-are d st;

@@ -45,6 +45,7 @@ pub record AreSpelled (k : ScalarKind) (zs : List ℤ) (bytes : List ℕ) : Type
 -- such an object, of a kind, has as many elements as a run says, and they are spelled from its offset on
 pub record HasRow (s : State) (o : Located) (k : ScalarKind) (run : ElementRun) : Type 0 where
   pub inside : run.offset + size_of k * run.count ≤ length s.cut.bytes
+  pub short : length s.cut.bytes ≤ 1073741824
   pub many : Answers s (λ d. length (row_of o d)) run.count
   pub spells : (d : Directory) → StandsFor s.cut.bytes d
       → AreSpelled k (row_of o d) (part s.cut.bytes run.offset (size_of k * run.count))

@@ -6,4 +6,5 @@ mod RangeLists
 mod RangeObjects
 mod RangeReads
 mod RangeRows
+mod RangeRuns
 mod RangeWrites

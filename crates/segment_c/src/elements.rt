@@ -1,7 +1,7 @@
 //! Elements of objects of scalars, of vectors and of strings.
 ghost use Rattle.std.specs.Prelude.{◌≡◌, ◌≤◌, OnErr};
 ghost use Rattle.seg_types.specs.Commands.{Erase, Get, Insert, Pop, Push, Set};
-ghost use Rattle.seg_types.specs.Keys.{key_seen};
+ghost use Rattle.seg_types.specs.{Keys.key_seen, Written.literal_seen};
 ghost use Rattle.seg_types.specs.Values.{kind_of_scalar};
 ghost use Rattle.seg_types.specs.declared.kinds.Kind.TheVariants.{Strings as StringsKind, Vector as VectorOf};
 ghost use Rattle.segment_c.specs.Calls.{Owes};
@@ -14,7 +14,7 @@ ghost use Rattle.segment_manager.specs.Calls.{scalar_reply};
 ghost use Rattle.segment_manager.specs.State.{Answers, IsStep, IsStepOfKind, Moves, done_answer, scalar_answer};
 ghost use Rattle.segment_manager.specs.Step.{step_of_kind};
 ghost use Rattle.segment_manager.specs.containers.TextLists.{LeadsOnOfKind};
-ghost use Rattle.segment_values.specs.Literals.{literal_seen};
+ghost use Rattle.segment_values.specs.Changes.{command_at};
 
 use crate::calls::{enter, enter_with, passed};
 use crate::changes::{Change, make_change};
@@ -24,6 +24,7 @@ use crate::keys::ObjectKey;
 use crate::values::Value;
 use seg_types::{Key, Kind, Refusal, ScalarKind, ScalarValue, by_kind, by_value};
 use segment_manager::{Segment, locate};
+use segment_values::Spot;
 use std::alloc::Global;
 
 /// The element at `index` in the object of a key: of scalars, of a vector of scalars, or of a string, which has bytes.
@@ -60,7 +61,7 @@ pub extern "C" fn zx_set(
     ensures marks { IsMarked result h.old.marks h.new.marks }
 {
     let (which, new, mut segment) = passed!(enter_with(alloc, h, key, value));
-    let answer = segment_values::set(&mut segment, &which, index, new);
+    let answer = segment_values::set(&mut segment, &which, index, &new, &mut ());
     done(answer, h, segment)
 }
 
@@ -82,7 +83,7 @@ fn push(segment: &mut Segment, key: &Key, value: ScalarValue) -> Result<(), Refu
     ensures refused { OnErr result (segment.new ≡ segment.old) }
 {
     match push_of_kind(segment, key, value) {
-        Err(Refusal::WrongKind) => segment_values::push(segment, key, value),
+        Err(Refusal::WrongKind) => add(segment, key, Spot::End, value),
         pushed => pushed,
     }
 }
@@ -111,8 +112,15 @@ pub extern "C" fn zx_insert(
     ensures marks { IsMarked result h.old.marks h.new.marks }
 {
     let (which, new, mut segment) = passed!(enter_with(alloc, h, key, value));
-    let answer = segment_values::insert(&mut segment, &which, index, new);
-    done(answer, h, segment)
+    done(add(&mut segment, &which, Spot::Before(index), new), h, segment)
+}
+
+/// Puts a value into the vector of a key, where the spot says.
+fn add(segment: &mut Segment, key: &Key, spot: Spot, value: ScalarValue) -> Result<(), Refusal>
+    ensures step { IsStep segment.old segment.new (command_at spot (key_seen key.now) (literal_seen value)) (done_answer result) }
+    ensures refused { OnErr result (segment.new ≡ segment.old) }
+{
+    segment_values::add(segment, key, spot, &value, &mut ())
 }
 
 /// Leaves out the element at `index` in the vector of a key, of scalars or of strings.

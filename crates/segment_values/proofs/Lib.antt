@@ -1,6 +1,7 @@
 mod AbsentPairs
 mod Exits
-mod NoTexts
+mod NewElements
+pub mod NoTexts
 mod RangeBytes
 mod RangeLists
 mod RangeObjects

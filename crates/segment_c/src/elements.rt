@@ -2,6 +2,7 @@
 ghost use Rattle.std.specs.Prelude.{◌≡◌, ◌≤◌, OnErr};
 ghost use Rattle.seg_types.specs.Commands.{Erase, Get, Insert, Pop, Push, Set};
 ghost use Rattle.seg_types.specs.{Keys.key_seen, Written.literal_seen};
+ghost use Rattle.seg_types.specs.Values.{kind_of_scalar};
 ghost use Rattle.seg_types.specs.declared.kinds.Kind.TheVariants.{Strings as StringsKind, Vector as VectorOf};
 ghost use Rattle.segment_c.specs.Calls.{Owes};
 ghost use Rattle.segment_c.specs.Codes.{answer_for};
@@ -21,7 +22,7 @@ use crate::codes::{done, element, element_taken};
 use crate::handle::Handle;
 use crate::keys::ObjectKey;
 use crate::values::Value;
-use seg_types::{Key, Kind, Refusal, ScalarKind, ScalarValue, by_kind};
+use seg_types::{Key, Kind, Refusal, ScalarKind, ScalarValue, by_kind, by_value};
 use segment_manager::{Segment, locate};
 use segment_values::Spot;
 use std::alloc::Global;
@@ -73,7 +74,27 @@ pub extern "C" fn zx_push(alloc: Global, h: &mut Handle, key: &ObjectKey<'_>, va
     ensures marks { IsMarked result h.old.marks h.new.marks }
 {
     let (which, new, mut segment) = passed!(enter_with(alloc, h, key, value));
-    done(add(&mut segment, &which, Spot::End, new), h, segment)
+    done(push(&mut segment, &which, new), h, segment)
+}
+
+/// The same of a segment. Where the vector is of the value's own kind, it is looked up once.
+fn push(segment: &mut Segment, key: &Key, value: ScalarValue) -> Result<(), Refusal>
+    ensures step { IsStep segment.old segment.new (Push (key_seen key.now) (literal_seen value)) (done_answer result) }
+    ensures refused { OnErr result (segment.new ≡ segment.old) }
+{
+    match push_of_kind(segment, key, value) {
+        Err(Refusal::WrongKind) => add(segment, key, Spot::End, value),
+        pushed => pushed,
+    }
+}
+
+/// The same of a vector of the value's own kind.
+fn push_of_kind(segment: &mut Segment, key: &Key, value: ScalarValue) -> Result<(), Refusal>
+    ensures step { IsStepOfKind segment.old segment.new (key_seen key.now) (VectorOf (kind_of_scalar value))
+        (Push (key_seen key.now) (literal_seen value)) (done_answer result) }
+    ensures refused { OnErr result (segment.new ≡ segment.old) }
+{
+    by_value!(value, it => segment.vec_push(key, it))
 }
 
 /// Puts a value where `index` others stand before it in the vector of a key.
@@ -91,7 +112,11 @@ pub extern "C" fn zx_insert(
     ensures marks { IsMarked result h.old.marks h.new.marks }
 {
     let (which, new, mut segment) = passed!(enter_with(alloc, h, key, value));
-    done(add(&mut segment, &which, Spot::Before(index), new), h, segment)
+    done(
+        add(&mut segment, &which, Spot::Before(index), new),
+        h,
+        segment,
+    )
 }
 
 /// Puts a value into the vector of a key, where the spot says.

@@ -1,5 +1,5 @@
 -- An image of any of the three formats for which there is no room, and that is read on: why no segment is made of it.
-use Rattle.std.proofs.Common.{◌≡◌, ℕ, ◌++◌, inl, inr, List, length, false, Result, Ok, Err, refl, sym, ap, subst, ◌∙◌, arith}
+use Rattle.std.proofs.Common.{◌≡◌, ◌<◌, ◌≤◌, ℕ, ◌++◌, inl, inr, List, length, false, Result, Ok, Err, refl, sym, ap, subst, ◌∙◌, arith}
 use Rattle.std.proofs.lemmas.Bool.{lt-ltb}
 use Rattle.raw_region.specs.Device.{Gave, Given, Grows, given_since}
 use Rattle.raw_region.specs.Memory.{zeros}
@@ -78,9 +78,9 @@ module _ (new : Gave) (said : ℕ) (s : Says (format_of new.bytes) new.bytes sai
   not-whole (Fault fault) t =
       let open_yet = undecided (format_of new.bytes) new.bytes said s t.few in
       elim t.how [
-        inl r ↦ as_fault fault ReadFault r.0 (refused NotRead
-        (record { failed = lt-ltb 0 new.failures r.1; open_class = λ c d. (all_decided (format_of new.bytes) new.bytes).none open_yet c (decides-class new.bytes s.long c d) }))
-      | inr m ↦ as_fault fault OutOfMemory m.0 (inl (record { unread = inr (record { sound = sound m.1; undecided = open_yet }); refused = refl }))
+        | inl r ↦ as_fault fault ReadFault r.0 (refused NotRead
+            (record { failed = lt-ltb 0 new.failures r.1; open_class = λ c d. (all_decided (format_of new.bytes) new.bytes).none open_yet c (decides-class new.bytes s.long c d) }))
+        | inr m ↦ as_fault fault OutOfMemory m.0 (inl (record { unread = inr (record { sound = sound m.1; undecided = open_yet }); refused = refl }))
       ]
 
 -- ---- behind an image for which there was no room

@@ -1,5 +1,5 @@
 -- What is shown of an object: its kind, and its numbers, texts or pairs one after another, or its bytes.
-use Rattle.std.proofs.Common.{◌≡◌, ℕ, List, [], ◌∷◌, ◌++◌, map, Option, refl, sym, ap, ◌∙◌, append_assoc}
+use Rattle.std.proofs.Common.{◌≡◌, ℕ, false, List, [], ◌∷◌, ◌++◌, map, Option, refl, sym, ap, ◌∙◌, append_assoc}
 use Rattle.std.specs.List.{flat_map}
 use Rattle.seg_types.specs.declared.kinds.Kind.TheVariants.{Map, Scalar, Strings as StringsKind, Vector}
 use Rattle.seg_types.specs.declared.refusals.Refusal.{Refusal}
@@ -20,6 +20,7 @@ use Rattle.segment_values.proofs.Laid.{laid-flat, laid-made}
 use Rattle.segment_values.proofs.LaidElements.{count_of_object}
 use Rattle.segment_scripts.specs.Answer.{answer_text, line, pair_text}
 use Rattle.segment_scripts.specs.Parts.{part_of}
+use Rattle.segment_scripts.specs.Refusing.{is_refusal}
 use Rattle.segment_scripts.specs.Replies.{shown_at, shown_of}
 use Rattle.segment_scripts.specs.Shown.{front_text, in_line}
 
@@ -62,6 +63,10 @@ shown-said s o l n counted d st =
 pub shown-by_key : (s : State) (key : Key) (o : Located) → IsLocated s key o → (d : Directory) → StandsFor s.cut.bytes d → answer_text (shown_at d (ByHandle o.handle)) ≡ answer_text (shown_at d key)
 shown-by_key s key o l d st = ap (λ (r : Option Object). answer_text (shown_of r)) (sym (same-object s key o l d st))
 
+-- it is shown
+pub shown-here : (s : State) (key : Key) (o : Located) → IsLocated s key o → (d : Directory) → StandsFor s.cut.bytes d → false ≡ is_refusal (shown_at d key)
+shown-here s key o l d st = ap (λ (r : Option Object). is_refusal (shown_of r)) (sym (said-at s key o l d st).is)
+
 -- there is none
-pub shown-missing : (s : State) (key : Key) (r : Refusal) → IsMissing s key r → (d : Directory) → StandsFor s.cut.bytes d → answer_text (Refused r) ≡ answer_text (shown_at d key)
-shown-missing s key r h d k = ap (λ (q : Refusal). answer_text (Refused q)) h.is ∙ ap (λ (o : Option Object). answer_text (shown_of o)) (sym (h.missing d k))
+pub shown-missing : (s : State) (key : Key) (r : Refusal) → IsMissing s key r → (d : Directory) → StandsFor s.cut.bytes d → Refused r ≡ shown_at d key
+shown-missing s key r h d k = ap Refused h.is ∙ ap shown_of (sym (h.missing d k))

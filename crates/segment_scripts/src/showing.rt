@@ -8,10 +8,12 @@ ghost use Rattle.segment_manager.specs.objects.Located.{IsLocated, IsObject};
 ghost use Rattle.segment_manager.specs.State.{StandsFor};
 ghost use Rattle.segment_manager.specs.Step.{step};
 ghost use Rattle.segment_scripts.specs.Answer.{answer_text};
+ghost use Rattle.segment_scripts.specs.Refusing.{AnswersFor};
 ghost use Rattle.segment_scripts.specs.Replies.{shown_at, text_at};
 ghost use Rattle.segment_scripts.specs.Shown.{counted_text, front_text};
 ghost use Rattle.segment_scripts.specs.Writing.{WritesFor};
 
+use crate::answered::Answered;
 use crate::printing::{put_answer, put_refusal_line};
 use crate::replies::element;
 use raw_region::{DeviceFault, Sink};
@@ -22,13 +24,17 @@ use segment_values::{Layout, count_of, put_content};
 
 /// Writes the kind and the value of the object of a key, or that there is none.
 #[inline(never)]
-pub fn put_shown<W: Sink>(segment: &Segment, key: &Key, out: &mut W) -> Result<(), DeviceFault>
+pub fn put_shown<W: Sink>(
+    segment: &Segment,
+    key: &Key,
+    out: &mut W,
+) -> Result<Answered, DeviceFault>
     requires { (W.history out.old).failures < 2 ^ 64 - 1 }
-    ensures { WritesFor (W.history out.old) (W.history out.new) result (StandsFor segment.now.cut.bytes)
-        (λ d. answer_text (shown_at d (key_seen key.now))) }
+    ensures { AnswersFor (W.history out.old) (W.history out.new) result (StandsFor segment.now.cut.bytes)
+        (λ d. shown_at d (key_seen key.now)) }
 {
     match locate(segment, key) {
-        Ok(object) => put_value(segment, object, out),
+        Ok(object) => Answered::Done.once(put_value(segment, object, out)),
         Err(why) => put_refusal_line(out, why),
     }
 }
@@ -123,10 +129,10 @@ pub fn put_got<W: Sink>(
     key: &Key,
     index: u64,
     out: &mut W,
-) -> Result<(), DeviceFault>
+) -> Result<Answered, DeviceFault>
     requires { (W.history out.old).failures < 2 ^ 64 - 1 }
-    ensures { WritesFor (W.history out.old) (W.history out.new) result (StandsFor segment.now.cut.bytes)
-        (λ d. answer_text (step segment.now.mode d (Get (key_seen key.now) index)).0) }
+    ensures { AnswersFor (W.history out.old) (W.history out.new) result (StandsFor segment.now.cut.bytes)
+        (λ d. (step segment.now.mode d (Get (key_seen key.now) index)).0) }
 {
     match locate(segment, key) {
         Ok(object) => match object.kind {
@@ -143,14 +149,16 @@ pub fn put_text_at<W: Sink>(
     object: Object,
     index: u64,
     out: &mut W,
-) -> Result<(), DeviceFault>
+) -> Result<Answered, DeviceFault>
     requires writer { (W.history out.old).failures < 2 ^ 64 - 1 }
     requires object { IsObject object segment.now }
-    ensures { WritesFor (W.history out.old) (W.history out.new) result (StandsFor segment.now.cut.bytes)
-        (λ d. answer_text (text_at d (ByHandle object.handle) index)) }
+    ensures { AnswersFor (W.history out.old) (W.history out.new) result (StandsFor segment.now.cut.bytes)
+        (λ d. text_at d (ByHandle object.handle) index) }
 {
     match segment.texts_get(&object, index) {
-        Ok(text) => put_pieces(out, &[Piece::Text(text), Piece::Bytes(b"\n")]),
+        Ok(text) => {
+            Answered::Done.once(put_pieces(out, &[Piece::Text(text), Piece::Bytes(b"\n")]))
+        }
         Err(why) => put_refusal_line(out, why),
     }
 }

@@ -10,5 +10,6 @@ mod RangeLists
 mod RangeObjects
 mod RangeReads
 mod RangeRows
+mod RangeRuns
 mod RangeWrites
 mod WalkedPairs

@@ -6,7 +6,6 @@ use Rattle.seg_types.specs.declared.kinds.Class.TheVariants.{Anonymous}
 use Rattle.seg_types.specs.declared.kinds.Kind.{Kind}
 use Rattle.seg_types.specs.declared.kinds.Kind.TheVariants as kinds
 use Rattle.segment_manager.specs.Directory.{Directory, Object, is_class, named_objects, unique_objects}
-
 -- the value of an object
 pub use Rattle.segment_values.specs.Contents.{Content, Scalars, Vector, String, Map, Strings}
 pub use Rattle.segment_values.specs.Contents.{bytes_in, content_of, count_of_content}

@@ -2,13 +2,13 @@
 ghost use Rattle.std.specs.Prelude.{◌≡◌, ◌≢◌, ◌≤◌, ◌<◌, ◌-◌, ◌^◌, ◌+◌, ◌++◌, ℕ, true, false, codes, decimal, length, min, take, IfOk, OnOk, OnErr};
 ghost use Rattle.raw_region.specs.Answers.{failures_in, write_failures_in};
 ghost use Rattle.segment_disk.specs.Events.{nothing_taken};
-ghost use Rattle.segment_disk.specs.Numbers.{has_number, in_text, is_in_text, text_part};
-ghost use Rattle.segment_disk.specs.declared.numbering.Spot.TheVariants.{Front, Broken as IsBroken};
+ghost use Rattle.segment_answers.specs.Numbers.{has_number, in_text, is_in_text, text_part};
+ghost use Rattle.segment_answers.specs.declared.numbering.Spot.TheVariants.{Front, Broken as IsBroken};
 
-use crate::disk::Output;
-use crate::outlet::Passing;
+use crate::lined::Lined;
 use raw_region::stream::Writing;
 use raw_region::{DeviceFault, Sink};
+use segment_disk::{Output, Passing};
 use segment_lang::{Piece, put_pieces};
 
 /// Where the next byte stands.
@@ -165,14 +165,15 @@ impl<O: Output> Sink for Numbered<O> {
 impl<O: Output> Output for Numbered<O> {
     ghost flushes = { λ old ok new. O.flushes old.inner ok new.inner };
 
-    ghost turns = { λ old new. (new.number ≡ min (old.number + 1) (2 ^ 64 - 1)) × O.turns old.inner new.inner };
-
     fn flush(&mut self) -> Result<(), DeviceFault> {
         self.inner.flush()
     }
+}
+
+impl<O: Output> Lined for Numbered<O> {
+    ghost turns = { λ old new. new.number ≡ min (old.number + 1) (2 ^ 64 - 1) };
 
     fn next_line(&mut self) {
         self.number = self.number.saturating_add(1);
-        self.inner.next_line();
     }
 }

@@ -1,6 +1,6 @@
 use Rattle.std.proofs.Common.{◌≡◌, ◌≤◌, ◌<◌, ◌-◌, ℕ, true, length, take}
-use Rattle.segment_disk.specs.Numbers.{is_in_text}
-use Rattle.segment_disk.proofs.numbering.line_length.Given as goal
+use Rattle.segment_answers.specs.Numbers.{is_in_text}
+use Rattle.segment_answers.proofs.numbering.line_length.Given as goal
 
 abbrev pub invariant-bytes : goal.invariant-bytes
 invariant-bytes l = record {

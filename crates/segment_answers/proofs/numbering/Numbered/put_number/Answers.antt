@@ -1,7 +1,7 @@
 use Rattle.std.proofs.Common.{◌≡◌, ◌<◌, ◌^◌, false, ap, rules, ◌∙◌, arith}
-use Rattle.segment_disk.specs.Numbers.{has_number, is_in_text}
-use Rattle.segment_disk.proofs.NumberLaws.{number_end, number_text, part_end, part_text}
-use Rattle.segment_disk.proofs.numbering.Numbered.put_number.Goals as goal
+use Rattle.segment_answers.specs.Numbers.{has_number, is_in_text}
+use Rattle.segment_answers.proofs.NumberLaws.{number_end, number_text, part_end, part_text}
+use Rattle.segment_answers.proofs.numbering.Numbered.put_number.Goals as goal
 
 pub invariant_of-self : goal.invariant_of-self
 invariant_of-self g c =

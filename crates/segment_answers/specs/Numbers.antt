@@ -1,7 +1,7 @@
 -- Lines behind their numbers: what stands in front of each line, up to a blank, is its number.
 use Rattle.std.specs.Prelude.{◌≡◌, ◌==◌, ℕ, Bool, true, false, not, List, [], ◌∷◌, fold, if◌then◌else◌}
-use Rattle.segment_disk.specs.declared.numbering.Spot.{Spot}
-use Rattle.segment_disk.specs.declared.numbering.Spot.TheVariants.{Front, Ahead, Inside, Broken}
+use Rattle.segment_answers.specs.declared.numbering.Spot.{Spot}
+use Rattle.segment_answers.specs.declared.numbering.Spot.TheVariants.{Front, Ahead, Inside, Broken}
 
 -- whether the next byte is one of a line's text, behind this one
 abbrev pub in_text : Bool → ℕ → Bool

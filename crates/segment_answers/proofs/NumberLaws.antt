@@ -10,7 +10,7 @@ use Rattle.std.proofs.lemmas.Fmt.{decimal_digit, decimal-digits_of}
 use Rattle.std.proofs.lemmas.List.{append-nil, append_assoc, length-append, take-append-le}
 use Rattle.std.proofs.lemmas.List.Sums.{fold-append, fold_more}
 use Rattle.raw_region.specs.Answers.{AddsFront}
-use Rattle.segment_disk.specs.Numbers.{in_text, is_in_text, text_part}
+use Rattle.segment_answers.specs.Numbers.{in_text, is_in_text, text_part}
 
 text-none : (t : Bool) → text_part t [] ≡ []
 text-none true = refl

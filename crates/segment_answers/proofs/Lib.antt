@@ -1,2 +1,1 @@
-mod ErrorLaws
 mod NumberLaws

@@ -1,7 +1,7 @@
 use Rattle.std.proofs.Common.{◌≡◌, ◌<◌, ◌++◌, ℕ, true, false, ap, sym, rules, take, ◌∙◌, arith}
-use Rattle.segment_disk.specs.Numbers.{is_in_text}
-use Rattle.segment_disk.proofs.NumberLaws.{line_end, line_text, passed}
-use Rattle.segment_disk.proofs.numbering.Numbered.take.Goals as goal
+use Rattle.segment_answers.specs.Numbers.{is_in_text}
+use Rattle.segment_answers.proofs.NumberLaws.{line_end, line_text, passed}
+use Rattle.segment_answers.proofs.numbering.Numbered.take.Goals as goal
 
 pub invariant_of-self-2 : goal.invariant_of-self-2
 invariant_of-self-2 g c =

@@ -6,16 +6,17 @@ ghost use Rattle.segment_disk.specs.Events.{nothing_taken};
 
 use raw_region::DeviceFault;
 use raw_region::stream::{ReadOnce, Reading, Writing};
+use segment_answers::{Lined, Numbered};
 use segment_cli::SessionFault;
 use segment_commands::{
     ProgramFault, check, create, draw, draw_page, dump, dump_capacities, dump_json, explain, grow,
-    lint, load, migrate, print, print_language, report, report_file, run, run_strict, shrink, stat,
+    lint, load, migrate, print, print_language, report, report_file, run, shrink, stat,
 };
-use segment_disk::{HostDisk, Numbered, Outlet, Output, StopsAtError};
+use segment_disk::{HostDisk, Outlet};
 use segment_invocation::{
     Answering, Invocation, InvocationFault, ModeName, Saving, VERSION, invocation, is_verbose,
 };
-use segment_scripts::command_rows;
+use segment_scripts::{Until, command_rows};
 use std::alloc::{AllocError, Global};
 use std::io::{self, BufWriter, ErrorKind, IsTerminal, Read, Write};
 use std::process::ExitCode;
@@ -137,7 +138,7 @@ fn ends_quietly(asked: Invocation<'_>) -> bool {
 }
 
 /// Runs the script of standard input, and gives its answers to an output that makes of them what is wanted.
-fn answer<O: Output + Drop>(
+fn answer<O: Lined + Drop>(
     rt: &HostRuntime,
     disk: &mut HostDisk<'_, HostRuntime>,
     file: &str,
@@ -150,8 +151,8 @@ fn answer<O: Output + Drop>(
     requires { O.history out ≡ nothing_taken }
 {
     if answering.numbered {
-        let numbered = Numbered::new(out);
-        return answer_as(
+        let mut numbered = Numbered::new(out);
+        return answer_to(
             rt,
             disk,
             file,
@@ -159,14 +160,24 @@ fn answer<O: Output + Drop>(
             size,
             saving,
             answering.strict,
-            numbered,
+            &mut numbered,
         );
     }
-    answer_as(rt, disk, file, mode, size, saving, answering.strict, out)
+    let mut plain = out;
+    answer_to(
+        rt,
+        disk,
+        file,
+        mode,
+        size,
+        saving,
+        answering.strict,
+        &mut plain,
+    )
 }
 
-/// The same to an output as it is, or up to the first error.
-fn answer_as<O: Output + Drop>(
+/// The same to an output as it is, to the end of the script or to the first line that is refused.
+fn answer_to<O: Lined>(
     rt: &HostRuntime,
     disk: &mut HostDisk<'_, HostRuntime>,
     file: &str,
@@ -174,18 +185,18 @@ fn answer_as<O: Output + Drop>(
     size: Option<u64>,
     saving: Saving,
     is_strict: bool,
-    out: O,
+    out: &mut O,
 ) -> Result<(), ProgramFault>
-    requires { O.history out ≡ nothing_taken }
+    requires { O.history out.old ≡ nothing_taken }
 {
     let alloc = rt.alloc();
     let mut script = Reading::new(Prompted::new(rt, rt.reader()));
-    if is_strict {
-        let mut out = StopsAtError::new(out);
-        return run_strict(alloc, disk, file, mode, size, saving, &mut script, &mut out);
-    }
-    let mut out = out;
-    run(alloc, disk, file, mode, size, saving, &mut script, &mut out)
+    let until = if is_strict {
+        Until::Refusal
+    } else {
+        Until::End
+    };
+    run(alloc, disk, file, mode, size, saving, until, &mut script, out)
 }
 
 /// The script of standard input. Where a person types it, and reads standard error, they are prompted for each line.

@@ -1,5 +1,5 @@
 -- What is tested of one tile by a call that reads all tags of a window.
-use Rattle.std.specs.Prelude.{ℕ, zero, suc, ◌+◌, ◌-◌, ◌/◌, Bool, true, false, ◌&&◌, not, ◌==◌, nat_le, nat_lt}
+use Rattle.std.specs.Prelude.{◌≡◌, ◌<◌, ℕ, zero, suc, ◌+◌, ◌-◌, ◌/◌, Bool, true, false, ◌&&◌, not, IsTrue, ◌==◌, nat_le, nat_lt, if◌then◌else◌}
 use Rattle.raw_region.specs.Memory.{Memory, word_at}
 use Rattle.block_tags.specs.declared.tile.Tile.{Tile}
 use Rattle.block_tags.specs.Tiles.{is_tile, is_free, tag_word, tile_at}
@@ -27,3 +27,26 @@ good_tiles_from format (suc more) m at before behind_free end =
 -- how many good tiles stand from 128 on, up to the first wrong tag or to the end tag
 abbrev pub good_tiles_of : ℕ → Memory → ℕ → ℕ
 good_tiles_of format m size = good_tiles_from format (size / 32) m 128 0 false (size - 16)
+
+-- ---- the first tag that is wrong
+
+-- the end tag, behind a tile of length before
+abbrev pub is_end : Memory → ℕ → ℕ → Bool
+is_end m at before = (word_at m at == before) && (word_at m (at + 8) == 1)
+
+-- going from 128 by lengths, good tags lead to this offset, behind a tile of this length, which is free or not
+pub data Leads (format : ℕ) (m : Memory) (end : ℕ) : ℕ → ℕ → Bool → Type 0 where
+  begins : Leads format m end 128 0 false
+  follows : {at before : ℕ} {free : Bool} → Leads format m end at before free → at < end → IsTrue (is_good_tile format m at before free end)
+      → Leads format m end (at + (tile_at m at).len) (tile_at m at).len (is_free (tile_at m at))
+
+-- the tag that stands there, a tile's or the end tag, is good
+abbrev pub is_good_there : ℕ → Memory → ℕ → ℕ → ℕ → Bool → Bool
+is_good_there format m end at before free = if nat_lt at end then is_good_tile format m at before free end else is_end m at before
+
+-- good tags lead to this offset, and the tag there is wrong
+pub record StopsAt (format : ℕ) (m : Memory) (size at : ℕ) : Type 0 where
+  pub before : ℕ
+  pub free : Bool
+  pub leads : Leads format m (size - 16) at before free
+  pub wrong : is_good_there format m (size - 16) at before free ≡ false

@@ -1,8 +1,8 @@
 //! Whether the tags of any window say tiles.
-ghost use Rattle.std.specs.Prelude.{◌≡◌, ◌+◌, ◌*◌, ◌≤◌, ◌<◌, ◌^◌, ◌==◌, ◌&&◌, IsTrue, is_ok, length};
+ghost use Rattle.std.specs.Prelude.{◌≡◌, ◌+◌, ◌*◌, ◌≤◌, ◌<◌, ◌^◌, ◌==◌, ◌&&◌, IsTrue, false, is_ok, length};
 ghost use Rattle.raw_region.specs.Memory.{bytes_of, word_at};
 ghost use Rattle.raw_region.specs.Format.{current};
-ghost use Rattle.block_tags.specs.Checks.{good_tiles_of, is_good_tile, is_tagged};
+ghost use Rattle.block_tags.specs.Checks.{StopsAt, good_tiles_of, is_good_tile, is_tagged};
 ghost use Rattle.block_tags.specs.Format.{is_legal_size};
 ghost use Rattle.block_tags.specs.Tiles.{has_tags, tiles_of};
 
@@ -11,13 +11,18 @@ use crate::tile::{BadTag, Tile};
 use crate::words::{END_MARK, may_be_red, tag_word, tile_there};
 use raw_region::Window;
 
-/// Whether all tags of a window are right, and how many of them were read.
+/// The number of the format that is written.
+const FORMAT: u64 = 2;
+
+/// Whether all tags of a window are right, how many of them were read, and where that ended.
 #[derive(Clone, Copy, Debug, PartialEq, Eq)]
 pub struct Checked {
     /// Whether the tags say tiles that fill the window.
     pub are_good: bool,
     /// How many tags were read: those of the good tiles, and one more, the end tag or the first wrong one.
     pub tags: u64,
+    /// Where the last tag that was read stands.
+    pub at: u64,
 }
 
 /// Reads all tags of a window of 144 bytes, or of a multiple of 16 from 176 to 2 to the 30th, whatever its bytes are.
@@ -26,23 +31,25 @@ pub struct Checked {
 ///
 /// `BadTag` unless the tags say tiles that fill the window from its header to its end tag, no two free ones side by
 /// side.
+#[tactic(auto, unfolding(raw_region::specs::Format::current))]
 pub fn check(window: &Window) -> Result<(), BadTag>
     requires { IsTrue (is_legal_size (length window.now.bytes)) }
     ensures { is_ok result ≡ has_tags current (bytes_of window.now.bytes) (length window.now.bytes) }
 {
-    if check_counted(window).are_good {
+    if check_counted(FORMAT, window).are_good {
         Ok(())
     } else {
         Err(BadTag)
     }
 }
 
-/// Reads all tags of such a window up to the first wrong one, and counts them: there is at most one for each 32 bytes
-/// behind the header. Where all are right, these are one for each tile and the end tag.
-pub fn check_counted(window: &Window) -> Checked
+/// Reads all tags of such a window up to the first that is wrong in the format, and counts them: there is at most one
+/// for each 32 bytes behind the header. Where all are right, these are one for each tile and the end tag.
+pub fn check_counted(format: u64, window: &Window) -> Checked
     requires { IsTrue (is_legal_size (length window.now.bytes)) }
-    ensures good { result.are_good ≡ has_tags current (bytes_of window.now.bytes) (length window.now.bytes) }
-    ensures read { result.tags ≡ good_tiles_of current (bytes_of window.now.bytes) (length window.now.bytes) + 1 }
+    ensures good { result.are_good ≡ has_tags format (bytes_of window.now.bytes) (length window.now.bytes) }
+    ensures stops { result.are_good ≡ false → StopsAt format (bytes_of window.now.bytes) (length window.now.bytes) result.at }
+    ensures read { result.tags ≡ good_tiles_of format (bytes_of window.now.bytes) (length window.now.bytes) + 1 }
     ensures tiles { IsTrue result.are_good
         → result.tags ≡ length (tiles_of (bytes_of window.now.bytes) (length window.now.bytes)) + 1 }
     ensures few { 32 * result.tags + 112 ≤ length window.now.bytes }
@@ -53,10 +60,11 @@ pub fn check_counted(window: &Window) -> Checked
     let mut before = 0;
     let mut behind_free = false;
     'tags: while at < end {
-        if !is_good(window, at, before, behind_free, end) {
+        if !is_good(format, window, at, before, behind_free, end) {
             return Checked {
                 are_good: false,
                 tags,
+                at,
             };
         }
         let tile = tile_there(window, at);
@@ -65,10 +73,8 @@ pub fn check_counted(window: &Window) -> Checked
         before = tile.len;
         behind_free = tile.use_of.is_none();
     }
-    Checked {
-        are_good: ends_well(window, end, before),
-        tags,
-    }
+    let are_good = ends_well(window, end, before);
+    Checked { are_good, tags, at }
 }
 
 /// Whether the end tag stands at `end`, behind a tile of `before` bytes.
@@ -80,13 +86,13 @@ fn ends_well(window: &Window, end: u64, before: u64) -> bool
     window.read_u64(end) == before && window.read_u64(end + 8) == END_MARK
 }
 
-/// Whether a good tag stands at `at`, of a tile that ends by `end`, behind a tile of `before` bytes.
+/// Whether a tag that is good in the format stands at `at`, of a tile that ends by `end`, behind one of `before` bytes.
 #[tactic(auto, unfolding(crate::specs::Checks::is_good_tile))]
-fn is_good(window: &Window, at: u64, before: u64, behind_free: bool, end: u64) -> bool
+fn is_good(format: u64, window: &Window, at: u64, before: u64, behind_free: bool, end: u64) -> bool
     requires inside { at < end }
     requires small { end < 2 ^ 63 }
     requires end { end + TAG ≤ length window.now.bytes }
-    ensures { result ≡ is_good_tile current (bytes_of window.now.bytes) at before behind_free end }
+    ensures { result ≡ is_good_tile format (bytes_of window.now.bytes) at before behind_free end }
 {
     let tile = tile_there(window, at);
     if window.read_u64(at) != before {
@@ -98,16 +104,16 @@ fn is_good(window: &Window, at: u64, before: u64, behind_free: bool, end: u64) -
     if behind_free && tile.use_of.is_none() {
         return false;
     }
-    is_whole(tile, window.read_u64(at + 8))
+    is_whole(format, tile, window.read_u64(at + 8))
 }
 
-/// Whether the tile is one that may stand in a window, and this the second word of its tag.
-fn is_whole(tile: Tile, word: u64) -> bool
+/// Whether the tile is one that may stand in a window of the format, and this the second word of its tag.
+fn is_whole(format: u64, tile: Tile, word: u64) -> bool
     requires { tile.len < 2 ^ 63 }
-    ensures { result ≡ is_tagged current tile word }
+    ensures { result ≡ is_tagged format tile word }
 {
     tile.len >= 32
         && tile.len % 16 == 0
-        && (!tile.red || may_be_red(tile.use_of))
+        && (!tile.red || may_be_red(format, tile.use_of))
         && word == tag_word(tile)
 }

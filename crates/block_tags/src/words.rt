@@ -1,7 +1,6 @@
 //! The two words of a tag: the length of the tile before, and the tile's own length with its use and colour.
 ghost use Rattle.std.specs.Prelude.{◌≡◌, ◌+◌, ◌≤◌, ◌<◌, ◌^◌, length};
 ghost use Rattle.raw_region.specs.Memory.{bytes_of};
-ghost use Rattle.raw_region.specs.Format.{current};
 ghost use Rattle.block_tags.specs.Tiles.{may_be_red as may_be_red_in, role_bits as bits_of_role, role_of_bits as role_of, tag_word as word_of, tile_at as tile_said, tile_of_word as tile_of};
 ghost use Rattle.block_tags.specs.Windows.{IsPut};
 
@@ -64,13 +63,13 @@ pub fn tile_of_word(at: u64, word: u64) -> Tile
     }
 }
 
-/// Whether a tile used for this may be red.
-#[tactic(auto, unfolding(raw_region::specs::Format::current))]
-pub fn may_be_red(use_of: Option<Role>) -> bool
-    ensures { result ≡ may_be_red_in current use_of }
+/// Whether a tile used for this may be red in the format.
+pub fn may_be_red(format: u64, use_of: Option<Role>) -> bool
+    ensures { result ≡ may_be_red_in format use_of }
 {
     match use_of {
-        Some(Role::Node) | None => true,
+        None => format != 0,
+        Some(Role::Node) => true,
         Some(Role::Object | Role::Index | Role::Storage) => false,
     }
 }

@@ -257,7 +257,7 @@ pub tree-planted : (c : Cut) (old stepped planted : ℕ) → Spends step_rates 5
     → Spends planting_rates 0 c.bytes stepped planted → Spends tree_rates 50 c.bytes old planted
 tree-planted c old stepped planted x y = spend-both c.bytes step_rates planting_rates 50 0 old stepped planted x y
 
--- the tags, and in place of the tree a walk over the tiles
+-- in place of the tree a walk over the tiles
 planted-more : (u : Option Role) → rate_of tag_rates u ≤ rate_of planting_rates u
 planted-more None = omega arith
 planted-more (Some Object) = omega arith
@@ -268,10 +268,9 @@ planted-more (Some Node) = omega arith
 steps-none : (b : List ℕ) (old : ℕ) → Spends step_rates 50 b old old
 steps-none b old = (omega arith, omega arith)
 
-pub treeless-spend : (c : Cut) (old tagged new : ℕ) → Spends tag_rates 1 c.bytes old tagged → Spends tag_rates 0 c.bytes tagged new → Spends frame_rates 51 c.bytes old new
-treeless-spend c old tagged new x y = spend-both c.bytes tag_rates tree_rates 1 50 old tagged new x
-    (tree-planted c tagged tagged new (steps-none c.bytes tagged) (spend-within c.bytes tag_rates planting_rates 0
-    tagged new planted-more y))
+pub treeless-spend : (c : Cut) (old new : ℕ) → Spends tag_rates 0 c.bytes old new → Spends tree_rates 50 c.bytes old new
+treeless-spend c old new x =
+    tree-planted c old old new (steps-none c.bytes old) (spend-within c.bytes tag_rates planting_rates 0 old new planted-more x)
 
 -- ---- the whole
 
@@ -312,26 +311,6 @@ module _ (c : Cut) (old framed gathered : ℕ) (h : HasTiles c.bytes) (x : Spend
       (spend-both c.bytes frame_rates (both gathering_rates block_rates) 51 64 old framed new x
       (spend-both c.bytes gathering_rates block_rates 2 62 framed gathered new y z))
 
--- where the tags are wrong, they alone were read, and read again up to the wrong one
-pub tags-twice : (b : List ℕ) (old tags mid new : ℕ) → 32 * tags + 112 ≤ length b → mid ≡ old + tags → mid ≤ new
-    → 32 * new + 112 ≤ 32 * mid + length b → IsRaisedFor (length b) old new
-tags-twice b old tags mid new few e more again = (omega arith, omega arith)
-
--- a walk up to a wrong tag spends no more than one over all
-pub wrong-spend : (c : Cut) (old new : ℕ) → HasTiles c.bytes → old ≤ new → 32 * new + 112 ≤ 32 * old + length c.bytes
-    → Spends tag_rates 1 c.bytes old new
-wrong-spend c old new h more few = tags-spend c old (new - old) new h (omega arith) (omega arith)
-
-plain-most : (u : Option Role) → rate_of (both tag_rates (both tag_rates tag_rates)) u ≤ 64
-plain-most None = omega arith
-plain-most (Some Object) = omega arith
-plain-most (Some Index) = omega arith
-plain-most (Some Storage) = omega arith
-plain-most (Some Node) = omega arith
-
--- so it is where it follows two walks
-pub plain-raised : (c : Cut) (old mid new : ℕ) → HasTiles c.bytes → Spends tag_rates 1 c.bytes old mid
-    → Spends (both tag_rates tag_rates) 1 c.bytes mid new → IsRaisedFor (length c.bytes) old new
-plain-raised c old mid new h x y =
-    all-part c (both tag_rates (both tag_rates tag_rates)) 2 old new h plain-most (omega arith)
-    (spend-both c.bytes tag_rates (both tag_rates tag_rates) 1 1 old mid new x y)
+-- where the tags are wrong, they alone were read
+pub tags-raised : (b : List ℕ) (old tags new : ℕ) → 32 * tags + 112 ≤ length b → new ≡ old + tags → IsRaisedFor (length b) old new
+tags-raised b old tags new few e = (omega arith, omega arith)

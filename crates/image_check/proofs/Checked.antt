@@ -4,7 +4,6 @@ use Rattle.std.specs.Prelude.{IsTrue, IsOk, is_some, Option, Some, None, Result,
 use Rattle.std.specs.List.{list_any}
 use Rattle.std.proofs.lemmas.Bool.{cases_Bool}
 use Rattle.raw_region.specs.Memory.{Cut, bytes_of}
-use Rattle.raw_region.specs.Format.{current}
 use Rattle.block_tags.specs.declared.tile.Role.{Role}
 use Rattle.block_tags.specs.declared.tile.Tile.{Tile}
 use Rattle.block_tags.specs.Format.{is_legal_size}
@@ -22,12 +21,11 @@ use Rattle.image_check.specs.Opening.{IsImage}
 use Rattle.image_check.specs.Owners.{entries_of}
 use Rattle.image_check.specs.Passes.{HasTiles, has_block, tiles_in}
 use Rattle.image_check.specs.Reading.{HasFront}
-use Rattle.image_check.specs.declared.verdict.Verdict.{Verdict}
-use Rattle.image_check.specs.Verdicts.{IsVerdict, Shows, said_tiles}
-use Rattle.image_check.specs.WrongTags.{StopsAt}
+use Rattle.image_check.specs.Verdicts.{IsVerdict, said_tiles}
+use Rattle.block_tags.specs.Checks.{StopsAt}
 use Rattle.image_check.proofs.Early.{tree-BadFreeTree}
 use Rattle.image_check.proofs.Filled.{HasFront-IsRight}
-use Rattle.image_check.proofs.FormatTags.{good-has_tags, later-has_tags}
+use Rattle.image_check.proofs.FormatTags.{good-has_tags}
 use Rattle.image_check.proofs.FirstClass.{first-tag, first-tree, late-class}
 use Rattle.image_check.proofs.Frame.{IsFrame-has_frame, has_frame-IsFrame, has_whole_size-HasWholeSize, HasWholeSize-has_whole_size}
 use Rattle.image_check.proofs.Law.{one_directory}
@@ -48,16 +46,12 @@ pub checked-tiles : (format : ℕ) (w : Cut) → IsChecked format w → HasTiles
 checked-tiles format w h = record { size = (HasFront-IsRight format w h.front).legal; tags = good-has_tags format (bytes_of w.bytes) (length w.bytes) h.tags }
 
 -- the tags are wrong
-pub checked-tags : (format : ℕ) (w : Cut) (v : Verdict) → HasFront format w → has_reserved w.bytes ≡ true → has_tags format (bytes_of w.bytes) (length w.bytes) ≡ false → v.class ≡ BadTag
-    → StopsAt format (bytes_of w.bytes) (length w.bytes) v.place → IsVerdict format w.bytes v
-checked-tags format w v h r e k s = (
-  first-tag format w h r (ap (has_tags format (bytes_of w.bytes)) h.says ∙ e) ∙ ap (λ (x : ImageClass). Some x) (sym k),
-  subst (λ (x : ImageClass). Shows format w.bytes x v.place) (sym k) (subst (λ n. StopsAt format (bytes_of w.bytes) n v.place) (sym h.says) s),
+pub checked-tags : (format : ℕ) (w : Cut) (at : ℕ) → HasFront format w → has_reserved w.bytes ≡ true → has_tags format (bytes_of w.bytes) (length w.bytes) ≡ false
+    → StopsAt format (bytes_of w.bytes) (length w.bytes) at → IsVerdict format w.bytes (record { class = BadTag; place = at })
+checked-tags format w at h r e s = (
+  first-tag format w h r (ap (has_tags format (bytes_of w.bytes)) h.says ∙ e),
+  subst (λ n. StopsAt format (bytes_of w.bytes) n at) (sym h.says) s,
 )
-
--- the tags that are good by the current format are those of each later than the first
-pub later-checked : (format : ℕ) (w : Cut) → 0 < format → HasFront format w → has_reserved w.bytes ≡ true → has_tags current (bytes_of w.bytes) (length w.bytes) ≡ true → IsChecked format w
-later-checked format w l h r e = record { front = h; reserved = r; tags = later-has_tags format (bytes_of w.bytes) (length w.bytes) l ∙ e }
 
 -- the free tree is not right
 pub checked-tree : (format : ℕ) (w : Cut) → IsChecked format w → has_free_tree format (bytes_of w.bytes) (tiles_in w.bytes) ≡ false → IsVerdict format w.bytes (record { class = BadFreeTree; place = 24 })

@@ -1,19 +1,21 @@
 -- Good tags in each format: those of format 0 are those of the others where no free tile is red.
-use Rattle.std.proofs.Common.{◌≡◌, refl, sym, ap, ◌∙◌, ℕ, zero, suc, ◌+◌, ◌-◌, ◌%◌, ◌<◌, inl, inr, Bool, true, false, not, ◌&&◌, ◌||◌, List, [], ◌∷◌, length, arith}
+use Rattle.std.proofs.Common.{◌≡◌, refl, sym, ap, ◌∙◌, ℕ, zero, suc, ◌+◌, ◌-◌, ◌%◌, ◌<◌, Bool, true, false, not, ◌&&◌, ◌||◌, List, [], ◌∷◌, arith}
 use Rattle.std.specs.Prelude.{Option, Some, None, is_none, ◌==◌, nat_le}
 use Rattle.std.specs.List.{list_all}
-use Rattle.std.proofs.lemmas.Bool.{and_parts, cases_Bool, both_ways}
-use Rattle.raw_region.specs.Memory.{Memory, bytes_of, word_at}
+use Rattle.std.proofs.lemmas.Bool.{and_parts}
+use Rattle.raw_region.specs.Memory.{Memory, word_at}
 use Rattle.raw_region.specs.Format.{current}
 use Rattle.block_tags.specs.declared.tile.Role.{Role}
 use Rattle.block_tags.specs.declared.tile.Role.TheVariants.{Object, Index, Storage, Node}
 use Rattle.block_tags.specs.declared.tile.Tile.{Tile}
 use Rattle.block_tags.specs.Tiles.{are_tags, has_tags, is_merged, is_tile, may_be_red, tag_word, tiles_of}
 use Rattle.image_check.specs.EarlyTests.{has_free_tree}
-use Rattle.image_check.specs.OlderFormats.{is_plain}
-use Rattle.image_check.specs.Passes.{HasTiles, tiles_in}
 
 -- ---- a tile
+
+-- a tile in use, or a free one that is not red
+abbrev is_plain : Tile → Bool
+is_plain t = not (is_none t.use_of && t.red)
 
 red-tile : (f : ℕ) (u : Option Role) (r : Bool) → (not r || may_be_red 0 u) ≡ ((not r || may_be_red (suc f) u) && not (is_none u && r))
 red-tile f None true = refl
@@ -88,7 +90,7 @@ plain-has_tags f m size =
     ∙ shuffle-merged (are_tags (suc f) m 128 0 (tiles_of m size) (size - 16)) (list_all is_plain (tiles_of m size)) (is_merged (tiles_of m size))
 
 -- from format 1 on there is no difference
-pub later-has_tags : (format : ℕ) (m : Memory) (size : ℕ) → 0 < format → has_tags format m size ≡ has_tags current m size
+later-has_tags : (format : ℕ) (m : Memory) (size : ℕ) → 0 < format → has_tags format m size ≡ has_tags current m size
 unfolding current
 later-has_tags zero m size l = absurd (omega arith)
 later-has_tags (suc f) m size l = ap (λ x. x && is_merged (tiles_of m size)) (later-tags f 1 m 128 0 (tiles_of m size) (size - 16))
@@ -98,18 +100,6 @@ pub good-has_tags : (format : ℕ) (m : Memory) (size : ℕ) → has_tags format
 unfolding current
 good-has_tags zero m size e = (and_parts (has_tags 2 m size) (list_all is_plain (tiles_of m size)) (sym (plain-has_tags 1 m size) ∙ e)).0
 good-has_tags (suc f) m size e = sym (later-has_tags (suc f) m size (omega arith)) ∙ e
-
--- so where they are wrong by it, they are wrong
-pub wrong-has_tags : (format : ℕ) (m : Memory) (size : ℕ) → has_tags current m size ≡ false → has_tags format m size ≡ false
-wrong-has_tags format m size e = elim (cases_Bool (has_tags format m size)) [
-  | inl t ↦ absurd (both_ways (has_tags current m size) e (good-has_tags format m size t))
-  | inr f ↦ f
-]
-
--- in format 0 they are good where no free tile is red
-pub plain-tiles : (b : List ℕ) → HasTiles b → has_tags 0 (bytes_of b) (length b) ≡ list_all is_plain (tiles_in b)
-unfolding current
-plain-tiles b h = plain-has_tags 1 (bytes_of b) (length b) ∙ ap (λ x. x && list_all is_plain (tiles_in b)) h.tags
 
 -- from format 1 on a free tree is what it is by the current one
 pub later-free_tree : (format : ℕ) (m : Memory) (ts : List Tile) → 0 < format → has_free_tree format m ts ≡ has_free_tree current m ts

@@ -5,10 +5,11 @@ use Rattle.raw_region.specs.Device.{Given}
 use Rattle.raw_region.specs.Memory.{Cut, SamePlace, whole}
 use Rattle.segment_manager.specs.declared.modes.Mode.{Mode}
 use Rattle.segment_manager.specs.State.{IsSegment, State}
-use Rattle.image_check.specs.declared.errors.CheckError.{CheckError}
+use Rattle.image_check.specs.declared.errors.ExamineError.{ExamineError}
 use Rattle.image_check.specs.declared.errors.OpenError.{OpenError}
 use Rattle.image_check.specs.declared.errors.OpenRefused.{OpenRefused}
-use Rattle.image_check.specs.Checking.{IsWhyRefused, cause_for}
+use Rattle.image_check.specs.Causes.{error_for}
+use Rattle.image_check.specs.Checking.{IsWhyRefused}
 use Rattle.image_check.specs.Formats.{format_of, version_word}
 use Rattle.image_check.specs.Opening.{IsImage, Opens}
 use Rattle.image_check.specs.OpeningAny.{IsRenewed, OpensAny}
@@ -40,7 +41,7 @@ module _ (image : Given) (region : List ℕ) (base : ℕ) (w : Cut) (h : IsImage
   pub read-front : HasFront v w
   read-front = subst (λ (f : ℕ). HasFront f w) (sym format) h.front
 
-  pub refused-any : (mode : Mode) (why : CheckError) (cause : OpenError) (back : List ℕ) → IsWhyRefused v w.bytes why → cause ≡ cause_for why → back ≡ whole w
+  pub refused-any : (mode : Mode) (why : ExamineError) (cause : OpenError) (back : List ℕ) → IsWhyRefused v w.bytes why → cause ≡ error_for why → back ≡ whole w
       → OpensAny image region base mode (Err (record { region = back; cause = cause }))
   refused-any mode why cause back x e f =
       let o : Opens (format_of image.bytes) image region base mode (Err (record { region = back; cause = cause })) =

@@ -1,29 +1,43 @@
 -- An image that lies in memory: why no segment is opened of it.
-use Rattle.std.proofs.Common.{◌≡◌, refl, sym, ap, subst, ◌∙◌, ℕ, ◌+◌, ◌<◌, ◌≤◌, Bool, true, false, ◌&&◌, List, [], ◌++◌, length, arith, Some, Ok, Err}
+use Rattle.std.proofs.Common.{◌≡◌, refl, sym, ap, subst, ◌∙◌, ℕ, ◌+◌, ◌<◌, ◌≤◌, Bool, true, false, ◌&&◌, List, [], ◌++◌, length, take, drop, arith, Some, Ok, Err}
 use Rattle.std.specs.Prelude.{IsTrue, if◌then◌else◌}
-use Rattle.std.proofs.lemmas.Bool.{both_ways}
+use Rattle.std.proofs.lemmas.Bool.{both_ways, cond-true, eqb-true}
 use Rattle.std.proofs.lemmas.List.{append-nil}
+use Rattle.raw_region.specs.Format.{current}
 use Rattle.raw_region.specs.Memory.{Cut, whole}
 use Rattle.block_tags.specs.Format.{is_legal_size}
 use Rattle.segment_manager.specs.declared.modes.Mode.{Mode}
+use Rattle.segment_manager.specs.declared.modes.Mode.TheVariants.{ReadOnly}
 use Rattle.image_check.specs.declared.classes.ImageClass.{ImageClass}
 use Rattle.image_check.specs.declared.classes.ImageClass.TheVariants.{Truncated, BadMagic, UnsupportedVersion, BadSize}
 use Rattle.image_check.specs.declared.errors.OpenError.{OpenError}
 use Rattle.image_check.specs.declared.errors.OpenError.TheVariants.{Image}
-use Rattle.image_check.specs.declared.errors.CheckError.{CheckError}
-use Rattle.image_check.specs.declared.errors.CheckError.TheVariants.{Class, NoMemory}
+use Rattle.image_check.specs.declared.errors.OpenRefused.{OpenRefused}
+use Rattle.image_check.specs.declared.versions.Versions.{Versions}
+use Rattle.image_check.specs.declared.versions.Versions.TheVariants.{Current, All}
+use Rattle.image_check.specs.declared.errors.ExamineError.{ExamineError}
+use Rattle.image_check.specs.declared.errors.ExamineError.TheVariants.{Image as Judged, RegionTooSmall, OutOfMemory, ReadFault}
+use Rattle.image_check.specs.declared.errors.ExamineRefused.{ExamineRefused}
 use Rattle.image_check.specs.EarlyTests.{has_front, has_magic, has_version, size_word}
 use Rattle.image_check.specs.Classes.{class_of, holds}
-use Rattle.image_check.specs.Checking.{IsWhyRefused, cause_for}
-use Rattle.image_check.specs.Opening.{IsTooSmallFor, has_early_class}
-use Rattle.image_check.specs.OpeningBytes.{IsMisfit, IsWhyNotOf, OpensBytes, as_given}
+use Rattle.image_check.specs.Causes.{IsShown, error_for, opened_as}
+use Rattle.image_check.specs.Checking.{IsWhyRefused}
+use Rattle.image_check.specs.Examining.{ExaminesBytes}
+use Rattle.image_check.specs.Formats.{format_in, version_word}
+use Rattle.image_check.specs.HeaderPlaces.{IsFrontPlace}
+use Rattle.image_check.specs.Opening.{IsHandedBack, IsImage, IsTooSmallFor, has_early_class}
+use Rattle.image_check.specs.OpeningBytes.{IsMisfit, IsNotOpenedOf, IsNotPlaced, IsWhyNotOf, OpensBytes, as_given}
 use Rattle.image_check.specs.Passes.{has_block}
-use Rattle.image_check.specs.Reading.{IsImageRead, front_of}
+use Rattle.image_check.specs.Reading.{HasFront, IsImageRead, front_of}
 use Rattle.image_check.proofs.Deciding.{decided-some, first_class}
 use Rattle.image_check.proofs.Early.{cut-Truncated}
+use Rattle.image_check.proofs.Filled.{HasFront-IsRight}
 use Rattle.image_check.proofs.Fronts.{IsRight, front-decided, front-wrong, has_front-IsRight}
-use Rattle.image_check.proofs.Refused.{back-from, no-room}
+use Rattle.image_check.specs.Verdicts.{Shows}
+use Rattle.image_check.proofs.ReadFormats.{format_of-few}
+use Rattle.image_check.proofs.Refused.{back-from, no-room, shown-why, verified}
 use Rattle.image_check.proofs.Stopping.{front-early, more-decided}
+use Rattle.image_check.proofs.ToldPlaces.{front-shown}
 
 -- ---- why it is not put there
 
@@ -78,13 +92,55 @@ misfit-more format b base capacity size r room l = record {
   early = refl;
 }
 
+-- the place that shows it
+pub front-place : (format : ℕ) (b : List ℕ) (c : ImageClass) (at : ℕ) → 24 ≤ length b → IsFrontPlace b c at → Shows format b c at
+front-place format b c at l p = subst (λ (x : List ℕ). Shows format x c at) (append-nil b) (front-shown format b [] l c at p)
+
+pub more-place : (format : ℕ) (b : List ℕ) (size : ℕ) → IsRight format b size → Shows format b BadSize size
+more-place format b size r =
+    sym r.says ∙ sym (cond-true (is_legal_size (size_word b)) (size_word b) 16 (ap is_legal_size r.says ∙ r.legal))
+
+-- the region comes back as it was
+back-as-was : (format : ℕ) (b region : List ℕ) (base : ℕ) (back : List ℕ) → back ≡ region → IsHandedBack format (as_given b) region base back
+back-as-was format b region base back e = record {
+  capacity = ap length e;
+  before = ap (take base) e;
+  behind = ap (drop (base + size_word b)) e;
+  untouched = λ none. e;
+}
+
+pub not-placed : (format : ℕ) (b region : List ℕ) (base : ℕ) (mode : Mode) (refused : OpenRefused) → IsNotPlaced format b region base refused → OpensBytes format b region base mode (Err refused)
+not-placed format b region base mode refused n = record {
+  answers = record { why = n.misfit.why; handed_back = back-as-was format b region base refused.region n.back; unwritten = λ other. n.back };
+  too_small = n.misfit.too_small;
+}
+
+-- ---- the format that it says
+
+format_in-few : (versions : Versions) (b : List ℕ) → format_in versions b ≤ 2
+unfolding current
+format_in-few Current b = omega arith
+format_in-few All b = format_of-few b
+
+module _ (versions : Versions) (b region : List ℕ) (base : ℕ) (w : Cut) (h : IsImageRead (format_in versions b) (as_given b) region base w) (v : ℕ) (said : v ≡ version_word w.bytes) where
+  pub said-format : v ≡ format_in versions b
+  said-format = said ∙ eqb-true (version_word w.bytes) (format_in versions b) (HasFront-IsRight (format_in versions b) w h.front).version
+
+  pub said-few : v ≤ 2
+  said-few = let same = said-format in let few = format_in-few versions b in omega arith
+
+  pub said-front : HasFront v w
+  said-front = subst (λ (f : ℕ). HasFront f w) (sym said-format) h.front
+
 -- ---- why no segment is opened
 
 -- the check refused it
 module _ (format : ℕ) (b region : List ℕ) (base : ℕ) (w : Cut) (h : IsImageRead format (as_given b) region base w) where
-  why-not-of : (why : CheckError) → IsWhyRefused format w.bytes why → IsWhyNotOf format b base (length region) (cause_for why)
-  why-not-of (Class v) x = subst (λ (y : List ℕ). class_of format y ≡ Some v.class) h.bytes x.0
-  why-not-of (NoMemory refusal) x = record {
+  why-not-of : (why : ExamineError) → IsWhyRefused format w.bytes why → IsWhyNotOf format b base (length region) (error_for why)
+  why-not-of RegionTooSmall x = absurd x
+  why-not-of ReadFault x = absurd x
+  why-not-of (Judged v) x = subst (λ (y : List ℕ). class_of format y ≡ Some v.class) h.bytes x.0
+  why-not-of (OutOfMemory refusal) x = record {
     read = h.read;
     early = subst (λ (y : List ℕ). has_early_class format y ≡ false) h.bytes x.0;
     used = subst (λ (y : List ℕ). IsTrue (has_block y)) h.bytes x.1;
@@ -93,7 +149,7 @@ module _ (format : ℕ) (b region : List ℕ) (base : ℕ) (w : Cut) (h : IsImag
   as-long : length b ≡ size_word b
   as-long = sym (ap length h.bytes) ∙ sym h.front.says ∙ ap size_word h.bytes
 
-  pub refused-bytes : (mode : Mode) (why : CheckError) (cause : OpenError) (back : List ℕ) → IsWhyRefused format w.bytes why → cause ≡ cause_for why → back ≡ whole w
+  pub refused-bytes : (mode : Mode) (why : ExamineError) (cause : OpenError) (back : List ℕ) → IsWhyRefused format w.bytes why → cause ≡ error_for why → back ≡ whole w
       → OpensBytes format b region base mode (Err (record { region = back; cause = cause }))
   refused-bytes mode why cause back x e f = record {
     answers = record {
@@ -103,3 +159,19 @@ module _ (format : ℕ) (b region : List ℕ) (base : ℕ) (w : Cut) (h : IsImag
     };
     too_small = λ t. absurd (no-room format (as_given b) region base w h t);
   }
+
+  -- a check of which no segment is made
+  pub not-examined-bytes : (why : ExamineError) (back : List ℕ) → IsWhyRefused format w.bytes why → back ≡ whole w
+      → ExaminesBytes format b region base (Err (record { region = back; cause = why }))
+  not-examined-bytes why back x f =
+      let opens = refused-bytes ReadOnly why (error_for why) back x refl f in
+      record { answers = opens.answers; too_small = opens.too_small; shown = shown-why format (as_given b) region base w h why x }
+
+  pub examined-bytes : (back : List ℕ) → IsImage format w.bytes → back ≡ whole w → ExaminesBytes format b region base (Ok back)
+  examined-bytes back d f =
+      let v = verified format (as_given b) region base w h back d f in record { answers = v.answers; too_small = v.too_small; shown = tt }
+
+pub unplaced-bytes : (format : ℕ) (b region : List ℕ) (base : ℕ) (refused : ExamineRefused) → IsNotPlaced format b region base (opened_as refused)
+    → IsShown format b refused.cause → ExaminesBytes format b region base (Err refused)
+unplaced-bytes format b region base refused n s =
+    let opens = not-placed format b region base ReadOnly (opened_as refused) n in record { answers = opens.answers; too_small = opens.too_small; shown = s }

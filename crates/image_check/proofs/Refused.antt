@@ -5,13 +5,13 @@ use Rattle.raw_region.specs.Memory.{Cut, whole}
 use Rattle.segment_manager.specs.declared.modes.Mode.{Mode}
 use Rattle.segment_manager.specs.declared.modes.Mode.TheVariants.{ReadOnly}
 use Rattle.image_check.specs.declared.errors.OpenError.{OpenError}
-use Rattle.image_check.specs.declared.errors.CheckError.{CheckError}
-use Rattle.image_check.specs.declared.errors.CheckError.TheVariants.{Class, NoMemory}
+use Rattle.image_check.specs.declared.errors.OpenRefused.{OpenRefused}
 use Rattle.image_check.specs.EarlyTests.{has_front, size_word}
 use Rattle.image_check.specs.Classes.{class_of}
 use Rattle.image_check.specs.Opening.{IsHandedBack, IsTooSmallFor, IsImage, IsWhyNot, Opens, Verifies, has_early_class}
-use Rattle.image_check.specs.Checking.{IsWhyRefused, cause_for, examined_for}
+use Rattle.image_check.specs.Checking.{IsWhyRefused}
 use Rattle.image_check.specs.declared.errors.ExamineError.{ExamineError}
+use Rattle.image_check.specs.declared.errors.ExamineError.TheVariants.{Image, RegionTooSmall, OutOfMemory, ReadFault}
 use Rattle.image_check.specs.declared.errors.ExamineRefused.{ExamineRefused}
 use Rattle.image_check.specs.Causes.{IsShown, error_for, opened_as}
 use Rattle.image_check.specs.Examining.{Examines}
@@ -32,9 +32,11 @@ module _ (format : ℕ) (image : Given) (region : List ℕ) (base : ℕ) (w : Cu
       let says : size_word image.bytes ≡ length w.bytes = sym (ap size_word h.bytes) ∙ h.front.says in
       omega arith
 
-  why-not : (why : CheckError) → IsWhyRefused format w.bytes why → IsWhyNot format image base (length region) (cause_for why)
-  why-not (Class v) x = record { sound = h.read.failed; right = inl (h.read.ended, subst (λ (b : List ℕ). class_of format b ≡ Some v.class) h.bytes x.0) }
-  why-not (NoMemory refusal) x = record {
+  why-not : (why : ExamineError) → IsWhyRefused format w.bytes why → IsWhyNot format image base (length region) (error_for why)
+  why-not RegionTooSmall x = absurd x
+  why-not ReadFault x = absurd x
+  why-not (Image v) x = record { sound = h.read.failed; right = inl (h.read.ended, subst (λ (b : List ℕ). class_of format b ≡ Some v.class) h.bytes x.0) }
+  why-not (OutOfMemory refusal) x = record {
     read = h.read;
     early = subst (λ (b : List ℕ). has_early_class format b ≡ false) h.bytes x.0;
     used = subst (λ (b : List ℕ). IsTrue (has_block b)) h.bytes x.1;
@@ -56,7 +58,7 @@ module _ (format : ℕ) (image : Given) (region : List ℕ) (base : ℕ) (w : Cu
       says f
 
   -- the answer of an opening
-  pub refused : (mode : Mode) (why : CheckError) (cause : OpenError) (back : List ℕ) → IsWhyRefused format w.bytes why → cause ≡ cause_for why → back ≡ whole w
+  pub refused : (mode : Mode) (why : ExamineError) (cause : OpenError) (back : List ℕ) → IsWhyRefused format w.bytes why → cause ≡ error_for why → back ≡ whole w
       → Opens format image region base mode (Err (record { region = back; cause = cause }))
   refused mode why cause back x e f = record {
     answers = record {
@@ -67,26 +69,23 @@ module _ (format : ℕ) (image : Given) (region : List ℕ) (base : ℕ) (w : Cu
   }
 
   -- a place that shows the class of the window shows that of what was read
-  shown-why : (why : CheckError) → IsWhyRefused format w.bytes why → IsShown format image.bytes (examined_for why)
-  shown-why (Class v) x = subst (λ (b : List ℕ). Shows format b v.class v.place) h.bytes x.1
-  shown-why (NoMemory refusal) x = tt
-
-  same-error : (why : CheckError) → error_for (examined_for why) ≡ cause_for why
-  same-error (Class v) = refl
-  same-error (NoMemory refusal) = refl
+  pub shown-why : (why : ExamineError) → IsWhyRefused format w.bytes why → IsShown format image.bytes why
+  shown-why (Image v) x = subst (λ (b : List ℕ). Shows format b v.class v.place) h.bytes x.1
+  shown-why (OutOfMemory refusal) x = tt
+  shown-why RegionTooSmall x = tt
+  shown-why ReadFault x = tt
 
   -- the answers of a check of which no segment is made
-  pub not-examined : (why : CheckError) (cause : ExamineError) (back : List ℕ)
-      → IsWhyRefused format w.bytes why → cause ≡ examined_for why → back ≡ whole w
-      → Examines format image region base (Err (record { region = back; cause = cause }))
-  not-examined why cause back x e f =
-      let opens = refused ReadOnly why (error_for cause) back x (ap error_for e ∙ same-error why) f in
+  pub not-examined : (why : ExamineError) (back : List ℕ) → IsWhyRefused format w.bytes why → back ≡ whole w
+      → Examines format image region base (Err (record { region = back; cause = why }))
+  not-examined why back x f =
+      let opens = refused ReadOnly why (error_for why) back x refl f in
       record {
         verifies = record { answers = opens.answers; too_small = opens.too_small };
-        shown = subst (IsShown format image.bytes) (sym e) (shown-why why x);
+        shown = shown-why why x;
       }
 
-  verified : (back : List ℕ) → IsImage format w.bytes → back ≡ whole w → Verifies format image region base (Ok back)
+  pub verified : (back : List ℕ) → IsImage format w.bytes → back ≡ whole w → Verifies format image region base (Ok back)
   verified back d f = record {
     answers = record {
       segment = record { cut = w; mode = ReadOnly };
@@ -106,6 +105,10 @@ module _ (format : ℕ) (image : Given) (region : List ℕ) (base : ℕ) (w : Cu
   examined back d f = record { verifies = verified back d f; shown = tt }
 
 -- one that was not read
+pub unread-opens : (format : ℕ) (image : Given) (region : List ℕ) (base : ℕ) (mode : Mode) (refused : OpenRefused) → IsNotRead format image region base refused
+    → Opens format image region base mode (Err refused)
+unread-opens format image region base mode refused n = record { answers = record { why = n.stops.why; handed_back = n.handed_back }; too_small = n.stops.too_small }
+
 pub unread : (format : ℕ) (image : Given) (region : List ℕ) (base : ℕ) (refused : ExamineRefused) → IsNotRead format image region base (opened_as refused)
     → IsShown format image.bytes refused.cause → Examines format image region base (Err refused)
 unread format image region base refused n s = record {

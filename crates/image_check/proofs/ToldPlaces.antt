@@ -26,7 +26,7 @@ use Rattle.image_check.proofs.Fronts.{IsRight-append, IsRight-take}
 pub end-shown : (format : ℕ) (b : List ℕ) (n : ℕ) (cause : ExamineError) → n ≡ length b → IsEnd n cause → IsShown format b cause
 end-shown format b n (Image v) e h = subst (λ c. Shows format b c v.place) (sym h.0) (h.1 ∙ e)
 end-shown format b n RegionTooSmall e h = tt
-end-shown format b n OutOfMemory e h = tt
+end-shown format b n (OutOfMemory refusal) e h = tt
 end-shown format b n ReadFault e h = tt
 
 -- the size that was said
@@ -87,7 +87,7 @@ module _ (w : Cut) (old mid new ws : List ℕ) (n : ℕ) (is : n ≡ length w.by
   whole-shown (Err (Image v)) (inl g) s = absurd (cc)
   whole-shown (Err (Image v)) (inr g) s = λ format h start e. one-behind format h start e g.1.0 g.1.1 v s
   whole-shown (Err RegionTooSmall) g s = λ format h start e. tt
-  whole-shown (Err OutOfMemory) g s = λ format h start e. tt
+  whole-shown (Err (OutOfMemory refusal)) g s = λ format h start e. tt
   whole-shown (Err ReadFault) g s = λ format h start e. tt
 
 -- as many bytes came as are taken

@@ -16,7 +16,7 @@ use Rattle.image_check.specs.Verdicts.{Shows}
 abbrev pub error_for : ExamineError → OpenError
 error_for (Image v) = OfClass v.class
 error_for RegionTooSmall = TooSmall
-error_for OutOfMemory = NoMemory
+error_for (OutOfMemory refusal) = NoMemory
 error_for ReadFault = Fault
 
 abbrev pub opened_as : ExamineRefused → OpenRefused
@@ -40,19 +40,19 @@ opened_in (Err refused) = Err (opened_as refused)
 abbrev pub IsShown : ℕ → List ℕ → ExamineError → Type 0
 IsShown format b (Image v) = Shows format b v.class v.place
 IsShown format b RegionTooSmall = ⊤
-IsShown format b OutOfMemory = ⊤
+IsShown format b (OutOfMemory refusal) = ⊤
 IsShown format b ReadFault = ⊤
 
 -- what is told of bytes that end too early is their end
 abbrev pub IsEnd : ℕ → ExamineError → Type 0
 IsEnd n (Image v) = (v.class ≡ Truncated) × (v.place ≡ n)
 IsEnd n RegionTooSmall = ⊤
-IsEnd n OutOfMemory = ⊤
+IsEnd n (OutOfMemory refusal) = ⊤
 IsEnd n ReadFault = ⊤
 
 -- of bytes that go on behind a size it is that size
 abbrev pub IsBehind : ℕ → ExamineError → Type 0
 IsBehind n (Image v) = (v.class ≡ BadSize) × (v.place ≡ n)
 IsBehind n RegionTooSmall = ⊤
-IsBehind n OutOfMemory = ⊤
+IsBehind n (OutOfMemory refusal) = ⊤
 IsBehind n ReadFault = ⊤

@@ -4,15 +4,11 @@ use Rattle.raw_region.specs.Memory.{Memory}
 use Rattle.block_tags.specs.declared.tile.Tile.{Tile}
 use Rattle.image_check.specs.declared.classes.ImageClass.{ImageClass}
 use Rattle.image_check.specs.declared.classes.ImageClass.TheVariants.{BadIndex, BadObject, SharedBlock, BadContainer, OrphanBlock}
-use Rattle.image_check.specs.declared.errors.CheckError.{CheckError}
-use Rattle.image_check.specs.declared.errors.CheckError.TheVariants.{Class, NoMemory}
-use Rattle.image_check.specs.declared.errors.OpenError.{OpenError}
-use Rattle.image_check.specs.declared.errors.OpenError.TheVariants.{Image, OutOfMemory}
 use Rattle.image_check.specs.ObjectTests.{has_indexes, has_objects}
 use Rattle.image_check.specs.Fields.{is_shared, is_orphaned, has_containers}
 use Rattle.image_check.specs.Passes.{has_block}
 use Rattle.image_check.specs.declared.errors.ExamineError.{ExamineError}
-use Rattle.image_check.specs.declared.errors.ExamineError.TheVariants.{Image as Examined, OutOfMemory as Exhausted}
+use Rattle.image_check.specs.declared.errors.ExamineError.TheVariants.{Image, RegionTooSmall, OutOfMemory, ReadFault}
 use Rattle.image_check.specs.Opening.{has_early_class}
 use Rattle.image_check.specs.Verdicts.{IsVerdict}
 
@@ -26,17 +22,9 @@ late_by indexes objects shared containers orphaned =
 unfoldable pub late_class : ℕ → Memory → List Tile → Option ImageClass
 late_class format m ts = late_by (has_indexes m ts) (has_objects format m ts) (is_shared format m ts) (has_containers format m ts) (is_orphaned format m ts)
 
--- why an image is not opened
-abbrev pub IsWhyRefused : ℕ → List ℕ → CheckError → Type 0
-IsWhyRefused format b (Class v) = IsVerdict format b v
-IsWhyRefused format b (NoMemory refusal) = (has_early_class format b ≡ false) × IsTrue (has_block b)
-
--- the same as an answer to an opening
-abbrev pub cause_for : CheckError → OpenError
-cause_for (Class v) = Image v.class
-cause_for (NoMemory refusal) = OutOfMemory
-
--- and with the place
-abbrev pub examined_for : CheckError → ExamineError
-examined_for (Class v) = Examined v
-examined_for (NoMemory refusal) = Exhausted
+-- why an image that stands in its window is refused
+abbrev pub IsWhyRefused : ℕ → List ℕ → ExamineError → Type 0
+IsWhyRefused format b (Image v) = IsVerdict format b v
+IsWhyRefused format b (OutOfMemory refusal) = (has_early_class format b ≡ false) × IsTrue (has_block b)
+IsWhyRefused format b RegionTooSmall = ⊥
+IsWhyRefused format b ReadFault = ⊥

@@ -17,8 +17,6 @@ pub mod Owners
 pub mod Rows
 pub mod Orphans
 pub mod Counting
-pub mod WrongTags
-pub mod Walking
 pub mod HeaderPlaces
 pub mod Verdicts
 pub mod Causes
@@ -31,8 +29,7 @@ pub mod MapNodes
 pub mod MapLaws
 pub mod Containers
 pub mod Sharing
-pub mod OlderFormats
-pub mod Examining
 pub mod OpeningAny
 pub mod OpeningBytes
+pub mod Examining
 pub mod Saving

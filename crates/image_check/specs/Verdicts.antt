@@ -14,7 +14,7 @@ use Rattle.image_check.specs.HeaderPlaces.{IsFirstOther, IsFirstReserved, shown_
 use Rattle.image_check.specs.IndexPlaces.{IsWrongIndex}
 use Rattle.image_check.specs.ObjectPlaces.{IsFirstTile, IsFirstWrongTile, IsWrongObject}
 use Rattle.image_check.specs.OwnerPlaces.{IsSharedAt}
-use Rattle.image_check.specs.WrongTags.{StopsAt}
+use Rattle.block_tags.specs.Checks.{StopsAt}
 
 -- the tiles that the tags say, by the size that the header says
 abbrev pub said_tiles : List ℕ → List Tile

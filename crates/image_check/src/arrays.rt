@@ -22,21 +22,22 @@ use seg_types::ScalarKind;
 /// The bytes of an element of an array of texts: a link and a length.
 const ELEMENT: u64 = 16;
 
-/// Whether the link is that of a storage block with `capacity` places of `each` bytes: null where there are none.
-fn is_table(
+/// Whether the link is that of a block for this role with `capacity` places of `each` bytes: null where there are none.
+pub(crate) fn is_table(
     blocks: &Blocks,
     visits: &mut Visits,
+    role: Role,
     link: Option<u64>,
     each: u64,
     capacity: u64,
 ) -> bool
-    ensures value { (ts : List Tile) → AreBlocks ts blocks.now.entries → result ≡ is_table_link ts Storage link each capacity }
+    ensures value { (ts : List Tile) → AreBlocks ts blocks.now.entries → result ≡ is_table_link ts role link each capacity }
     ensures visits { Adds 1 visits.old visits.new }
 {
     if capacity == 0 {
         return link.is_none();
     }
-    match good_len(blocks, Role::Storage, link, visits) {
+    match good_len(blocks, role, link, visits) {
         Some(len) => has_room(len, each, capacity),
         None => false,
     }
@@ -74,7 +75,7 @@ pub(crate) fn is_storage(
         return false;
     }
     let link = value.link(window);
-    if !is_table(blocks, visits, link, kind.size(), capacity) {
+    if !is_table(blocks, visits, Role::Storage, link, kind.size(), capacity) {
         return false;
     }
     match link {
@@ -92,7 +93,7 @@ fn is_element(window: &ImageWindow, blocks: &Blocks, visits: &mut Visits, at: u6
     ensures visits { Adds 2 visits.old visits.new }
 {
     let (link, len) = window.text(at, visits);
-    is_table(blocks, visits, link, 1, len)
+    is_table(blocks, visits, Role::Storage, link, 1, len)
 }
 
 /// Whether the first `n` elements of the array at `at` lead to their texts.
@@ -133,7 +134,7 @@ pub(crate) fn is_array(
         return false;
     }
     let link = value.link(window);
-    if !is_table(blocks, visits, link, ELEMENT, capacity) {
+    if !is_table(blocks, visits, Role::Storage, link, ELEMENT, capacity) {
         return false;
     }
     match link {

@@ -1,10 +1,8 @@
 //! Whether a whole image is that of a directory.
-ghost use Rattle.std.specs.Prelude.{◌≡◌, ◌≤◌, ◌+◌, ◌*◌, IfErr, IfOk, IsTrue, None, Some, MatchResult, OnErr, OnOk};
+ghost use Rattle.std.specs.Prelude.{◌≡◌, ◌≤◌, IfErr, IfOk, IsTrue, None, Some, MatchResult, OnErr, OnOk};
 ghost use Rattle.std.specs.Prelude.{false, length, true};
-ghost use Rattle.raw_region.specs.Memory.{bytes_of};
-ghost use Rattle.block_tags.specs.Format.{is_legal_size};
-ghost use Rattle.block_tags.specs.Tiles.{has_tags};
-ghost use Rattle.image_check.specs.Checking.{IsWhyRefused, cause_for};
+ghost use Rattle.image_check.specs.Causes.{error_for};
+ghost use Rattle.image_check.specs.Checking.{IsWhyRefused};
 ghost use Rattle.image_check.specs.Classes.{are_bytes};
 ghost use Rattle.image_check.specs.Counting.{AreCounted};
 ghost use Rattle.image_check.specs.EarlyTests.{has_reserved as is_reserved};
@@ -12,12 +10,10 @@ ghost use Rattle.image_check.specs.Frame.{has_frame};
 ghost use Rattle.image_check.specs.HeaderPlaces.{IsFirstReserved};
 ghost use Rattle.image_check.specs.Opening.{IsImage, IsRaisedFor, is_late};
 ghost use Rattle.image_check.specs.Owners.{entries_of};
-ghost use Rattle.image_check.specs.Passes.{CountsTiles, Finds, HasTiles, Spends, tiles_in};
+ghost use Rattle.image_check.specs.Passes.{CountsTiles, Finds, Spends, tiles_in};
 ghost use Rattle.image_check.specs.Reading.{HasFront};
 ghost use Rattle.image_check.specs.Verdicts.{IsVerdict, Judges};
 ghost use Rattle.image_check.specs.Visits.{block_rates, frame_rates};
-ghost use Rattle.image_check.specs.WrongTags.{StopsAt};
-ghost use Rattle.image_check.specs.declared.classes.ImageClass.TheVariants.{BadTag as WrongTag};
 ghost use Rattle.image_check.specs.declared.errors.OpenError.TheVariants.{Image};
 
 mod visits;
@@ -25,17 +21,16 @@ mod visits;
 use crate::classes::ImageClass;
 use crate::containers::check_containers;
 use crate::counting::Counts;
-use crate::errors::CheckError;
-use crate::free_tree::check_free_tree;
+use crate::errors::ExamineError;
+use crate::free_tree::check_gaps;
 use crate::gathering::gather;
-use crate::image_window::{ImageWindow, wrong_tag};
+use crate::image_window::ImageWindow;
 use crate::indexes::check_indexes;
 use crate::object_walk::check_objects;
 use crate::orphans::check_orphans;
 use crate::owners::Owners;
 use crate::sharing::check_sharing;
 use crate::verdict::{Offset, Verdict};
-use crate::without_tree::check_without_tree;
 use best_fit::FREE_TREE;
 use block_tags::FIRST;
 use raw_region::Steps;
@@ -49,19 +44,19 @@ pub(crate) use visits::Visits;
 ///
 /// # Errors
 ///
-/// The first class that holds. `NoMemory` only where none of the classes before `BadIndex` holds and a tile is in use.
+/// The first class that holds. `OutOfMemory` only where none of the classes before `BadIndex` holds and a tile is in use.
 pub fn check(
     format: u64,
     alloc: Global,
     window: &ImageWindow,
     steps: &mut Steps,
-) -> Result<(), CheckError>
+) -> Result<(), ExamineError>
     requires format { format ≤ 2 }
     requires front { HasFront format window.now }
     ensures answers { MatchResult result (λ done. IsImage format window.now.bytes) (IsWhyRefused format window.now.bytes) }
     ensures steps { IsRaisedFor (length window.now.bytes) steps.old steps.new }
     ensures tiles { OnOk result (CountsTiles window.now.bytes steps.old steps.new) }
-    ensures late { IfErr result (λ why. is_late (cause_for why) ≡ true
+    ensures late { IfErr result (λ cause. is_late (error_for cause) ≡ true
         → CountsTiles window.now.bytes steps.old steps.new) }
 {
     let mut visits = Visits::new(mem::replace(steps, Steps::new()));
@@ -80,25 +75,25 @@ fn check_counted(
     alloc: Global,
     window: &ImageWindow,
     visits: &mut Visits,
-) -> Result<(), CheckError>
+) -> Result<(), ExamineError>
     requires format { format ≤ 2 }
     requires front { HasFront format window.now }
     ensures answers { MatchResult result (λ done. IsImage format window.now.bytes) (IsWhyRefused format window.now.bytes) }
     ensures visits { IsRaisedFor (length window.now.bytes) visits.old visits.new }
     ensures tiles { OnOk result (CountsTiles window.now.bytes visits.old visits.new) }
-    ensures late { IfErr result (λ why. is_late (cause_for why) ≡ true
+    ensures late { IfErr result (λ cause. is_late (error_for cause) ≡ true
         → CountsTiles window.now.bytes visits.old visits.new) }
 {
     let counts = match check_frame(format, window, visits) {
         Ok(counts) => counts,
-        Err(verdict) => return Err(CheckError::Class(verdict)),
+        Err(verdict) => return Err(ExamineError::Image(verdict)),
     };
     let mut owners = match gather(alloc, window, counts, visits) {
         Ok(owners) => owners,
-        Err(refusal) => return Err(CheckError::NoMemory(refusal)),
+        Err(refusal) => return Err(ExamineError::OutOfMemory(refusal)),
     };
     if let Err(verdict) = check_blocks(format, window, &mut owners, visits) {
-        return Err(CheckError::Class(verdict));
+        return Err(ExamineError::Image(verdict));
     }
     Ok(())
 }
@@ -123,34 +118,20 @@ fn check_frame(format: u64, window: &ImageWindow, visits: &mut Visits) -> Result
         let class = ImageClass::BadReserved;
         return Err(Verdict { class, place });
     }
-    let tags = window.check_counted(visits);
+    let tags = window.check_counted(format, visits);
     if !tags.are_good {
-        return Err(judge_tags(format, window, visits));
+        return Err(Verdict {
+            class: ImageClass::BadTag,
+            place: tags.at,
+        });
     }
-    if format == 0 {
-        return check_without_tree(window, visits);
-    }
-    let Some(counts) = check_free_tree(window, visits) else {
+    let Some(counts) = check_gaps(format, window, visits) else {
         return Err(Verdict {
             class: ImageClass::BadFreeTree,
             place: FREE_TREE,
         });
     };
     Ok(counts)
-}
-
-/// The verdict on a window whose tags are wrong by the format. One visit for each that is read.
-pub(crate) fn judge_tags(format: u64, window: &ImageWindow, visits: &mut Visits) -> Verdict
-    requires size { IsTrue (is_legal_size (length window.now.bytes)) }
-    requires wrong { has_tags format (bytes_of window.now.bytes) (length window.now.bytes) ≡ false }
-    ensures class { result.class ≡ WrongTag }
-    ensures stops { StopsAt format (bytes_of window.now.bytes) (length window.now.bytes) result.place }
-    ensures more { visits.old ≤ visits.new }
-    ensures few { 32 * visits.new + 112 ≤ 32 * visits.old + length window.now.bytes }
-{
-    let class = ImageClass::BadTag;
-    let place = wrong_tag(format, window, visits);
-    Verdict { class, place }
 }
 
 /// Looks for the classes that are about blocks, one after another, with the blocks in use as they were gathered.

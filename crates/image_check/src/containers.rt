@@ -124,8 +124,5 @@ pub(crate) fn check_containers(
     ensures finds { Finds (has_containers format (bytes_of window.now.bytes) (tiles_in window.now.bytes)) (IsFirstWrongTile (has_container format (bytes_of window.now.bytes) (tiles_in window.now.bytes)) (tiles_in window.now.bytes)) result }
     ensures visits { Spends container_rates 20 window.now.bytes visits.old visits.new }
 {
-    if let Err(place) = are_right(format, window, &owners.blocks, visits) {
-        return Err(place);
-    }
-    Ok(())
+    are_right(format, window, &owners.blocks, visits)
 }

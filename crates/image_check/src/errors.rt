@@ -1,7 +1,6 @@
 //! Why no segment is opened.
 ghost use Rattle.std.specs.Prelude.{◌≡◌};
 ghost use Rattle.image_check.specs.Causes.{error_for, opened_as};
-ghost use Rattle.image_check.specs.Checking.{cause_for, examined_for};
 
 use crate::classes::ImageClass;
 use crate::room::NoMemory;
@@ -78,7 +77,7 @@ pub enum ExamineError {
     /// The region ends before base plus the size that the image says.
     RegionTooSmall,
     /// Memory for the check of the image was refused.
-    OutOfMemory,
+    OutOfMemory(NoMemory),
     /// The reader failed before the bytes that it gave decided a class.
     ReadFault,
 }
@@ -91,7 +90,7 @@ impl ExamineError {
         match self {
             ExamineError::Image(verdict) => OpenError::Image(verdict.class),
             ExamineError::RegionTooSmall => OpenError::RegionTooSmall,
-            ExamineError::OutOfMemory => OpenError::OutOfMemory,
+            ExamineError::OutOfMemory(_) => OpenError::OutOfMemory,
             ExamineError::ReadFault => OpenError::ReadFault,
         }
     }
@@ -114,37 +113,6 @@ impl ExamineRefused {
         OpenRefused {
             region: self.region,
             cause: self.cause.into_error(),
-        }
-    }
-}
-
-/// Why an image that stands in its window is not opened.
-#[derive(Clone, Copy)]
-pub enum CheckError {
-    /// It denotes no directory.
-    Class(Verdict),
-    /// Memory for the check of its blocks was refused.
-    NoMemory(NoMemory),
-}
-
-impl CheckError {
-    /// The same as an answer to an opening.
-    pub fn into_cause(self) -> OpenError
-        ensures { result ≡ cause_for self }
-    {
-        match self {
-            CheckError::Class(verdict) => OpenError::Image(verdict.class),
-            CheckError::NoMemory(_) => OpenError::OutOfMemory,
-        }
-    }
-
-    /// The same with the place.
-    pub fn into_examined(self) -> ExamineError
-        ensures { result ≡ examined_for self }
-    {
-        match self {
-            CheckError::Class(verdict) => ExamineError::Image(verdict),
-            CheckError::NoMemory(_) => ExamineError::OutOfMemory,
         }
     }
 }

@@ -10,7 +10,7 @@ ghost use Rattle.image_check.specs.Passes.{CountsTiles};
 
 use crate::checking::check;
 use crate::errors::ExamineRefused;
-use crate::reading::read_judged;
+use crate::reading::read_image;
 use crate::versions::Versions;
 use raw_region::{RawRegion, Source, Steps};
 use segment_manager::layout::FORMAT;
@@ -43,15 +43,12 @@ pub fn examine<S: Source>(
     ensures late { IfErr result (λ refused. is_late (error_for refused.cause) ≡ true
         → CountsTiles (given_since (S.history reader.old) (S.history reader.new)).bytes steps.old steps.new) }
 {
-    let window = match read_judged(Versions::Current, reader, region, base) {
-        Ok(window) => window,
-        Err(refused) => return Err(refused),
-    };
+    let window = read_image(Versions::Current, reader, region, base)?;
     match check(FORMAT, alloc, &window, steps) {
         Ok(()) => Ok(window.into_region()),
-        Err(why) => Err(ExamineRefused {
+        Err(cause) => Err(ExamineRefused {
             region: window.into_region(),
-            cause: why.into_examined(),
+            cause,
         }),
     }
 }

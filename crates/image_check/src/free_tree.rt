@@ -1,4 +1,5 @@
-//! Whether the free tiles of a window make up the tree that the header's link leads to, whatever its links say.
+//! Whether the free tiles of a window make up the tree that the header's link leads to, whatever its links say. In
+//! format 0 there is none.
 ghost use Rattle.std.specs.Prelude.{◌≡◌, ◌+◌, ◌-◌, ◌≤◌, ◌<◌, ◌%◌, ◌^◌, true, IfSome, IsTrue, is_some, length};
 ghost use Rattle.std.specs.List.{list_all};
 ghost use Rattle.raw_region.specs.Memory.{bytes_of};
@@ -12,8 +13,8 @@ ghost use Rattle.best_fit.specs.GapNodes.{tiles_in};
 ghost use Rattle.image_check.specs.Counting.{AreCounted};
 ghost use Rattle.image_check.specs.EarlyTests.{has_free_tree as has_tree};
 ghost use Rattle.image_check.specs.FreeNodes.{has_good_links, is_before, is_planted as is_planted_in, is_place, len_at as len_there, place_cells, placed, stands_before};
-ghost use Rattle.image_check.specs.Passes.{Spends};
-ghost use Rattle.image_check.specs.Visits.{planting_rates, planting_visits, tree_rates};
+ghost use Rattle.image_check.specs.Passes.{HasTiles, Spends};
+ghost use Rattle.image_check.specs.Visits.{planting_rates, planting_visits, tag_rates, tree_rates};
 ghost use Rattle.image_check.specs.FreeLaws.{before_agrees, before_irreflexive, before_transitive, places_finite, places_left, places_right};
 
 use crate::checking::Visits;
@@ -21,13 +22,47 @@ use crate::counting::Counts;
 use crate::image_window::{ImageWindow, Sought, check_places, find_place, has_good_links};
 use best_fit::FREE_TREE;
 use block_tags::{TAG, Tile};
+use offset_link::NULL;
+
+/// The count of the tiles, where the free ones make up the tree that they do in the format, or the link is null in
+/// format 0.
+pub(crate) fn check_gaps(format: u64, window: &ImageWindow, visits: &mut Visits) -> Option<Counts>
+    requires tiles { HasTiles window.now.bytes }
+    ensures value { is_some result ≡ has_tree format (bytes_of window.now.bytes) (tiles_in window.now) }
+    ensures counted { IfSome result (AreCounted (tiles_in window.now)) }
+    ensures visits { Spends tree_rates 50 window.now.bytes visits.old visits.new }
+{
+    if format != 0 {
+        return check_free_tree(window, visits);
+    }
+    if window.header_word(FREE_TREE) != NULL {
+        return None;
+    }
+    Some(count_tiles(window, visits))
+}
+
+/// The count of the tiles. One visit for each.
+fn count_tiles(window: &ImageWindow, visits: &mut Visits) -> Counts
+    requires tiles { HasTiles window.now.bytes }
+    ensures counted { AreCounted (tiles_in window.now) result }
+    ensures visits { Spends tag_rates 0 window.now.bytes visits.old visits.new }
+{
+    let mut counts = Counts::new();
+    let mut tile = window.first();
+    'tiles: while let Some(unread) = tile {
+        let one = unread.read(visits);
+        counts.add(one);
+        tile = window.next(one.offset);
+    }
+    counts
+}
 
 /// The count of the tiles, where the tree at word 24 has the free ones as its nodes, each once, ordered by length and
 /// then by offset, and is red-black. The links may be any words.
 ///
 /// A tree of as many nodes as there are free tiles, in which each of them is found, has no other node. Each is searched
 /// for to the depth of a red-black tree of that size.
-pub(crate) fn check_free_tree(window: &ImageWindow, visits: &mut Visits) -> Option<Counts>
+fn check_free_tree(window: &ImageWindow, visits: &mut Visits) -> Option<Counts>
     requires size { IsTrue (is_legal_size (length window.now.bytes)) }
     requires tags { IsTrue (has_tags current (bytes_of window.now.bytes) (length window.now.bytes)) }
     ensures value { is_some result

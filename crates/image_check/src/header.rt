@@ -35,7 +35,10 @@ pub fn size_in(front: &[u8]) -> Result<u64, ImageClass>
     requires { 24 ≤ length front.now }
     ensures { result ≡ front_of current front.now }
 {
-    size_by(Versions::Current, front)
+    match judge_front(Versions::Current, front) {
+        Ok(size) => Ok(size),
+        Err(verdict) => Err(verdict.class),
+    }
 }
 
 /// The same of an image of any of the three formats.
@@ -47,25 +50,13 @@ pub fn size_in_any(front: &[u8]) -> Result<u64, ImageClass>
     requires { 24 ≤ length front.now }
     ensures { result ≡ front_of (format_of front.now) front.now }
 {
-    size_by(Versions::All, front)
-}
-
-/// The same where these versions are read.
-///
-/// # Errors
-///
-/// As [`size_in`].
-pub(crate) fn size_by(versions: Versions, front: &[u8]) -> Result<u64, ImageClass>
-    requires { 24 ≤ length front.now }
-    ensures { result ≡ front_of (format_in versions front.now) front.now }
-{
-    match judge_front(versions, front) {
+    match judge_front(Versions::All, front) {
         Ok(size) => Ok(size),
         Err(verdict) => Err(verdict.class),
     }
 }
 
-/// The same, with the place that shows what is wrong.
+/// The same of an image of one of these versions, with the place that shows what is wrong.
 ///
 /// # Errors
 ///

@@ -1,10 +1,10 @@
 //! The one way to the bytes of an image that is checked, and to its blocks in use: calls that count what they reach.
 //! Bytes that nobody counts are seen by this module and those in it alone.
-ghost use Rattle.std.specs.Prelude.{◌≡◌, ◌+◌, ◌*◌, ◌%◌, ◌≤◌, ◌↔◌, IfOk, IsTrue, List, MatchOption, is_err, length};
-ghost use Rattle.raw_region.specs.Format.{current};
+ghost use Rattle.std.specs.Prelude.{◌≡◌, ◌+◌, ◌*◌, ◌%◌, ◌≤◌, ◌↔◌, IfOk, IsTrue, List, MatchOption, false, is_err, length};
 ghost use Rattle.raw_region.specs.Memory.{AreZero, bytes_of, part, whole, word_at};
 ghost use Rattle.offset_link.specs.Link.{link_at};
 ghost use Rattle.offset_link.specs.Relinked.{is_bad};
+ghost use Rattle.block_tags.specs.Checks.{StopsAt};
 ghost use Rattle.block_tags.specs.Format.{is_legal_size};
 ghost use Rattle.block_tags.specs.Lists.{first_in, next_in};
 ghost use Rattle.block_tags.specs.Tiles.{has_tags};
@@ -17,7 +17,6 @@ mod blocks;
 mod objects;
 mod pairs;
 mod places;
-mod tags;
 
 use crate::checking::Visits;
 use block_tags::{Checked, Tile, check_counted, first, next};
@@ -28,7 +27,6 @@ pub(crate) use pairs::check_pairs;
 pub(crate) use places::{Sought, check_places, find_place, has_good_links};
 use raw_region::{RawRegion, Window};
 use std::marker::Model;
-pub(crate) use tags::wrong_tag;
 
 /// The window of an image that is checked.
 #[derive(Drop)]
@@ -227,14 +225,15 @@ impl ImageWindow {
         (self.link(at, visits), load(&self.window, at + 8))
     }
 
-    /// Reads all tags up to the first wrong one. One visit for each.
-    pub fn check_counted(&self, visits: &mut Visits) -> Checked
+    /// Reads all tags up to the first that is wrong in the format. One visit for each.
+    pub fn check_counted(&self, format: u64, visits: &mut Visits) -> Checked
         requires { IsTrue (is_legal_size (length self.now.bytes)) }
-        ensures good { result.are_good ≡ has_tags current (bytes_of self.now.bytes) (length self.now.bytes) }
+        ensures good { result.are_good ≡ has_tags format (bytes_of self.now.bytes) (length self.now.bytes) }
+        ensures stops { result.are_good ≡ false → StopsAt format (bytes_of self.now.bytes) (length self.now.bytes) result.at }
         ensures few { 32 * result.tags + 112 ≤ length self.now.bytes }
         ensures visits { visits.new ≡ visits.old + result.tags }
     {
-        let tags = check_counted(&self.window);
+        let tags = check_counted(format, &self.window);
         visits.add(tags.tags);
         tags
     }

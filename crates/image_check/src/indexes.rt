@@ -1,19 +1,19 @@
 //! Whether the two indexes have blocks that are long enough, and entries that lead to objects, each to another.
-ghost use Rattle.std.specs.Prelude.{◌≡◌, ℕ, ◌+◌, ◌*◌, ◌%◌, ◌^◌, ◌<◌, ◌≤◌, true, false, None, List, length, nat_le, MatchResult, OnOk};
+ghost use Rattle.std.specs.Prelude.{◌≡◌, ℕ, ◌+◌, ◌*◌, ◌%◌, ◌^◌, ◌<◌, ◌≤◌, true, false, None, List, length, MatchResult, OnOk};
 ghost use Rattle.raw_region.specs.Memory.{bytes_of};
-ghost use Rattle.block_tags.specs.declared.tile.Role.TheVariants.{Index};
 ghost use Rattle.block_tags.specs.declared.tile.Tile.{Tile};
-ghost use Rattle.image_check.specs.ObjectTests.{has_indexes, is_table_link, targets};
+ghost use Rattle.image_check.specs.ObjectTests.{has_indexes, targets};
 ghost use Rattle.image_check.specs.IndexPlaces.{IsFirstWrong, IsWrongAt, IsWrongHead, IsWrongIndex, earlier_targets, first_targets, is_head};
 ghost use Rattle.image_check.specs.Owners.{AreBlocks, IsIndexPlace, IsMarking, IsUnmarked, entries_of};
 ghost use Rattle.image_check.specs.Passes.{HasTiles, Finds, Spends, tiles_in};
 ghost use Rattle.image_check.specs.Visits.{Adds, index_rates, weigh};
 ghost use Rattle.image_check.specs.Entered.{AreAdded, AreEntered, HaveEntries, are_enterable, is_enterable, links_in};
 
+use crate::arrays::is_table;
 use crate::checking::Visits;
 use crate::entering::enter;
 use crate::image_window::{Blocks, ImageWindow};
-use crate::owners::{Owners, good_len};
+use crate::owners::Owners;
 use crate::verdict::Offset;
 use block_tags::Role;
 use segment_manager::layout::{NAMED_AT, UNIQUE_AT};
@@ -113,32 +113,12 @@ fn check_head(
     if window.header_word(at + 8) > capacity {
         return Err(at + 8);
     }
-    if has_places(blocks, visits, window.header_link(at), capacity) {
+    let link = window.header_link(at);
+    if is_table(blocks, visits, Role::Index, link, 8, capacity) {
         Ok(())
     } else {
         Err(at)
     }
-}
-
-/// Whether the link of an index leads to a block with room for so many places, or nowhere where there are none.
-fn has_places(blocks: &Blocks, visits: &mut Visits, link: Option<u64>, capacity: u64) -> bool
-    ensures is { (ts : List Tile) → AreBlocks ts blocks.now.entries → result ≡ is_table_link ts Index link 8 capacity }
-    ensures spends { Adds 1 visits.old visits.new }
-{
-    if capacity == 0 {
-        return link.is_none();
-    }
-    match good_len(blocks, Role::Index, link, visits) {
-        Some(len) => has_room(capacity, len),
-        None => false,
-    }
-}
-
-/// Whether a tile of `len` bytes has room for so many links.
-fn has_room(capacity: u64, len: u64) -> bool
-    ensures { result ≡ nat_le (8 * capacity + 16) len }
-{
-    capacity < len / 8 && capacity + 1 < len / 8
 }
 
 /// Notes the entries in the first `count` places of a block.

@@ -47,12 +47,15 @@ pub fn open<S: Source>(
     ensures late { IfErr result (λ refused. is_late refused.cause ≡ true
         → CountsTiles (given_since (S.history reader.old) (S.history reader.new)).bytes steps.old steps.new) }
 {
-    let window = read_image(Versions::Current, reader, region, base)?;
+    let window = match read_image(Versions::Current, reader, region, base) {
+        Ok(window) => window,
+        Err(refused) => return Err(refused.into_opened()),
+    };
     match check(FORMAT, alloc, &window, steps) {
         Ok(()) => Ok(adopt(window.into_window(), mode)),
-        Err(why) => Err(OpenRefused {
+        Err(cause) => Err(OpenRefused {
             region: window.into_region(),
-            cause: why.into_cause(),
+            cause: cause.into_error(),
         }),
     }
 }

@@ -45,13 +45,16 @@ pub fn open_any<S: Source>(
     ensures late { IfErr result (λ refused. is_late refused.cause ≡ true
         → CountsTiles (given_since (S.history reader.old) (S.history reader.new)).bytes steps.old steps.new) }
 {
-    let window = read_image(Versions::All, reader, region, base)?;
+    let window = match read_image(Versions::All, reader, region, base) {
+        Ok(window) => window,
+        Err(refused) => return Err(refused.into_opened()),
+    };
     let format = version_in(window.header(0, FRONT as u64));
     match check(format, alloc, &window, steps) {
         Ok(()) => Ok(adopt(renew(format, window.into_window()), mode)),
-        Err(why) => Err(OpenRefused {
+        Err(cause) => Err(OpenRefused {
             region: window.into_region(),
-            cause: why.into_cause(),
+            cause: cause.into_error(),
         }),
     }
 }

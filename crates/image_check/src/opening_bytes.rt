@@ -41,12 +41,15 @@ pub fn open_bytes(
     ensures tiles { OnOk result (CountsTiles image.now steps.old steps.new) }
     ensures late { IfErr result (λ refused. is_late refused.cause ≡ true → CountsTiles image.now steps.old steps.new) }
 {
-    let window = place_image(Versions::Current, image, region, base)?;
+    let window = match place_image(Versions::Current, image, region, base) {
+        Ok(window) => window,
+        Err(refused) => return Err(refused.into_opened()),
+    };
     match check(FORMAT, alloc, &window, steps) {
         Ok(()) => Ok(adopt(window.into_window(), mode)),
-        Err(why) => Err(OpenRefused {
+        Err(cause) => Err(OpenRefused {
             region: window.into_region(),
-            cause: why.into_cause(),
+            cause: cause.into_error(),
         }),
     }
 }

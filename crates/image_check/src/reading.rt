@@ -10,7 +10,7 @@ ghost use Rattle.image_check.specs.Opening.{AsksToTheEnd, cause_of, failed_reads
 ghost use Rattle.image_check.specs.Reading.{GoesOn, HasFront, IsFrontRead, IsReadBy, IsNotReadBy, IsShort, IsShownBy, Stops, StopsBy};
 
 use crate::classes::ImageClass;
-use crate::errors::{ExamineError, ExamineRefused, OpenRefused};
+use crate::errors::{ExamineError, ExamineRefused};
 use crate::header::{FRONT, LEAST, judge_front};
 use crate::image_window::ImageWindow;
 use crate::verdict::Verdict;
@@ -23,32 +23,7 @@ use raw_region::{RawRegion, Source, Window, fill};
 ///
 /// `RegionTooSmall` as soon as the first words say a size for which there is no room. `Truncated`, or what is wrong
 /// with the first words, or `BadSize` where more bytes follow. `ReadFault` where the reader failed before that.
-pub fn read_image<S: Source>(
-    versions: Versions,
-    reader: &mut S,
-    region: RawRegion,
-    base: u64,
-) -> Result<ImageWindow, OpenRefused>
-    requires aligned { base % 16 ≡ 0 }
-    requires reader { (S.history reader.old).failures < 2 ^ 64 - 1 }
-    ensures reads { MatchResult result
-        (IsReadBy versions (given_since (S.history reader.old) (S.history reader.new)) region base)
-        (IsNotReadBy versions (given_since (S.history reader.old) (S.history reader.new)) region base) }
-    ensures history { Reads (S.history reader.old) (S.history reader.new) (failed_reads (cause_of result)) }
-    ensures ends { AsksToTheEnd (S.history reader.old) (S.history reader.new) }
-{
-    match read_judged(versions, reader, region, base) {
-        Ok(window) => Ok(window),
-        Err(refused) => Err(refused.into_opened()),
-    }
-}
-
-/// The same, with the place that shows a class.
-///
-/// # Errors
-///
-/// As [`read_image`].
-pub(crate) fn read_judged<S: Source>(
+pub(crate) fn read_image<S: Source>(
     versions: Versions,
     reader: &mut S,
     region: RawRegion,

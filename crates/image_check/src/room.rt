@@ -4,11 +4,18 @@ ghost use Rattle.std.specs.Prelude.{◌≡◌, ◌≤◌, IfOk, IsOk, []};
 use crate::image_window::Blocks;
 use indexmap::IndexMap;
 use std::alloc::{AllocError, Global};
+use std::fmt;
 
 /// The allocator refused memory. Its field is private: only [`room_for`] makes one, from the allocator's refusal.
-#[derive(Clone, Copy)]
+#[derive(Clone, Copy, PartialEq, Eq)]
 pub struct NoMemory {
     refusal: AllocError,
+}
+
+impl fmt::Debug for NoMemory {
+    fn fmt<W: fmt::Write>(&self, f: &mut fmt::Formatter<W>) -> fmt::Result {
+        write!(f, "NoMemory")
+    }
 }
 
 /// No blocks, with room for so many, the last of which has its tile at `end`. Memory is asked for here alone, for each

@@ -17,7 +17,7 @@ pub fn fault_name(fault: SessionFault) -> &'static str {
 }
 
 /// Why an image is refused.
-fn class_name(class: ImageClass) -> &'static str {
+pub fn class_name(class: ImageClass) -> &'static str {
     match class {
         ImageClass::Truncated => "Truncated",
         ImageClass::BadMagic => "BadMagic",

@@ -2,9 +2,10 @@
 ghost use Rattle.std.specs.Prelude.{◌≡◌, ◌<◌, ◌-◌, ◌^◌, ◌%◌};
 
 use crate::among::runs_among;
-use crate::names::fault_name;
+use crate::names::{class_name, fault_name};
+use image_check::{ExamineError, Versions, examine_bytes};
 use memory_devices::{MemorySink, MemorySource};
-use raw_region::RawRegion;
+use raw_region::{RawRegion, Steps};
 use rows_trials::{Call, Case, Outcome, Place, Runner};
 use segment_cli::{Start, migrate, session};
 use segment_manager::Mode;
@@ -30,6 +31,25 @@ impl Runner for Segments {
 
     fn runs_among(&self, case: &Case<'_>) -> bool {
         runs_among(self.alloc, case)
+    }
+
+    fn verdict(&self, image: &[u8]) -> Option<(&'static str, u64)> {
+        verdict_on(self.alloc, image)
+    }
+}
+
+/// The class and the place for which an image of any format is refused, in a region that is longer than what it says.
+fn verdict_on(alloc: Global, image: &[u8]) -> Option<(&'static str, u64)> {
+    let Ok(region) = region_of(alloc, Place::new(65536, 0)) else {
+        return None;
+    };
+    let mut steps = Steps::new();
+    match examine_bytes(Versions::All, alloc, image, region, 0, &mut steps) {
+        Ok(_) => None,
+        Err(refused) => match refused.cause {
+            ExamineError::Image(verdict) => Some((class_name(verdict.class), verdict.place)),
+            _ => None,
+        },
     }
 }
 

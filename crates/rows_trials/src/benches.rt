@@ -15,6 +15,10 @@ pub trait Runner: Drop {
     /// Makes the session of a call in a segment among other bytes, and moves the segment into another region: whether
     /// it prints and leaves what is wanted, and the other bytes as they were.
     fn runs_among(&self, case: &Case<'_>) -> bool;
+
+    /// The class for which an image of any format is refused, and the place that is told with it; or nothing where
+    /// there is none.
+    fn verdict(&self, image: &[u8]) -> Option<(&'static str, u64)>;
 }
 
 /// What runs rows; how many there were so far, how many lines of scripts were in them, and how often a device failed;

@@ -48,6 +48,7 @@ impl<R: Runner> Bench<R> {
             "image" => images.make(&self.notes, first, rest),
             "row" => self.check_row(images, first, rest),
             "damaged" => self.check_damaged(images, first, rest),
+            "places" => self.check_verdicts(images, first, rest),
             "requests" => self.check_requests(rest),
             _ => self.notes.is_placed(false, first),
         }
@@ -124,14 +125,50 @@ impl<R: Runner> Bench<R> {
 
     /// Sees that an image is refused with each of the changes that the lines say, by the class that stands before them.
     fn check_damaged(&self, images: &Images<'_>, first: &Line<'_>, lines: &[Line<'_>]) {
-        let notes = &self.notes;
         for line in lines {
-            let mut image = notes.copy(images.get(notes, line, first.rest));
-            for change in line.rest.split(',') {
-                notes.put_at(line, change.trim_start(), &mut image);
-            }
+            let image = self.damaged(images, first, line, line.rest);
             self.refuse_damaged(line, &image);
         }
+    }
+
+    /// Sees that an image is refused with each of the changes that the lines say, by the class that stands before them,
+    /// and that one of the places is told that stand behind the class.
+    fn check_verdicts(&self, images: &Images<'_>, first: &Line<'_>, lines: &[Line<'_>]) {
+        for line in lines {
+            let (places, changes) = line.rest.split_once(' ').unwrap_or((line.rest, ""));
+            let image = self.damaged(images, first, line, changes);
+            let is_told = match self.runner.verdict(&image) {
+                Some((class, place)) => class == line.word && self.is_among(line, places, place),
+                None => false,
+            };
+            let what = "another class or place is told, or none";
+            self.notes.holds(is_told, line.number, what);
+            count(&self.rows, 1);
+        }
+    }
+
+    /// Whether a place is one of those that a text says.
+    fn is_among(&self, line: &Line<'_>, places: &str, place: u64) -> bool {
+        let mut is_found = false;
+        for one in places.split('|') {
+            is_found = is_found || self.notes.number(line, one) == place;
+        }
+        is_found
+    }
+
+    /// The image that the first line names, with the changes that a line says.
+    fn damaged(
+        &self,
+        images: &Images<'_>,
+        first: &Line<'_>,
+        line: &Line<'_>,
+        changes: &str,
+    ) -> Vec<u8> {
+        let mut image = self.notes.copy(images.get(&self.notes, line, first.rest));
+        for change in changes.split(',') {
+            self.notes.damage(line, change.trim_start(), &mut image);
+        }
+        image
     }
 
     /// Sees that an image is refused by the class that a line says.

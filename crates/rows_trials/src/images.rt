@@ -92,6 +92,15 @@ impl Notes {
         }
     }
 
+    /// Makes the change of an image that a text in a line says: one of its length, or a number of some bytes.
+    pub fn damage(&self, line: &Line<'_>, text: &str, image: &mut Vec<u8>) {
+        match text.split_once(' ') {
+            Some(("first", len)) => image.truncate(self.number(line, len) as usize),
+            Some(("more", len)) => self.put(image, &self.zeros(self.number(line, len))),
+            _ => self.put_at(line, text, image),
+        }
+    }
+
     /// Puts the lowest bytes of a number, so many, at an offset: all three as a text says.
     pub fn put_at(&self, line: &Line<'_>, text: &str, image: &mut [u8]) {
         let (offset, rest) = text.split_once(' ').unwrap_or((text, ""));

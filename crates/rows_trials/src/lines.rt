@@ -14,10 +14,10 @@ pub struct Line<'a> {
 }
 
 impl Line<'_> {
-    /// Whether it begins an image, a row, or a table of images or of requests.
+    /// Whether it begins an image, a row, or a table of images, of places or of requests.
     pub fn begins_item(&self) -> bool {
         let is_image = self.word == "image" && self.rest.contains(' ');
-        is_image || ["row", "damaged", "requests"].contains(&self.word)
+        is_image || ["row", "damaged", "places", "requests"].contains(&self.word)
     }
 
     /// Whether it begins a part of a row.

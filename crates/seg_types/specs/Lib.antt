@@ -8,3 +8,4 @@ pub mod ScalarLaws
 pub mod Refusals
 pub mod Texts
 pub mod Literals
+pub mod Written

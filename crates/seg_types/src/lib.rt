@@ -13,6 +13,7 @@ mod scalars;
 mod texts;
 pub mod theorems;
 mod values;
+mod written;
 
 pub use conversions::BadName;
 pub use key_texts::is_bare_name;
@@ -23,3 +24,4 @@ pub use plain::Plain;
 pub use refusals::{LineError, Refusal};
 pub use scalars::Scalar;
 pub use values::ScalarValue;
+pub use written::{Written, pair_of, truth_as, whole_as};

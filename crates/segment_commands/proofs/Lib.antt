@@ -1,12 +1,13 @@
 mod Ran
 mod Opened
 mod Commanded
-mod CutFiles
-mod ReadOn
+mod Fronts
 mod NewSegments
 mod Verified
+mod Explained
+mod ReadOn
+mod Migrated
 mod Linted
 mod Loads
-mod Explained
 mod Reported
 mod ReportedLines

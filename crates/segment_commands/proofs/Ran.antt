@@ -26,7 +26,7 @@ use Rattle.segment_cli.proofs.Laws.{stopped_session, done_session, unsaved_sessi
 use Rattle.segment_disk.specs.declared.presence.Making.{Making}
 use Rattle.segment_disk.specs.declared.presence.Making.TheVariants.{New, Emptied, Beside}
 use Rattle.segment_disk.specs.Events.{Event, After}
-use Rattle.segment_file.specs.Files.{Written, NotMade, Closed, Offered, IsUnwritten, WritesImage, writes, whole, all_of}
+use Rattle.segment_file.specs.Files.{Written, Overtaken, NotMade, Closed, Offered, IsMade, IsUnwritten, WritesImage, writes, whole, all_of}
 use Rattle.segment_commands.specs.Running.{Act, IsAnswered, IsAnsweredAct, IsAnsweredTo, IsRefusedAct, IsStopped, IsLost, IsUnrefusedAct}
 use Rattle.segment_commands.specs.Running.{IsUnsavedFor, EndsRun, Ran, saving}
 
@@ -49,10 +49,10 @@ asks_to_save : {D : Type 0} (step : D → Event → D → Type 0) (old new : D) 
     → After step old (writes how path (whole how image)) new → After step old (saving m how path image) new
 asks_to_save step old new m how path image e h = subst (λ (w : Mode). After step old (saving w how path image) new) (sym e) h
 
-whole-made : (how : Making) (image : List ℕ) → whole how image ≢ NotMade
-whole-made New image e = cc
-whole-made Emptied image e = cc
-whole-made Beside image e = cc
+whole-made : (how : Making) (image : List ℕ) → IsMade (whole how image)
+whole-made New image = tt
+whole-made Emptied image = tt
+whole-made Beside image = tt
 
 -- a segment has bytes: a word at their front
 no_word : word_at (bytes_of []) magic_at ≡ 0
@@ -186,24 +186,19 @@ module _ {D : Type 0} (step : D → Event → D → Type 0) (how : Making) (path
       saved w = record {
         image = s'.cut.bytes;
         asked = asks_to_save step old new mode how path s'.cut.bytes writing (subst (λ (x : Written). After step old (writes how path x) new) w.fate w.asked);
-        ran = done (w.accepted (λ n. whole-made how s'.cut.bytes (sym w.fate ∙ n)));
+        ran = done (w.accepted (subst IsMade (sym w.fate) (whole-made how s'.cut.bytes)));
         unrefused = unrefused true answered;
         flushed = answered.flushed;
       }
 
-      is_closed : Closed (all_of s'.cut.bytes) false ≢ NotMade
-      is_closed e = cc
-
-      is_offered : Offered s'.cut.bytes false ≢ NotMade
-      is_offered e = cc
-
-      unsaved_by : (written : Written) → IsUnwritten how s'.cut.bytes written → (written ≢ NotMade → (d : Directory) → StandsFor s'.cut.bytes d → IsSaved s'.cut.bytes d)
+      unsaved_by : (written : Written) → IsUnwritten how s'.cut.bytes written → (IsMade written → (d : Directory) → StandsFor s'.cut.bytes d → IsSaved s'.cut.bytes d)
           → IsUnsavedFor step old new how path act Flushed written
-      unsaved_by written (inl e) good = subst (IsUnsavedFor step old new how path act Flushed) (sym e) (answered_act true answered)
-      unsaved_by written (inr (inl c)) good = subst (IsUnsavedFor step old new how path act Flushed) (sym c.closed)
+      unsaved_by written (inl o) good = subst (IsUnsavedFor step old new how path act Flushed) (sym o.left) (answered_act true answered)
+      unsaved_by written (inr (inl e)) good = subst (IsUnsavedFor step old new how path act Flushed) (sym e) (answered_act true answered)
+      unsaved_by written (inr (inr (inl c))) good = subst (IsUnsavedFor step old new how path act Flushed) (sym c.closed)
           (inl (unsaved_session start mode 0 capacity (record { image = image; script = script; out = out; saved = c.taken }) s s' h (whole_run true answered) is c.is_part.part c.is_part.failed))
-      unsaved_by written (inr (inr (inl e))) good = subst (IsUnsavedFor step old new how path act Flushed) (sym e) (inr (refl, done (good (λ n. is_closed (sym e ∙ n)))))
-      unsaved_by written (inr (inr (inr u))) good = subst (IsUnsavedFor step old new how path act Flushed) (sym u.offered) (u.beside, refl, done (good (λ n. is_offered (sym u.offered ∙ n))))
+      unsaved_by written (inr (inr (inr (inl e)))) good = subst (IsUnsavedFor step old new how path act Flushed) (sym e) (inr (refl, done (good (subst IsMade (sym e) tt))))
+      unsaved_by written (inr (inr (inr (inr u)))) good = subst (IsUnsavedFor step old new how path act Flushed) (sym u.offered) (u.beside, refl, done (good (subst IsMade (sym u.offered) tt)))
 
       -- it is not, or need not last
       pub unsaved : {E : Type 0} (e : E) → WritesImage {E = E} step old new how path s'.cut.bytes (Err e) → EndsRun step old new how path act Flushed (Err WriteFault)

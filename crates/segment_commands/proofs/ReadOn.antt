@@ -1,169 +1,162 @@
--- An image that says more bytes than its file was told to have, and is read on: how a session begins with it.
-use Rattle.std.proofs.Common.{◌≡◌, ◌<◌, ◌≤◌, ◌&&◌, ℕ, Bool, true, false, inl, inr, List, ◌++◌, length, Some, None, Result, Ok, Err, nat_lt, refl, sym, ap, ap₂, subst, ◌∙◌, arith}
-use Rattle.std.specs.Prelude.{nat_le, if◌then◌else◌}
-use Rattle.std.proofs.lemmas.Bool.{and_from, and_parts, and_right, le-leb, le-ltb, lt-leb, lt-ltb}
-use Rattle.std.proofs.lemmas.Bool.Decides.{nat_tests}
-use Rattle.std.proofs.lemmas.List.{length-append}
+-- An image that says more bytes than its file was told to have, and is read on: how a session begins with it, and what is
+-- told of it.
+use Rattle.std.proofs.Common.{◌≡◌, ◌<◌, ◌≤◌, ℕ, inl, inr, List, length, Some, None, false, true, Result, Ok, Err, refl, sym, ap, subst, ◌∙◌, arith}
+use Rattle.std.proofs.lemmas.Bool.{lt-ltb}
 use Rattle.raw_region.specs.Device.{Gave, Given, Grows, given_since}
 use Rattle.raw_region.specs.Format.{current}
-use Rattle.block_tags.specs.Format.{is_legal_size}
 use Rattle.segment_manager.specs.declared.modes.Mode.{Mode}
 use Rattle.segment_manager.specs.declared.modes.Mode.TheVariants.{ReadOnly}
 use Rattle.segment_manager.specs.State.{State}
 use Rattle.image_check.specs.declared.classes.ImageClass.{ImageClass}
-use Rattle.image_check.specs.declared.classes.ImageClass.TheVariants.{BadMagic, BadSize, Truncated, UnsupportedVersion}
+use Rattle.image_check.specs.declared.classes.ImageClass.TheVariants.{BadSize, Truncated}
+use Rattle.image_check.specs.declared.errors.ExamineRefused.{ExamineRefused}
 use Rattle.image_check.specs.declared.errors.OpenError.{OpenError}
 use Rattle.image_check.specs.declared.errors.OpenError.TheVariants.{Image as NoImage, RegionTooSmall as NoRoom, OutOfMemory as NoMemory, ReadFault as NotRead}
 use Rattle.image_check.specs.declared.errors.OpenRefused.{OpenRefused}
-use Rattle.image_check.specs.EarlyTests.{has_front, has_magic, has_size, has_version, size_word}
-use Rattle.image_check.specs.Classes.{class_of, holds}
-use Rattle.image_check.specs.Deciding.{decided, decided_by}
+use Rattle.image_check.specs.Causes.{opened_as}
+use Rattle.image_check.specs.Classes.{class_of}
+use Rattle.image_check.specs.Deciding.{decided}
+use Rattle.image_check.specs.EarlyTests.{has_front, size_word}
+use Rattle.image_check.specs.Examining.{ExaminesBytes}
+use Rattle.image_check.specs.Formats.{format_of}
+use Rattle.image_check.specs.Opening.{IsTooSmallFor}
 use Rattle.image_check.specs.OpeningBytes.{IsWhyNotOf, OpensBytes, as_given}
 use Rattle.image_check.specs.Reading.{front_of}
+use Rattle.image_check.specs.Verdicts.{Shows}
 use Rattle.image_check.proofs.Facts.{all_decided}
 use Rattle.segment_cli.specs.declared.faults.SessionFault.{SessionFault}
-use Rattle.segment_cli.specs.declared.faults.SessionFault.TheVariants.{Image as Refused, OutOfMemory, ReadFault}
+use Rattle.segment_cli.specs.declared.faults.SessionFault.TheVariants.{Image as Refused, OutOfMemory, ReadFault, RegionTooSmall}
 use Rattle.segment_cli.specs.declared.faults.Start.TheVariants.{Image as OfImage}
 use Rattle.segment_cli.specs.Beginning.{IsWhyNotBegun, opened_fault}
 use Rattle.segment_disk.specs.Events.{nothing_given}
+use Rattle.segment_commands.specs.declared.explaining.Unfit.{Unfit}
+use Rattle.segment_commands.specs.declared.explaining.Unfit.TheVariants.{Image, Fault}
+use Rattle.segment_commands.specs.Explaining.{ExaminesIn, IsNoClass, IsToldOf, fault_for, unfit_for}
 use Rattle.segment_commands.specs.Migrating.{as_session}
-use Rattle.segment_commands.specs.Opening.{BeginsIn, IsVerdictOf, VerifiesIn}
-use Rattle.segment_commands.specs.ReadingOn.{IsFrontOf, IsTextOf, IsWhyNoText}
-use Rattle.segment_commands.proofs.CutFiles.{below, find-first, front-stays, second, size-stays}
-use Rattle.segment_commands.proofs.Verified.{begun}
+use Rattle.segment_commands.specs.Opening.{BeginsIn}
+use Rattle.segment_commands.specs.ReadingOn.{IsFrontOf, IsMisread, IsTextOf, IsWhole, IsWhyNoText, IsWhyNotWhole, Says}
+use Rattle.segment_commands.proofs.Explained.{told_by}
+use Rattle.segment_commands.proofs.Fronts.{ends-early, format-grown, front-says, goes-past, passed, says-grown, shown-is, too-small-says, undecided}
+use Rattle.segment_commands.proofs.Verified.{begun, verified_in}
 
--- ---- what the front says
+-- ---- as the front says it
 
--- the bytes begin as an image of so many bytes
-pub record Says (b : List ℕ) (said : ℕ) : Type 0 where
-  pub long : 24 ≤ length b
-  pub front : has_front current b ≡ true
-  pub size : size_word b ≡ said
+module _ (old new : Gave) (front : List ℕ) (said : ℕ) (f : IsFrontOf old front) (e : front_of (format_of front) front ≡ Ok said) (grows : Grows old.bytes new.bytes) where
+  old-says : Says (format_of old.bytes) old.bytes said
+  old-says = subst (λ (b : List ℕ). Says (format_of b) b said) (sym f.up_to.bytes_are) (let long = f.long in front-says (format_of front) front said (omega (arith, long)) e)
 
-abbrev answer_by : Bool → Bool → Bool → ℕ → Result ℕ ImageClass
-answer_by magic version legal size =
-    if magic then (if version then (if legal then Ok size else Err BadSize) else Err UnsupportedVersion) else Err BadMagic
+  pub new-says : Says (format_of new.bytes) new.bytes said
+  new-says = subst (λ (format : ℕ). Says format new.bytes said) (sym (format-grown old.bytes new.bytes grows old-says.long))
+      (says-grown old.bytes new.bytes grows old-says.long (format_of old.bytes) said old-says)
 
-says_by : (magic version legal : Bool) (size n : ℕ) → answer_by magic version legal size ≡ Ok n → ((magic && version && legal) ≡ true) × (size ≡ n)
-says_by true true true size n e = (refl, cc)
-says_by true true false size n e = absurd (cc)
-says_by true false legal size n e = absurd (cc)
-says_by false version legal size n e = absurd (cc)
+  pub text-of : (text : List ℕ) → IsWhole said new text → IsTextOf new text
+  text-of text w =
+      let says : Says (format_of text) text said = subst (λ (b : List ℕ). Says (format_of b) b said) w.up_to.bytes_are new-says in
+      record {
+        whole = record { up_to = w.up_to; ended = w.ended; long = refl };
+        says = subst (λ (n : ℕ). Says (format_of text) text n) (sym w.long) says;
+      }
 
-pub front_says : (b : List ℕ) (n : ℕ) → 24 ≤ length b → front_of current b ≡ Ok n → Says b n
-front_says b n long e =
-    let p = says_by (has_magic b) (has_version current b) (is_legal_size (size_word b)) (size_word b) n e in
-    record { long = long; front = p.0; size = p.1 }
+  pub misread : (unfit : Unfit) → IsWhyNotWhole said new unfit → IsMisread new unfit
+  misread unfit why = record { said = said; says = new-says; why = why }
 
--- and so do bytes that begin with them
-says_more : (b more : List ℕ) (said : ℕ) → Says b said → Says (b ++ more) said
-says_more b more said s = record {
-  long = (let sum = length-append b more in let long = s.long in omega (arith, sum, long));
-  front = front-stays b more s.long current ∙ s.front;
-  size = size-stays b more s.long ∙ s.size;
-}
+-- ---- why there is no text, by the current format
 
-pub says_grown : (b new : List ℕ) (said : ℕ) → Grows b new → Says b said → Says new said
-says_grown b new said grows s = subst (λ (x : List ℕ). Says x said) (sym grows) (says_more b _ said s)
+no-read-class : IsNoClass ReadFault
+no-read-class class e = cc
 
--- the size is one that a segment has
-pub said_legal : (b : List ℕ) (said : ℕ) → Says b said → is_legal_size said ≡ true
-said_legal b said s =
-    subst (λ (n : ℕ). is_legal_size n ≡ true) s.size (and_parts (has_magic b && has_version current b) (is_legal_size (size_word b)) s.front).1
+no-memory-class : IsNoClass OutOfMemory
+no-memory-class class e = cc
 
-pub legal_least : (n : ℕ) → is_legal_size n ≡ true → 144 ≤ n
-legal_least n e = grind (arith, nat_tests)
+no-room-class : IsNoClass RegionTooSmall
+no-room-class class e = cc
 
--- ---- what is decided
-
-undecided_by : (short : Bool) → decided_by short true true true ≡ None
-undecided_by true = refl
-undecided_by false = refl
-
-module _ (b : List ℕ) (said : ℕ) (s : Says b said) where
-  words : (has_magic b ≡ true) × (has_version current b ≡ true)
-  words = and_parts (has_magic b) (has_version current b) (and_parts (has_magic b && has_version current b) (is_legal_size (size_word b)) s.front).0
-
-  legal : is_legal_size (size_word b) ≡ true
-  legal = (and_parts (has_magic b && has_version current b) (is_legal_size (size_word b)) s.front).1
-
-  pub undecided : length b ≤ said → decided current b ≡ None
-  unfolding decided
-  undecided few =
-      let size = s.size in
-      let fits : has_size b ≡ true = and_from (is_legal_size (size_word b)) (nat_le (length b) (size_word b)) legal (le-leb (length b) (size_word b) (omega (arith, few, size))) in
-      rw (words.0, words.1, fits) (undecided_by (nat_lt (length b) 144))
-
-  pub goes_past : said < length b → decided current b ≡ Some BadSize
-  unfolding decided
-  goes_past more =
-      let size = s.size in
-      let least = legal_least said (said_legal b said s) in
-      let whole : nat_lt (length b) 144 ≡ false = le-ltb (length b) 144 (omega (arith, more, least)) in
-      let other : has_size b ≡ false = and_right (is_legal_size (size_word b)) (nat_le (length b) (size_word b)) (lt-leb (length b) (size_word b) (omega (arith, more, size))) in
-      rw (whole, words.0, words.1, other) refl
-
-  pub ends_early : length b < said → class_of current b ≡ Some Truncated
-  ends_early less =
-      let size = s.size in
-      find-first (holds current b) (second (nat_lt (length b) 144) _ (ap₂ ◌&&◌ s.front (below (length b) (size_word b) (omega (arith, less, size)))))
-
--- ---- of an image that is read on
-
-pub behind_says : (old new : Gave) (front : List ℕ) (said : ℕ) → IsFrontOf old front → front_of current front ≡ Ok said → Grows old.bytes new.bytes → Says new.bytes said
-behind_says old new front said f e grows =
-    let long = f.long in
-    says_grown old.bytes new.bytes said grows
-    (subst (λ (b : List ℕ). Says b said) (sym f.up_to.bytes_are) (front_says front said (omega (arith, long)) e))
-
-pub whole_undecided : (said : ℕ) (new : Gave) (text : List ℕ) → Says new.bytes said → IsTextOf said new text → decided current text ≡ None
-whole_undecided said new text s t =
-    let long = t.long in
-    undecided text said (subst (λ (b : List ℕ). Says b said) t.up_to.bytes_are s) (omega (arith, long))
-
--- ---- as a session begins
-
-module _ (mode : Mode) (new : Gave) (said : ℕ) (s : Says new.bytes said) where
+module _ (new : Gave) (said : ℕ) (s : Says current new.bytes said) where
   abbrev image : Given
   image = given_since nothing_given new
 
   sound : new.failures ≡ 0 → image.failed ≡ false
   sound e = rw e refl
 
-  started : (fault : SessionFault) → IsWhyNotBegun OfImage image 0 said fault → BeginsIn OfImage mode image (Err fault)
-  started fault why = inr (record {
-    capacity = said;
-    starts = record {
-      answers = why;
-      left = tt;
-      bad_size = λ e. absurd e;
-      too_small = λ t. absurd (let small = t.small in let size = s.size in omega (arith, small, size));
-    };
-  })
+  told-whole : (unfit : Unfit) → IsWhyNotWhole said new unfit → IsToldOf new.bytes unfit
+  told-whole (Image v) (inl t) = (
+    subst (λ (c : ImageClass). class_of current new.bytes ≡ Some c) (sym t.0) (passed current new.bytes said s t.2.long),
+    subst (λ (c : ImageClass). Shows current new.bytes c v.place) (sym t.0) (t.1 ∙ sym (shown-is current new.bytes said s)),
+  )
+  told-whole (Image v) (inr t) = (
+    subst (λ (c : ImageClass). class_of current new.bytes ≡ Some c) (sym t.0) (ends-early current new.bytes said s t.2.short),
+    subst (λ (c : ImageClass). Shows current new.bytes c v.place) (sym t.0) t.1,
+  )
+  told-whole (Fault fault) t = elim t.how [
+    inl r ↦ subst IsNoClass (sym r.0) no-read-class
+  | inr m ↦ subst IsNoClass (sym m.0) no-memory-class
+  ]
 
-  as_fault : (fault f : SessionFault) → fault ≡ f → BeginsIn OfImage mode image (Err f) → BeginsIn OfImage mode image (Err fault)
-  as_fault fault f e = subst (λ (g : SessionFault). BeginsIn OfImage mode image (Err g)) (sym e)
+  module _ (mode : Mode) where
+    started : (fault : SessionFault) → IsWhyNotBegun OfImage image 0 said fault → BeginsIn OfImage mode image (Err fault)
+    started fault why = inr (record {
+      capacity = said;
+      starts = record {
+        answers = why;
+        left = tt;
+        bad_size = λ e. absurd e;
+        too_small = λ t. absurd (let small = t.small in let size = s.size in omega (arith, small, size));
+      };
+    })
 
-  pub no_text : (fault : SessionFault) → IsWhyNoText said new fault → BeginsIn OfImage mode image (Err fault)
-  no_text fault (inl t) =
-      as_fault fault (Refused BadSize) t.0 (started (Refused BadSize)
-      (refl, record { sound = sound t.1.sound; right = inr ((all_decided current new.bytes).some BadSize (goes_past new.bytes said s t.1.long)) }))
-  no_text fault (inr (inl t)) =
-      as_fault fault (Refused Truncated) t.0 (started (Refused Truncated)
-      (refl, record { sound = sound t.1.sound; right = inl (t.1.ended, ends_early new.bytes said s t.1.short) }))
-  no_text fault (inr (inr t)) =
-      let open_yet = undecided new.bytes said s t.few in
-      elim t.how [
-        inl r ↦ as_fault fault ReadFault r.0 (started ReadFault
-        (refl, record { failed = lt-ltb 0 new.failures r.1; open_class = (all_decided current new.bytes).none open_yet }))
-      | inr m ↦ as_fault fault OutOfMemory m.0 (inl (record { unread = inr (record { sound = sound m.1; undecided = open_yet }); refused = refl }))
-      ]
+    as_fault : (fault f : SessionFault) → fault ≡ f → BeginsIn OfImage mode image (Err f) → BeginsIn OfImage mode image (Err fault)
+    as_fault fault f e = subst (λ (g : SessionFault). BeginsIn OfImage mode image (Err g)) (sym e)
+
+    begun-whole : (unfit : Unfit) → IsWhyNotWhole said new unfit → BeginsIn OfImage mode image (Err (fault_for unfit))
+    begun-whole (Image v) (inl t) =
+        as_fault (Refused v.class) (Refused BadSize) (ap (λ (c : ImageClass). Refused c) t.0) (started (Refused BadSize)
+        (refl, record { sound = sound t.2.sound; right = inr ((all_decided current new.bytes).some BadSize (goes-past current new.bytes said s t.2.long)) }))
+    begun-whole (Image v) (inr t) =
+        as_fault (Refused v.class) (Refused Truncated) (ap (λ (c : ImageClass). Refused c) t.0) (started (Refused Truncated)
+        (refl, record { sound = sound t.2.sound; right = inl (t.2.ended, ends-early current new.bytes said s t.2.short) }))
+    begun-whole (Fault fault) t =
+        let open_yet = undecided current new.bytes said s t.few in
+        elim t.how [
+          inl r ↦ as_fault fault ReadFault r.0 (started ReadFault
+          (refl, record { failed = lt-ltb 0 new.failures r.1; open_class = (all_decided current new.bytes).none open_yet }))
+        | inr m ↦ as_fault fault OutOfMemory m.0 (inl (record { unread = inr (record { sound = sound m.1; undecided = open_yet }); refused = refl }))
+        ]
+
+-- ---- behind an image for which there was no room
+
+too-small-of : (mode : Mode) (image : Given) → BeginsIn OfImage mode image (Err RegionTooSmall) → (capacity : ℕ) × IsTooSmallFor current image 0 capacity
+too-small-of mode image (inl r) = absurd (let e = r.refused in cc)
+too-small-of mode image (inr b) = (b.capacity, b.starts.answers)
+
+module _ (mode : Mode) (old new : Gave) (small : BeginsIn OfImage mode (given_since nothing_given old) (Err RegionTooSmall)) (grows : Grows old.bytes new.bytes) where
+  front-is : has_front current new.bytes ≡ true
+  front-is =
+      let t = too-small-of mode (given_since nothing_given old) small in
+      (says-grown old.bytes new.bytes grows t.1.read current (size_word old.bytes) (too-small-says current (given_since nothing_given old) t.0 t.1)).front
+
+  as-current : (format said : ℕ) → Says format new.bytes said → Says current new.bytes said
+  as-current format said s = record { long = s.long; front = front-is; size = s.size }
+
+  pub begun-behind : (unfit : Unfit) → IsWhyNoText old new unfit → BeginsIn OfImage mode (given_since nothing_given new) (Err (fault_for unfit))
+  begun-behind unfit (inl m) = begun-whole new m.said (as-current (format_of new.bytes) m.said m.says) mode unfit m.why
+  begun-behind unfit (inr e) =
+      subst (λ (u : Unfit). BeginsIn OfImage mode (given_since nothing_given new) (Err (fault_for u))) (sym e.0)
+      (subst (λ (g : Gave). BeginsIn OfImage mode (given_since nothing_given g) (Err RegionTooSmall)) (sym e.1) small)
+
+  pub told-behind : (unfit : Unfit) → IsWhyNoText old new unfit → IsToldOf new.bytes unfit
+  told-behind unfit (inl m) = told-whole new m.said (as-current (format_of new.bytes) m.said m.says) unfit m.why
+  told-behind unfit (inr e) = subst (IsToldOf new.bytes) (sym e.0) no-room-class
+
+  pub text-undecided : (text : List ℕ) → IsTextOf new text → decided current text ≡ None
+  text-undecided text t =
+      let front : has_front current text ≡ true = subst (λ (b : List ℕ). has_front current b ≡ true) t.whole.up_to.bytes_are front-is in
+      undecided current text (length text) (record { long = t.says.long; front = front; size = t.says.size }) (omega arith)
 
 -- ---- bytes that lie in memory
 
 -- a reader that gave all of a text gave what the text is
-pub given_text : (said : ℕ) (new : Gave) (text : List ℕ) → IsTextOf said new text → given_since nothing_given new ≡ as_given text
-given_text said new text t = rw (t.up_to.bytes_are, t.ended, t.up_to.sound) refl
+pub given-text : (new : Gave) (text : List ℕ) → IsTextOf new text → given_since nothing_given new ≡ as_given text
+given-text new text t = let w = t.whole in rw (w.up_to.bytes_are, w.ended, w.up_to.sound) refl
 
 module _ (mode : Mode) (text region : List ℕ) where
   why_not : (cause : OpenError) → IsWhyNotOf current text 0 (length region) cause → IsWhyNotBegun OfImage (as_given text) 0 (length region) (opened_fault cause)
@@ -175,9 +168,9 @@ module _ (mode : Mode) (text region : List ℕ) where
   abbrev no_segment : OpenError → Result State SessionFault
   no_segment cause = Err (opened_fault cause)
 
-  pub text_begun : (result : Result State OpenRefused) → OpensBytes current text region 0 mode result → BeginsIn OfImage mode (as_given text) (as_session result)
-  text_begun (Ok segment) o = inr (record { capacity = length region; starts = begun (as_given text) region mode segment o.answers o.too_small })
-  text_begun (Err refused) o = inr (record {
+  pub text-begun : (result : Result State OpenRefused) → OpensBytes current text region 0 mode result → BeginsIn OfImage mode (as_given text) (as_session result)
+  text-begun (Ok segment) o = inr (record { capacity = length region; starts = begun (as_given text) region mode segment o.answers o.too_small })
+  text-begun (Err refused) o = inr (record {
     capacity = length region;
     starts = record {
       answers = why_not refused.cause o.answers.why;
@@ -187,8 +180,12 @@ module _ (mode : Mode) (text region : List ℕ) where
     };
   })
 
--- ---- a segment that is let go of
+-- and so of an examination
+module _ (text region : List ℕ) where
+  pub text-fit : (back : List ℕ) → ExaminesBytes current text region 0 (Ok back) → ExaminesIn (as_given text) (Ok tt)
+  text-fit back x = verified_in (as_given text) region back (record { answers = x.answers; too_small = x.too_small })
 
-pub verdict_in : (image : Given) (begun : Result State SessionFault) (result : Result (Unit {0}) SessionFault) → BeginsIn OfImage ReadOnly image begun → IsVerdictOf begun result → VerifiesIn image result
-verdict_in image begun (Ok u) b v = (v.0, subst (BeginsIn OfImage ReadOnly image) v.1 b)
-verdict_in image begun (Err fault) b v = subst (BeginsIn OfImage ReadOnly image) v b
+  pub text-unfit : (refused : ExamineRefused) → ExaminesBytes current text region 0 (Err refused) → ExaminesIn (as_given text) (Err (unfit_for refused.cause))
+  text-unfit refused x =
+      told_by (as_given text) refused.cause
+      (text-begun ReadOnly text region (Err (opened_as refused)) (record { answers = x.answers; too_small = x.too_small })) x.shown

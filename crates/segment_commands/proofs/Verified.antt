@@ -15,7 +15,7 @@ use Rattle.segment_cli.specs.declared.faults.SessionFault.{SessionFault}
 use Rattle.segment_cli.specs.declared.faults.Start.TheVariants.{Image}
 use Rattle.segment_cli.specs.Beginning.{IsWhyNotBegun, Starts, opened_fault}
 use Rattle.segment_cli.specs.Session.{HasZeroGapsIn}
-use Rattle.segment_commands.specs.Opening.{BeginsIn, VerifiesIn}
+use Rattle.segment_commands.specs.Opening.{BeginsIn}
 
 module _ (image : Given) (region : List ℕ) where
   zeros_read : (s : State) → s.cut.bytes ≡ image.bytes → HasZeroGapsIn image.bytes → HasZeroGaps s
@@ -40,7 +40,7 @@ module _ (image : Given) (region : List ℕ) where
         too_small = λ p. absurd (small p);
       }
 
-  pub verified_in : (back : List ℕ) → Verifies current image region 0 (Ok back) → VerifiesIn image (Ok tt)
+  pub verified_in : (back : List ℕ) → Verifies current image region 0 (Ok back) → (s : State) × BeginsIn Image ReadOnly image (Ok s)
   verified_in back v =
       let s = v.answers.segment in
       (s, inr (record { capacity = length region; starts = begun ReadOnly s v.answers.opened v.too_small }))

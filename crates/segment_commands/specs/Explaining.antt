@@ -61,7 +61,7 @@ IsToldOf b (Fault fault) = IsNoClass fault
 abbrev pub unfit_for : ExamineError → Unfit
 unfit_for (Judged v) = Image v
 unfit_for TooSmall = Fault RegionTooSmall
-unfit_for NoMemory = Fault OutOfMemory
+unfit_for (NoMemory refusal) = Fault OutOfMemory
 unfit_for NotRead = Fault ReadFault
 
 -- an image is checked: a session for reading would begin with its segment, or this is why it would not

@@ -27,7 +27,7 @@ use Rattle.segment_disk.specs.declared.presence.Making.TheVariants.{New, Beside}
 use Rattle.segment_disk.specs.declared.presence.Presence.{Presence}
 use Rattle.segment_disk.specs.declared.presence.Presence.TheVariants.{Absent, There}
 use Rattle.segment_disk.specs.Events.{Event, Looked, After}
-use Rattle.segment_file.specs.Files.{Written, NotMade, Closed, Offered, writes, whole, all_of, opens}
+use Rattle.segment_file.specs.Files.{Written, Overtaken, NotMade, Closed, Offered, writes, whole, all_of, opens}
 use Rattle.segment_commands.specs.Holding.{Holds}
 use Rattle.segment_commands.specs.Opening.{OpensFile}
 use Rattle.segment_commands.specs.Commands.{MakesSegment}
@@ -144,9 +144,10 @@ module _ {D : Type 0} (step : D → Event → D → Type 0) (old new : D) (how :
     pub answered : IsAnsweredTo act end
     pub flushed : Flushed false
 
-  -- why the image is not in the file or need not last: it could not be made or emptied, writing it failed, or all of it
+  -- why the image is not in the file or need not last: another has its name, it could not be made or emptied, writing it failed, or all of it
   -- was written and need not last, or did not take the place of the old one
   abbrev pub IsUnsavedFor : Written → Type 0
+  IsUnsavedFor Overtaken = IsAnsweredAct act
   IsUnsavedFor NotMade = IsAnsweredAct act
   IsUnsavedFor (Closed taken lasts) = Ran act taken (Err WriteFault) ⊎ ((lasts ≡ false) × Ran act taken (Ok tt))
   IsUnsavedFor (Offered image placed) = (how ≡ Beside) × (placed ≡ false) × Ran act (all_of image) (Ok tt)

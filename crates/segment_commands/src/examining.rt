@@ -1,6 +1,9 @@
 //! The check of the image in a file, of which no segment is made.
-ghost use Rattle.std.specs.Prelude.{◌≡◌, Err};
+ghost use Rattle.std.specs.Prelude.{◌≡◌, Err, None};
 ghost use Rattle.raw_region.specs.Device.{given_since};
+ghost use Rattle.raw_region.specs.Format.{current};
+ghost use Rattle.image_check.specs.Deciding.{decided};
+ghost use Rattle.image_check.specs.OpeningBytes.{as_given};
 ghost use Rattle.segment_cli.specs.declared.faults.SessionFault.TheVariants.{RegionTooSmall};
 ghost use Rattle.segment_disk.specs.Events.{nothing_given};
 ghost use Rattle.segment_commands.specs.declared.explaining.Unfit.TheVariants.{Fault};
@@ -9,9 +12,9 @@ ghost use Rattle.segment_commands.specs.Opening.{VerifiesFile};
 
 use crate::explaining::Unfit;
 use crate::heading::Headed;
-use crate::reading_on::{Again, read_on};
+use crate::reading_on::read_on;
 use grow_shrink::region_for;
-use image_check::{ExamineError, examine};
+use image_check::{ExamineError, examine, examine_bytes};
 use raw_region::{Source, Steps};
 use segment_cli::SessionFault;
 use segment_disk::{Disk, Opened};
@@ -25,7 +28,7 @@ fn unfit_of(error: ExamineError) -> Unfit
     match error {
         ExamineError::Image(verdict) => Unfit::Image(verdict),
         ExamineError::RegionTooSmall => Unfit::Fault(SessionFault::RegionTooSmall),
-        ExamineError::OutOfMemory => Unfit::Fault(SessionFault::OutOfMemory),
+        ExamineError::OutOfMemory(_) => Unfit::Fault(SessionFault::OutOfMemory),
         ExamineError::ReadFault => Unfit::Fault(SessionFault::ReadFault),
     }
 }
@@ -44,33 +47,40 @@ fn examine_in<S: Source>(alloc: Global, reader: &mut S, bytes: u64) -> Result<()
     }
 }
 
-/// The same of an image that says more bytes than there was room for, and its reader. The image is read first, and has
-/// as much room as it says.
-fn examine_behind<S: Source>(alloc: Global, headed: Headed<S>) -> (Result<(), Unfit>, S)
-    requires { ExaminesIn (given_since nothing_given (S.history headed.inner)) (Err (Fault RegionTooSmall)) }
-    ensures { ExaminesIn (given_since nothing_given (S.history result.1)) result.0 }
+/// Whether an image that was read whole has a segment.
+fn examine_text(alloc: Global, text: &[u8]) -> Result<(), Unfit>
+    requires { decided current text.now ≡ None }
+    ensures { ExaminesIn (as_given text.now) result }
 {
-    let mut headed = headed;
-    match read_on(alloc, &mut headed) {
-        Ok(text) => {
-            let room = room_needed(text.len() as u64, 0);
-            let mut again = Again::new(headed.into_inner(), text);
-            let examined = examine_in(alloc, &mut again, room);
-            (examined, again.into_inner())
-        }
-        Err(unfit) => (Err(unfit), headed.into_inner()),
+    let Ok(region) = region_for(alloc, text.len() as u64) else {
+        return Err(Unfit::Fault(SessionFault::OutOfMemory));
+    };
+    match examine_bytes(alloc, text, region, 0, &mut Steps::new()) {
+        Ok(_) => Ok(()),
+        Err(refused) => Err(unfit_of(refused.cause)),
     }
 }
 
-/// Whether the image of a reader that was told to give `len` bytes has a segment, and the reader.
-fn examine_from<S: Source>(alloc: Global, reader: S, len: u64) -> (Result<(), Unfit>, S)
-    requires fresh { S.history reader ≡ nothing_given }
-    ensures { ExaminesIn (given_since nothing_given (S.history result.1)) result.0 }
+/// Whether an image that says more bytes than there was room for has a segment. It is read first, and has as much room
+/// as it says.
+fn examine_behind<S: Source>(alloc: Global, reader: &mut Headed<S>) -> Result<(), Unfit>
+    requires small { ExaminesIn (given_since nothing_given (S.history reader.old.inner)) (Err (Fault RegionTooSmall)) }
+    ensures { ExaminesIn (given_since nothing_given (S.history reader.new.inner)) result }
 {
-    let mut headed = Headed::new(reader);
-    match examine_in(alloc, &mut headed, room_needed(len, 0)) {
-        Err(Unfit::Fault(SessionFault::RegionTooSmall)) => examine_behind(alloc, headed),
-        examined => (examined, headed.into_inner()),
+    match read_on(alloc, reader) {
+        Ok(text) => examine_text(alloc, text.as_slice()),
+        Err(unfit) => Err(unfit),
+    }
+}
+
+/// Whether the image of a reader that was told to give `len` bytes has a segment.
+fn examine_from<S: Source>(alloc: Global, reader: &mut Headed<S>, len: u64) -> Result<(), Unfit>
+    requires fresh { S.history reader.old.inner ≡ nothing_given }
+    ensures { ExaminesIn (given_since nothing_given (S.history reader.new.inner)) result }
+{
+    match examine_in(alloc, reader, room_needed(len, 0)) {
+        Err(Unfit::Fault(SessionFault::RegionTooSmall)) => examine_behind(alloc, reader),
+        examined => examined,
     }
 }
 
@@ -82,8 +92,9 @@ pub(crate) fn examine_segment<D: Disk>(alloc: Global, disk: &mut D, path: &str) 
         return Err(Unfit::Fault(SessionFault::ReadFault));
     };
     let Opened { reader, len } = opened;
-    let (examined, reader) = examine_from(alloc, reader, len);
-    disk.close(reader);
+    let mut reader = Headed::new(reader);
+    let examined = examine_from(alloc, &mut reader, len);
+    disk.close(reader.into_inner());
     examined
 }
 

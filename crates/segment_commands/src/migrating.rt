@@ -9,7 +9,7 @@ ghost use Rattle.segment_commands.specs.Migrating.{BeginsAny, IsMigrate, OpensAn
 use crate::creating::WRITE_FAULT;
 use crate::heading::Headed;
 use crate::program_faults::ProgramFault;
-use crate::reading_on::{Again, read_on};
+use crate::reading_on::read_on;
 use crate::telling::tell;
 use grow_shrink::region_for;
 use image_check::open_any;
@@ -38,40 +38,30 @@ fn begin_any_in<S: Source>(
     }
 }
 
-/// The same of an image that says more bytes than there was room for, and its reader. The image is read first, and has
-/// as much room as it says.
-fn begin_any_behind<S: Source>(
-    alloc: Global,
-    headed: Headed<S>,
-) -> (Result<Segment, SessionFault>, S)
-    requires { BeginsAny (given_since nothing_given (S.history headed.inner)) (Err RegionTooSmall) }
-    ensures { BeginsAny (given_since nothing_given (S.history result.1)) result.0 }
+/// Why there is no segment of an image that says more bytes than there is room for: it is read on, and where it has as
+/// many as it says, there is no room.
+fn refused_behind<S: Source>(alloc: Global, reader: &mut Headed<S>) -> SessionFault
+    requires small { BeginsAny (given_since nothing_given (S.history reader.old.inner)) (Err RegionTooSmall) }
+    ensures { BeginsAny (given_since nothing_given (S.history reader.new.inner)) (Err result) }
 {
-    let mut headed = headed;
-    match read_on(alloc, &mut headed) {
-        Ok(text) => {
-            let room = room_needed(text.len() as u64, 0);
-            let mut again = Again::new(headed.into_inner(), text);
-            let begun = begin_any_in(alloc, &mut again, room);
-            (begun, again.into_inner())
-        }
-        Err(unfit) => (Err(unfit.into_fault()), headed.into_inner()),
+    match read_on(alloc, reader) {
+        Ok(_) => SessionFault::RegionTooSmall,
+        Err(unfit) => unfit.into_fault(),
     }
 }
 
-/// The segment of the image of a reader that was told to give `len` bytes, and the reader.
+/// The segment of the image of a reader that was told to give `len` bytes.
 fn begin_any_from<S: Source>(
     alloc: Global,
-    reader: S,
+    reader: &mut Headed<S>,
     len: u64,
-) -> (Result<Segment, SessionFault>, S)
-    requires fresh { S.history reader ≡ nothing_given }
-    ensures { BeginsAny (given_since nothing_given (S.history result.1)) result.0 }
+) -> Result<Segment, SessionFault>
+    requires fresh { S.history reader.old.inner ≡ nothing_given }
+    ensures { BeginsAny (given_since nothing_given (S.history reader.new.inner)) result }
 {
-    let mut headed = Headed::new(reader);
-    match begin_any_in(alloc, &mut headed, room_needed(len, 0)) {
-        Err(SessionFault::RegionTooSmall) => begin_any_behind(alloc, headed),
-        begun => (begun, headed.into_inner()),
+    match begin_any_in(alloc, reader, room_needed(len, 0)) {
+        Err(SessionFault::RegionTooSmall) => Err(refused_behind(alloc, reader)),
+        begun => begun,
     }
 }
 
@@ -87,8 +77,9 @@ fn open_any_segment<D: Disk>(
         return Err(SessionFault::ReadFault);
     };
     let Opened { reader, len } = opened;
-    let (begun, reader) = begin_any_from(alloc, reader, len);
-    disk.close(reader);
+    let mut reader = Headed::new(reader);
+    let begun = begin_any_from(alloc, &mut reader, len);
+    disk.close(reader.into_inner());
     begun
 }
 

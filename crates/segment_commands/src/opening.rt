@@ -1,6 +1,9 @@
 //! The opening of the segment in a file.
-ghost use Rattle.std.specs.Prelude.{◌≡◌, ◌^◌, ◌-◌, ◌<◌, Err, min};
+ghost use Rattle.std.specs.Prelude.{◌≡◌, ◌^◌, ◌-◌, ◌<◌, Err, None, min};
 ghost use Rattle.raw_region.specs.Device.{given_since};
+ghost use Rattle.raw_region.specs.Format.{current};
+ghost use Rattle.image_check.specs.Deciding.{decided};
+ghost use Rattle.image_check.specs.OpeningBytes.{as_given};
 ghost use Rattle.segment_cli.specs.declared.faults.SessionFault.TheVariants.{RegionTooSmall};
 ghost use Rattle.segment_cli.specs.declared.faults.Start.TheVariants.{Image as OfImage};
 ghost use Rattle.segment_cli.specs.Session.{IsTooSmall};
@@ -8,9 +11,10 @@ ghost use Rattle.segment_disk.specs.Events.{nothing_given};
 ghost use Rattle.segment_commands.specs.Opening.{BeginsIn, OpensFile};
 
 use crate::heading::Headed;
-use crate::reading_on::{Again, read_on};
+use crate::reading_on::read_on;
 use grow_shrink::region_for;
-use raw_region::Source;
+use image_check::open_bytes;
+use raw_region::{Source, Steps};
 use segment_cli::{SessionFault, Start, begin};
 use segment_disk::{Disk, Opened};
 use segment_file::room_needed;
@@ -36,45 +40,51 @@ pub(crate) fn begin_in<S: Source>(
     begin(alloc, start, mode, reader, region, 0)
 }
 
-/// The segment of an image that says more bytes than there was room for, with room for so many bytes more, and its
-/// reader. The image is read first, and has as much room as it says.
-fn begin_behind<S: Source>(
-    alloc: Global,
-    mode: Mode,
-    headed: Headed<S>,
-    more: u64,
-) -> (Result<Segment, SessionFault>, S)
-    requires { BeginsIn OfImage mode (given_since nothing_given (S.history headed.inner)) (Err RegionTooSmall) }
-    ensures { BeginsIn OfImage mode (given_since nothing_given (S.history result.1)) result.0 }
+/// The segment of an image that was read whole, with room for so many bytes more.
+fn begin_text(alloc: Global, mode: Mode, text: &[u8], more: u64) -> Result<Segment, SessionFault>
+    requires { decided current text.now ≡ None }
+    ensures { BeginsIn OfImage mode (as_given text.now) result }
 {
-    let mut headed = headed;
-    match read_on(alloc, &mut headed) {
-        Ok(text) => {
-            let room = room_needed(text.len() as u64, more);
-            let mut again = Again::new(headed.into_inner(), text);
-            let begun = begin_in(alloc, Start::Image, mode, &mut again, room);
-            (begun, again.into_inner())
-        }
-        Err(unfit) => (Err(unfit.into_fault()), headed.into_inner()),
+    let Ok(region) = region_for(alloc, room_needed(text.len() as u64, more)) else {
+        return Err(SessionFault::OutOfMemory);
+    };
+    match open_bytes(alloc, text, region, 0, mode, &mut Steps::new()) {
+        Ok(segment) => Ok(segment),
+        Err(refused) => Err(SessionFault::from(refused)),
     }
 }
 
-/// The segment of the image of a reader that was told to give `len` bytes, with room for so many bytes more, and the
-/// reader.
+/// The segment of an image that says more bytes than there was room for, with room for so many bytes more. The image is
+/// read first, and has as much room as it says.
+fn begin_behind<S: Source>(
+    alloc: Global,
+    mode: Mode,
+    reader: &mut Headed<S>,
+    more: u64,
+) -> Result<Segment, SessionFault>
+    requires small { BeginsIn OfImage mode (given_since nothing_given (S.history reader.old.inner)) (Err RegionTooSmall) }
+    ensures { BeginsIn OfImage mode (given_since nothing_given (S.history reader.new.inner)) result }
+{
+    match read_on(alloc, reader) {
+        Ok(text) => begin_text(alloc, mode, text.as_slice(), more),
+        Err(unfit) => Err(unfit.into_fault()),
+    }
+}
+
+/// The segment of the image of a reader that was told to give `len` bytes, with room for so many bytes more.
 fn begin_from<S: Source>(
     alloc: Global,
     mode: Mode,
-    reader: S,
+    reader: &mut Headed<S>,
     len: u64,
     more: u64,
-) -> (Result<Segment, SessionFault>, S)
-    requires fresh { S.history reader ≡ nothing_given }
-    ensures { BeginsIn OfImage mode (given_since nothing_given (S.history result.1)) result.0 }
+) -> Result<Segment, SessionFault>
+    requires fresh { S.history reader.old.inner ≡ nothing_given }
+    ensures { BeginsIn OfImage mode (given_since nothing_given (S.history reader.new.inner)) result }
 {
-    let mut headed = Headed::new(reader);
-    match begin_in(alloc, Start::Image, mode, &mut headed, room_needed(len, more)) {
-        Err(SessionFault::RegionTooSmall) => begin_behind(alloc, mode, headed, more),
-        begun => (begun, headed.into_inner()),
+    match begin_in(alloc, Start::Image, mode, reader, room_needed(len, more)) {
+        Err(SessionFault::RegionTooSmall) => begin_behind(alloc, mode, reader, more),
+        begun => begun,
     }
 }
 
@@ -92,7 +102,8 @@ pub(crate) fn open_segment<D: Disk>(
         return Err(SessionFault::ReadFault);
     };
     let Opened { reader, len } = opened;
-    let (begun, reader) = begin_from(alloc, mode, reader, len, more);
-    disk.close(reader);
+    let mut reader = Headed::new(reader);
+    let begun = begin_from(alloc, mode, &mut reader, len, more);
+    disk.close(reader.into_inner());
     begun
 }

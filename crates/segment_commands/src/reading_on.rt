@@ -1,12 +1,12 @@
 //! The rest of an image that says more bytes than its file was told to have: a file that another writes, or a pipe.
-ghost use Rattle.std.specs.Prelude.{◌≡◌, ◌≤◌, length, take, true, MatchResult, OnOk, IfErr};
+ghost use Rattle.std.specs.Prelude.{◌≡◌, ◌≤◌, length, MatchResult, OnOk, IfErr};
 ghost use Rattle.raw_region.specs.Device.{Grows};
 ghost use Rattle.segment_commands.specs.ReadingOn.{IsFrontOf, IsReadUpTo, IsTextOf, IsWhole, IsWhyNoText, IsWhyNotUpTo, IsWhyNotWhole};
 
 use crate::explaining::Unfit;
 use crate::heading::Headed;
 use image_check::{FRONT, ImageClass, Verdict, size_in_any};
-use raw_region::{DeviceFault, History, Source};
+use raw_region::Source;
 use segment_cli::SessionFault;
 use std::alloc::Global;
 
@@ -91,64 +91,5 @@ pub(crate) fn read_on<S: Source>(alloc: Global, reader: &mut Headed<S>) -> Resul
     match size_in_any(&front) {
         Ok(said) => read_whole(alloc, &front, said, reader),
         Err(_) => Err(Unfit::Fault(SessionFault::RegionTooSmall)),
-    }
-}
-
-/// A reader that gave all of an image, which is kept, and given once more from the first byte on.
-pub(crate) struct Again<S: Source> {
-    pub(crate) inner: S,
-    text: Vec<u8>,
-    /// How many bytes were given once more.
-    at: usize,
-    ended: bool,
-    ends: History,
-    ghost kept: { IsTextOf (S.history inner) text.items },
-    ghost within: { at ≤ length text.items },
-    ghost end: { ended ≡ true → at ≡ length text.items },
-}
-
-impl<S: Source> Again<S> {
-    pub(crate) fn new(inner: S, text: Vec<u8>) -> Again<S>
-        requires { IsTextOf (S.history inner) text.items }
-        ensures inner { result.inner ≡ inner }
-        ensures begins { (result.at ≡ 0) × (result.ended ≡ false) × (result.ends.count ≡ 0) }
-    {
-        Again {
-            inner,
-            text,
-            at: 0,
-            ended: false,
-            ends: History::new(),
-        }
-    }
-
-    /// The reader.
-    pub(crate) fn into_inner(self) -> S
-        ensures { result ≡ self.inner }
-    {
-        let Again {
-            inner,
-            text: _,
-            at: _,
-            ended: _,
-            ends: _,
-        } = self;
-        inner
-    }
-}
-
-impl<S: Source> Source for Again<S> {
-    ghost history = { λ a. record { bytes = take a.at a.text.items; ended = a.ended; ends = a.ends.count; failures = 0 } };
-
-    fn read(&mut self, into: &mut [u8]) -> Result<usize, DeviceFault> {
-        let count = into.len().min(self.text.len() - self.at);
-        let has_ended = count == 0 && !into.is_empty();
-        into[..count].copy_from_slice(&self.text.as_slice()[self.at..self.at + count]);
-        self.at += count;
-        if !into.is_empty() {
-            self.ended = has_ended;
-        }
-        self.ends.record(&[], u64::from(has_ended));
-        Ok(count)
     }
 }

@@ -16,6 +16,9 @@ pub data Event : Type 0 where
   Opened : List ℕ → Bool → Event
   -- the file that was opened last was closed, which had given this
   Read : Given → Event
+  -- the file of this path was compared with the one that the right to write was given for last; it is that one, as far as
+  -- that is known, or another has taken its name
+  Compared : List ℕ → Bool → Event
   -- a file was to be made or emptied for writing, or made beside the one of this path, and was or was not
   Made : Making → List ℕ → Bool → Event
   -- the file that was made or emptied last was closed, which had taken this, and all that it took lasts, or need not

@@ -2,7 +2,7 @@
 //! answered.
 ghost use Rattle.std.specs.Prelude.{◌≡◌, Bool, IfOk, is_ok};
 ghost use Rattle.raw_region.specs.Device.{given_since, taken_since};
-ghost use Rattle.segment_disk.specs.Events.{Event, Looked, Held, Released, Opened as WasOpened, Read, Made, Wrote, Placed, Discarded, nothing_given, nothing_taken};
+ghost use Rattle.segment_disk.specs.Events.{Event, Looked, Held, Released, Opened as WasOpened, Read, Compared, Made, Wrote, Placed, Discarded, nothing_given, nothing_taken};
 
 use crate::presence::{InUse, Making, Presence};
 use raw_region::{DeviceFault, Sink, Source};
@@ -48,6 +48,11 @@ pub trait Disk {
     /// Closes a file that was open for reading.
     fn close(&mut self, reader: Self::Reader)
         ensures { step self.old (Read (given_since nothing_given (Self.Reader.history reader))) self.new };
+
+    /// Compares the file of a path with the one that the right to write was given for. An error where another file has
+    /// taken its name; Ok also where no right was given, and where nothing is there.
+    fn compare(&mut self, path: &str) -> Result<(), DeviceFault>
+        ensures { step self.old (Compared path.now (is_ok result)) self.new };
 
     /// Makes a file, or empties it, and opens it for writing. One that is made beside another is put in its place or
     /// discarded when it is closed. Where the right to write a file was given and another file has taken its name, that

@@ -169,6 +169,14 @@ impl<'a, R: Files<File = File> + AllocGlobal> Disk for HostDisk<'a, R> {
 
     fn close(&mut self, _reader: Reading<File>) {}
 
+    fn compare(&mut self, path: &str) -> Result<(), DeviceFault> {
+        if self.is_taken(path) {
+            self.trouble = Some(Trouble::Taken);
+            return Err(DeviceFault);
+        }
+        Ok(())
+    }
+
     fn make(&mut self, path: &str, how: Making) -> Result<Outlet<SparseFile>, DeviceFault> {
         match self.file_for(path, how) {
             Ok(file) => {

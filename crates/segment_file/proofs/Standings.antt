@@ -4,7 +4,7 @@ use Rattle.std.proofs.lemmas.Slice.Eq.{bytes_eq-Decides}
 use Rattle.raw_region.specs.Device.{Taken}
 use Rattle.segment_disk.specs.declared.presence.Making.TheVariants.{New, Emptied, Beside}
 use Rattle.segment_disk.specs.Events.{Event}
-use Rattle.segment_file.specs.Files.{Written, NotMade, Closed, Offered, IsUnwritten, all_of, whole, writes}
+use Rattle.segment_file.specs.Files.{Written, Overtaken, NotMade, Closed, Offered, IsUnwritten, all_of, whole, writes}
 use Rattle.segment_file.specs.Standing.{Scene, Whole, Neither, IsOneOf, ReplacingKeepsOneWhole, UnplacedLeavesTheOld, SavingEndsWhole, EmptyingTears, after_event, standing}
 
 same : (path : List ℕ) → bytes_eq path path ≡ true
@@ -29,25 +29,27 @@ module _ (path old image : List ℕ) where
   Kept written = Along path old image (before old) (writes Beside path written)
 
   kept-closed : (taken : Taken) (lasts : Bool) → Kept (Closed taken lasts)
-  kept-closed taken lasts = rw (same path) (inl refl, (inl refl, (inl refl, inl refl)))
+  kept-closed taken lasts = rw (same path) (inl refl, (inl refl, (inl refl, (inl refl, inl refl))))
 
   kept-placed : Kept (Offered image true)
-  kept-placed = rw (same path) (inl refl, (inl refl, (inl refl, inr refl)))
+  kept-placed = rw (same path) (inl refl, (inl refl, (inl refl, (inl refl, inr refl))))
 
   kept-unplaced : Kept (Offered image false)
-  kept-unplaced = rw (same path) (inl refl, (inl refl, (inl refl, ((inl refl, inr refl), (inl refl, inr refl)))))
+  kept-unplaced = rw (same path) (inl refl, (inl refl, (inl refl, (inl refl, ((inl refl, inr refl), (inl refl, inr refl))))))
 
   kept : (written : Written) → (written ≡ whole Beside image) ⊎ IsUnwritten Beside image written → Kept written
   kept written (inl e) = subst Kept (sym e) kept-placed
-  kept written (inr (inl e)) = subst Kept (sym e) (inl refl, inl refl)
-  kept written (inr (inr (inl c))) = subst Kept (sym c.closed) (kept-closed c.taken c.lasts)
-  kept written (inr (inr (inr (inl e)))) = subst Kept (sym e) (kept-closed (all_of image) false)
-  kept written (inr (inr (inr (inr u)))) = subst Kept (sym u.offered) kept-unplaced
+  kept written (inr (inl o)) = subst Kept (sym o.left) (inl refl, inl refl)
+  kept written (inr (inr (inl e))) = subst Kept (sym e) (inl refl, (inl refl, inl refl))
+  kept written (inr (inr (inr (inl c)))) = subst Kept (sym c.closed) (kept-closed c.taken c.lasts)
+  kept written (inr (inr (inr (inr (inl e))))) = subst Kept (sym e) (kept-closed (all_of image) false)
+  kept written (inr (inr (inr (inr (inr u))))) = subst Kept (sym u.offered) kept-unplaced
 
 pub replacing_keeps : ReplacingKeepsOneWhole
 replacing_keeps path old image written h k = at_each path old image (writes Beside path written) (before old) (kept path old image written h) k
 
 pub unplaced_leaves : UnplacedLeavesTheOld
+unplaced_leaves path old Overtaken h = refl
 unplaced_leaves path old NotMade h = refl
 unplaced_leaves path old (Closed taken lasts) h = rw (standing, same path) refl
 unplaced_leaves path old (Offered image placed) h = absurd h

@@ -9,8 +9,8 @@ use Rattle.segment_manager.specs.State.{StandsFor}
 use Rattle.image_check.specs.Saving.{IsSaved}
 use Rattle.segment_disk.specs.declared.presence.Making.{Making}
 use Rattle.segment_disk.specs.declared.presence.Making.TheVariants.{New, Emptied, Beside}
-use Rattle.segment_disk.specs.Events.{Event, Made, Wrote, Discarded, After, nothing_taken}
-use Rattle.segment_file.specs.Files.{Written, NotMade, Closed, Offered, IsPart, IsUnwritten, FillsFile, WritesImage, all_of, placing, whole}
+use Rattle.segment_disk.specs.Events.{Event, Compared, Made, Wrote, Discarded, After, nothing_taken}
+use Rattle.segment_file.specs.Files.{Written, Overtaken, NotMade, Closed, Offered, IsPart, IsUnwritten, FillsFile, MakesImage, WritesImage, all_of, compares, is_same, makes, placing, whole}
 
 front_taken : (new image : List ℕ) → AddsFront [] new image → IsProperPrefix (drop (length nothing_taken.bytes) new) image
 front_taken new image h =
@@ -39,8 +39,8 @@ abbrev Filling : {E : Type 0} → List ℕ → Taken → Bool → Result (Unit {
 Filling image taken lasts result = MatchResult result (λ u. (taken ≡ all_of image) × (lasts ≡ true)) (λ e. IsPart image taken ⊎ ((taken ≡ all_of image) × (lasts ≡ false)))
 
 unwritten : (how : Making) (image : List ℕ) (taken : Taken) (lasts : Bool) → IsPart image taken ⊎ ((taken ≡ all_of image) × (lasts ≡ false)) → IsUnwritten how image (Closed taken lasts)
-unwritten how image taken lasts (inl p) = inr (inl (record { taken = taken; lasts = lasts; closed = refl; is_part = p }))
-unwritten how image taken lasts (inr e) = inr (inr (inl (ap₂ Closed e.0 e.1)))
+unwritten how image taken lasts (inl p) = inr (inr (inl (record { taken = taken; lasts = lasts; closed = refl; is_part = p })))
+unwritten how image taken lasts (inr e) = inr (inr (inr (inl (ap₂ Closed e.0 e.1))))
 
 module _ {E : Type 0} (image : List ℕ) (taken : Taken) (lasts : Bool) where
   fate-new : (result : Result (Unit {0}) E) → Filling image taken lasts result → Fate New image (Closed taken lasts) result
@@ -52,22 +52,23 @@ module _ {E : Type 0} (image : List ℕ) (taken : Taken) (lasts : Bool) where
   fate-emptied (Err e) h = unwritten Emptied image taken lasts h
 
 module _ {D E : Type 0} (step : D → Event → D → Type 0) (old made new : D) (path image : List ℕ) where
-  pub not_made : (how : Making) (e : E) → step old (Made how path false) new → WritesImage {E = E} step old new how path image (Err e)
-  not_made how e asked = record { written = NotMade; asked = (new, asked, refl); fate = inl refl; accepted = λ n. absurd (n refl) }
+  pub not_made : (how : Making) (e : E) → step old (Made how path false) new → MakesImage {E = E} step old new how path image (Err e)
+  not_made how e asked = record { written = NotMade; same = refl; asked = (new, asked, refl); fate = inr (inl refl); accepted = λ n. absurd n }
 
   pub written_here : (how : Making) → how ≢ Beside → step old (Made how path true) made → (result : Result (Unit {0}) E) → FillsFile step made new image result
-      → WritesImage step old new how path image result
+      → MakesImage step old new how path image result
   written_here New n asked result f =
-      record { written = Closed f.taken f.lasts; asked = (made, asked, (new, f.asked, refl)); fate = fate-new image f.taken f.lasts result f.fate; accepted = λ m. f.accepted }
+      record { written = Closed f.taken f.lasts; same = refl; asked = (made, asked, (new, f.asked, refl)); fate = fate-new image f.taken f.lasts result f.fate; accepted = λ m. f.accepted }
   written_here Emptied n asked result f =
-      record { written = Closed f.taken f.lasts; asked = (made, asked, (new, f.asked, refl)); fate = fate-emptied image f.taken f.lasts result f.fate; accepted = λ m. f.accepted }
+      record { written = Closed f.taken f.lasts; same = refl; asked = (made, asked, (new, f.asked, refl)); fate = fate-emptied image f.taken f.lasts result f.fate; accepted = λ m. f.accepted }
   written_here Beside n asked result f = absurd (n refl)
 
   module _ (asked : step old (Made Beside path true) made) (filled : D) where
     -- the file took not all of the image, or need not last
-    pub dropped : (e e' : E) → FillsFile {E = E} step made filled image (Err e) → step filled (Discarded path) new → WritesImage {E = E} step old new Beside path image (Err e')
+    pub dropped : (e e' : E) → FillsFile {E = E} step made filled image (Err e) → step filled (Discarded path) new → MakesImage {E = E} step old new Beside path image (Err e')
     dropped e e' f gone = record {
       written = Closed f.taken f.lasts;
+      same = refl;
       asked = (made, asked, (filled, f.asked, (new, gone, refl)));
       fate = unwritten Beside image f.taken f.lasts f.fate;
       accepted = λ m. f.accepted;
@@ -75,13 +76,48 @@ module _ {D E : Type 0} (step : D → Event → D → Type 0) (old made new : D)
 
     fate-placed : (placed : Result (Unit {0}) E) → Fate Beside image (Offered image (is_ok placed)) placed
     fate-placed (Ok u) = refl
-    fate-placed (Err e) = inr (inr (inr (record { beside = refl; offered = refl })))
+    fate-placed (Err e) = inr (inr (inr (inr (record { beside = refl; offered = refl }))))
 
     pub placed : FillsFile {E = E} step made filled image (Ok tt) → (result : Result (Unit {0}) E) → After step filled (placing path (is_ok result)) new
-        → WritesImage {E = E} step old new Beside path image result
+        → MakesImage {E = E} step old new Beside path image result
     placed f result put = record {
       written = Offered image (is_ok result);
+      same = refl;
       asked = (made, asked, (filled, subst (λ (t : Taken). step made (Wrote t true) filled) f.fate.0 (subst (λ (l : Bool). step made (Wrote f.taken l) filled) f.fate.1 f.asked), put));
       fate = fate-placed result;
       accepted = λ m. f.accepted;
     }
+
+-- ---- a file that is compared before
+
+module _ {D E : Type 0} (step : D → Event → D → Type 0) (old same new : D) (path image : List ℕ) where
+  -- one that is new is not
+  pub made_anew : (result : Result (Unit {0}) E) → MakesImage {E = E} step old new New path image result → WritesImage {E = E} step old new New path image result
+  made_anew result m = record { written = m.written; asked = m.asked; fate = m.fate; accepted = m.accepted }
+
+  with_comparison : (how : Making) → how ≢ New → (b : Bool) (events : List Event) → step old (Compared path b) same → After step same events new
+      → After step old (compares how path b events) new
+  with_comparison New n b events asked rest = absurd (n refl)
+  with_comparison Emptied n b events asked rest = (same, asked, rest)
+  with_comparison Beside n b events asked rest = (same, asked, rest)
+
+  -- it is the same
+  pub made_over : (how : Making) → how ≢ New → (result : Result (Unit {0}) E) → step old (Compared path true) same → MakesImage {E = E} step same new how path image result
+      → WritesImage {E = E} step old new how path image result
+  made_over how n result asked m = record {
+    written = m.written;
+    asked = subst (λ (b : Bool). After step old (compares how path b (makes how path m.written)) new) (sym m.same)
+        (with_comparison how n true (makes how path m.written) asked m.asked);
+    fate = m.fate;
+    accepted = m.accepted;
+  }
+
+-- another has its name
+pub overtaken : {D E : Type 0} (step : D → Event → D → Type 0) (old new : D) (path image : List ℕ) (how : Making) → how ≢ New → (e : E) → step old (Compared path false) new
+    → WritesImage {E = E} step old new how path image (Err e)
+overtaken {E = E} step old new path image how n e asked = record {
+  written = Overtaken;
+  asked = with_comparison {E = E} step old new new path image how n false [] asked refl;
+  fate = inl (record { old = n; left = refl });
+  accepted = λ m. absurd m;
+}

@@ -1,12 +1,12 @@
 -- How the file of an image is read, and how it is written.
-use Rattle.std.specs.Prelude.{◌≡◌, ◌≢◌, ◌⊎◌, Bool, true, false, List, [], ◌∷◌, ℕ, Result, MatchResult}
+use Rattle.std.specs.Prelude.{◌≡◌, ◌≢◌, ◌⊎◌, ⊤, Bool, true, false, List, [], ◌∷◌, ℕ, Result, MatchResult}
 use Rattle.raw_region.specs.Device.{Given, Taken, IsProperPrefix}
 use Rattle.segment_manager.specs.Directory.{Directory}
 use Rattle.segment_manager.specs.State.{StandsFor}
 use Rattle.image_check.specs.Saving.{IsSaved}
 use Rattle.segment_disk.specs.declared.presence.Making.{Making}
 use Rattle.segment_disk.specs.declared.presence.Making.TheVariants.{New, Emptied, Beside}
-use Rattle.segment_disk.specs.Events.{Event, Opened, Read, Made, Wrote, Placed, Discarded, After}
+use Rattle.segment_disk.specs.Events.{Event, Opened, Read, Compared, Made, Wrote, Placed, Discarded, After}
 
 -- ---- a file that is read
 
@@ -24,10 +24,11 @@ does_not_open path = Opened path false ∷ []
 abbrev pub all_of : List ℕ → Taken
 all_of image = record { bytes = image; failed = false }
 
--- What became of it: it could not be made or emptied; it took something and was closed, and all that it took lasts or
+-- What became of it: another file had taken its name, and it was left alone; it could not be made or emptied; it took something and was closed, and all that it took lasts or
 -- need not; or, made beside the old one, it took all of an image, which lasts, and was put in the place of the old one,
 -- or need not have been.
 pub data Written : Type 0 where
+  Overtaken : Written
   NotMade : Written
   Closed : Taken → Bool → Written
   Offered : List ℕ → Bool → Written
@@ -42,10 +43,33 @@ abbrev pub placing : List ℕ → Bool → List Event
 placing path true = Placed path true ∷ []
 placing path false = Placed path false ∷ Discarded path ∷ []
 
+abbrev pub makes : Making → List ℕ → Written → List Event
+makes how path Overtaken = []
+makes how path NotMade = Made how path false ∷ []
+makes how path (Closed taken lasts) = Made how path true ∷ Wrote taken lasts ∷ leaving how path
+makes how path (Offered image placed) = Made how path true ∷ Wrote (all_of image) true ∷ placing path placed
+
+-- before a file is emptied or replaced it is compared with the one that the right to write was given for
+abbrev pub compares : Making → List ℕ → Bool → List Event → List Event
+compares New path same then = then
+compares Emptied path same then = Compared path same ∷ then
+compares Beside path same then = Compared path same ∷ then
+
+abbrev pub is_same : Written → Bool
+is_same Overtaken = false
+is_same NotMade = true
+is_same (Closed taken lasts) = true
+is_same (Offered image placed) = true
+
 abbrev pub writes : Making → List ℕ → Written → List Event
-writes how path NotMade = Made how path false ∷ []
-writes how path (Closed taken lasts) = Made how path true ∷ Wrote taken lasts ∷ leaving how path
-writes how path (Offered image placed) = Made how path true ∷ Wrote (all_of image) true ∷ placing path placed
+writes how path written = compares how path (is_same written) (makes how path written)
+
+-- the file was made or emptied
+abbrev pub IsMade : Written → Type 0
+IsMade Overtaken = ⊥
+IsMade NotMade = ⊥
+IsMade (Closed taken lasts) = ⊤
+IsMade (Offered image placed) = ⊤
 
 -- the whole image is in the file, and lasts
 abbrev pub whole : Making → List ℕ → Written
@@ -70,10 +94,15 @@ pub record IsUnplaced (how : Making) (image : List ℕ) (written : Written) : Ty
   pub beside : how ≡ Beside
   pub offered : written ≡ Offered image false
 
--- why a file has not an image that lasts: it was not made or emptied, it took not all of it, all of it need not last,
--- or did not take the place of the old file
+-- the file that was to be emptied or replaced has another's name
+pub record IsOvertaken (how : Making) (written : Written) : Type 0 where
+  pub old : how ≢ New
+  pub left : written ≡ Overtaken
+
+-- why a file has not an image that lasts: another has its name, it was not made or emptied, it took not all of it, all of
+-- it need not last, or did not take the place of the old file
 abbrev pub IsUnwritten : Making → List ℕ → Written → Type 0
-IsUnwritten how image written = (written ≡ NotMade) ⊎ (IsCut image written ⊎ ((written ≡ Closed (all_of image) false) ⊎ IsUnplaced how image written))
+IsUnwritten how image written = IsOvertaken how written ⊎ ((written ≡ NotMade) ⊎ (IsCut image written ⊎ ((written ≡ Closed (all_of image) false) ⊎ IsUnplaced how image written)))
 
 -- a file that was open for writing took an image and was closed; Ok says that it took all of it, and that this lasts
 pub record FillsFile {D E : Type 0} (step : D → Event → D → Type 0) (old new : D) (image : List ℕ) (result : Result (Unit {0}) E) : Type 0 where
@@ -83,14 +112,19 @@ pub record FillsFile {D E : Type 0} (step : D → Event → D → Type 0) (old n
   pub fate : MatchResult result (λ u. (taken ≡ all_of image) × (lasts ≡ true)) (λ e. IsPart image taken ⊎ ((taken ≡ all_of image) × (lasts ≡ false)))
   pub accepted : (d : Directory) → StandsFor image d → IsSaved image d
 
+-- the same where no comparison was asked for, or the file is the same
+pub record MakesImage {D E : Type 0} (step : D → Event → D → Type 0) (old new : D) (how : Making) (path image : List ℕ) (result : Result (Unit {0}) E) : Type 0 where
+  pub written : Written
+  pub same : is_same written ≡ true
+  pub asked : After step old (makes how path written) new
+  pub fate : MatchResult result (λ u. written ≡ whole how image) (λ e. IsUnwritten how image written)
+  pub accepted : IsMade written → (d : Directory) → StandsFor image d → IsSaved image d
+
 -- An image was written to a file, and nothing else was asked of the disk. It is whole there and lasts where the answer
 -- is Ok. A file that was made or emptied was so for an image that a check accepts.
 pub record WritesImage {D E : Type 0} (step : D → Event → D → Type 0) (old new : D) (how : Making) (path image : List ℕ) (result : Result (Unit {0}) E) : Type 0 where
   pub written : Written
   pub asked : After step old (writes how path written) new
   pub fate : MatchResult result (λ u. written ≡ whole how image) (λ e. IsUnwritten how image written)
-  pub accepted : written ≢ NotMade → (d : Directory) → StandsFor image d → IsSaved image d
+  pub accepted : IsMade written → (d : Directory) → StandsFor image d → IsSaved image d
 
--- the same of an image whose file takes the place of the old one
-abbrev pub ReplacesImage : {D E : Type 0} → (D → Event → D → Type 0) → D → D → List ℕ → List ℕ → Result (Unit {0}) E → Type 0
-ReplacesImage step old new path image result = WritesImage step old new Beside path image result

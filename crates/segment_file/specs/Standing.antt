@@ -4,8 +4,8 @@ use Rattle.std.specs.Str.{bytes_eq}
 use Rattle.raw_region.specs.Device.{Taken}
 use Rattle.segment_disk.specs.declared.presence.Making.{Making}
 use Rattle.segment_disk.specs.declared.presence.Making.TheVariants.{New, Emptied, Beside}
-use Rattle.segment_disk.specs.Events.{Event, Looked, Held, Released, Opened, Read, Made, Wrote, Placed, Discarded}
-use Rattle.segment_file.specs.Files.{Written, NotMade, Closed, Offered, IsUnwritten, whole, writes}
+use Rattle.segment_disk.specs.Events.{Event, Looked, Held, Released, Opened, Read, Compared, Made, Wrote, Placed, Discarded}
+use Rattle.segment_file.specs.Files.{Written, Overtaken, NotMade, Closed, Offered, IsUnwritten, whole, writes}
 
 -- these bytes, whole; or one of two, each whole, whichever it is; or a file that was made or emptied and need not be
 -- whole
@@ -64,6 +64,7 @@ after_event path s (Held p given) = s
 after_event path s Released = s
 after_event path s (Opened p is_open) = s
 after_event path s (Read image) = s
+after_event path s (Compared p same) = s
 after_event path s (Made how p true) = if bytes_eq p path then made how s else record s { target = Neither }
 after_event path s (Made how p false) = s
 after_event path s (Wrote taken lasts) = closed (lasting taken lasts) s.target s
@@ -82,6 +83,7 @@ IsOneOf old new Torn = ⊥
 
 -- the new file was not made, or was closed and not to take the place of the old one
 abbrev pub IsNotOffered : Written → Type 0
+IsNotOffered Overtaken = ⊤
 IsNotOffered NotMade = ⊤
 IsNotOffered (Closed taken lasts) = ⊤
 IsNotOffered (Offered image placed) = ⊥
@@ -103,4 +105,4 @@ SavingEndsWhole = (how : Making) (path old image : List ℕ) → standing path o
 
 -- One that empties the file leaves neither whole in between.
 abbrev pub EmptyingTears : Type 0
-EmptyingTears = (path old image : List ℕ) → standing path old (take 1 (writes Emptied path (whole Emptied image))) ≡ Torn
+EmptyingTears = (path old image : List ℕ) → standing path old (take 2 (writes Emptied path (whole Emptied image))) ≡ Torn

@@ -1,8 +1,8 @@
 //! The writing of an image to a file.
 ghost use Rattle.std.specs.Prelude.{◌≡◌, ◌≢◌, is_ok};
-ghost use Rattle.segment_disk.specs.declared.presence.Making.TheVariants.{Beside};
+ghost use Rattle.segment_disk.specs.declared.presence.Making.TheVariants.{Beside, New};
 ghost use Rattle.segment_disk.specs.Events.{After, nothing_taken};
-ghost use Rattle.segment_file.specs.Files.{FillsFile, ReplacesImage, WritesImage, placing};
+ghost use Rattle.segment_file.specs.Files.{FillsFile, MakesImage, WritesImage, placing};
 
 use image_check::save;
 use raw_region::DeviceFault;
@@ -30,7 +30,7 @@ fn write_here<D: Disk>(
     segment: &Segment,
 ) -> Result<(), DeviceFault>
     requires { how ≢ Beside }
-    ensures { WritesImage D.step disk.old disk.new how path.now segment.now.cut.bytes result }
+    ensures { MakesImage D.step disk.old disk.new how path.now segment.now.cut.bytes result }
 {
     match disk.make(path, how) {
         Ok(writer) => fill(disk, writer, segment),
@@ -54,7 +54,7 @@ fn put_in_place<D: Disk>(disk: &mut D, path: &str) -> Result<(), DeviceFault>
 /// Writes the image of a segment to a file that is made beside the old one, closes it, and puts it in the place of the
 /// old one. Where that fails, the new file is removed, if it can be.
 fn replace_image<D: Disk>(disk: &mut D, path: &str, segment: &Segment) -> Result<(), DeviceFault>
-    ensures { ReplacesImage D.step disk.old disk.new path.now segment.now.cut.bytes result }
+    ensures { MakesImage D.step disk.old disk.new Beside path.now segment.now.cut.bytes result }
 {
     let Ok(writer) = disk.make(path, Making::Beside) else {
         return Err(DeviceFault);
@@ -68,6 +68,39 @@ fn replace_image<D: Disk>(disk: &mut D, path: &str, segment: &Segment) -> Result
     }
 }
 
+/// Writes the image of a segment to a file that is made, emptied or replaced for it, and is the one that the right to
+/// write was given for.
+fn make_image<D: Disk>(
+    disk: &mut D,
+    path: &str,
+    how: Making,
+    segment: &Segment,
+) -> Result<(), DeviceFault>
+    ensures { MakesImage D.step disk.old disk.new how path.now segment.now.cut.bytes result }
+{
+    if how == Making::Beside {
+        replace_image(disk, path, segment)
+    } else {
+        write_here(disk, path, how, segment)
+    }
+}
+
+/// The same of a file that is emptied or replaced. It is left alone where another has taken its name.
+fn overwrite_image<D: Disk>(
+    disk: &mut D,
+    path: &str,
+    how: Making,
+    segment: &Segment,
+) -> Result<(), DeviceFault>
+    requires { how ≢ New }
+    ensures { WritesImage D.step disk.old disk.new how path.now segment.now.cut.bytes result }
+{
+    match disk.compare(path) {
+        Ok(()) => make_image(disk, path, how, segment),
+        Err(fault) => Err(fault),
+    }
+}
+
 /// Writes the image of a segment to a file that is made, emptied or replaced for it. A check of the image accepts it.
 pub fn write_image<D: Disk>(
     disk: &mut D,
@@ -77,9 +110,9 @@ pub fn write_image<D: Disk>(
 ) -> Result<(), DeviceFault>
     ensures { WritesImage D.step disk.old disk.new how path.now segment.now.cut.bytes result }
 {
-    if how == Making::Beside {
-        replace_image(disk, path, segment)
+    if how == Making::New {
+        make_image(disk, path, how, segment)
     } else {
-        write_here(disk, path, how, segment)
+        overwrite_image(disk, path, how, segment)
     }
 }

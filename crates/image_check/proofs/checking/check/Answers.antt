@@ -1,18 +1,18 @@
 use Rattle.std.proofs.Common.{◌≡◌, ℕ, List, sym, subst, ◌∙◌}
 use Rattle.std.specs.Prelude.{IfErr, Result, true}
-use Rattle.image_check.specs.declared.errors.CheckError.{CheckError}
-use Rattle.image_check.specs.Checking.{cause_for}
+use Rattle.image_check.specs.declared.errors.ExamineError.{ExamineError}
+use Rattle.image_check.specs.Causes.{error_for}
 use Rattle.image_check.specs.Opening.{is_late}
 use Rattle.image_check.specs.Passes.{CountsTiles}
 use Rattle.image_check.proofs.checking.check.Goals as goal
 
 -- the visits are the steps
-as-steps : (b : List ℕ) (r : Result (Unit {0}) CheckError) (old before new after : ℕ) → before ≡ old → after ≡ new
-    → IfErr r (λ why. is_late (cause_for why) ≡ true → CountsTiles b before new)
-    → IfErr r (λ why. is_late (cause_for why) ≡ true → CountsTiles b old after)
+as-steps : (b : List ℕ) (r : Result (Unit {0}) ExamineError) (old before new after : ℕ) → before ≡ old → after ≡ new
+    → IfErr r (λ why. is_late (error_for why) ≡ true → CountsTiles b before new)
+    → IfErr r (λ why. is_late (error_for why) ≡ true → CountsTiles b old after)
 as-steps b r old before new after e f h =
-    subst (λ x. IfErr r (λ why. is_late (cause_for why) ≡ true → CountsTiles b x after)) e
-    (subst (λ y. IfErr r (λ why. is_late (cause_for why) ≡ true → CountsTiles b before y)) (sym f) h)
+    subst (λ x. IfErr r (λ why. is_late (error_for why) ≡ true → CountsTiles b x after)) e
+    (subst (λ y. IfErr r (λ why. is_late (error_for why) ≡ true → CountsTiles b before y)) (sym f) h)
 
 pub returns-clause-late : goal.returns-clause-late
 returns-clause-late c =

@@ -1,6 +1,8 @@
-use Rattle.std.proofs.Common.{◌∙◌, arith}
+use Rattle.std.proofs.Common.{Bool, subst, sym, arith}
 use Rattle.raw_region.specs.Memory.{bytes_of}
-use Rattle.image_check.specs.Passes.{tiles_in}
+use Rattle.image_check.specs.Containers.{has_container}
+use Rattle.image_check.specs.ObjectPlaces.{IsFirstWrongTile}
+use Rattle.image_check.specs.Passes.{Finds, tiles_in}
 use Rattle.image_check.proofs.ContainerWalks.{containers-same, marked-followed, marked-ready}
 use Rattle.image_check.proofs.ContainerWeights.{blocks-weigh, both-weigh, few-blocks}
 use Rattle.image_check.proofs.CountedFields.{Contains-Mem}
@@ -26,23 +28,13 @@ are_right-requires-clause-few c =
 
 pub returns-clause-finds : goal.returns-clause-finds
 returns-clause-finds c =
-    let b = c.args.window.now.bytes in containers-same c.args.format (bytes_of b) (tiles_in b) ∙ c.in_default.ensures.finds
-
-pub returns-in-Err-clause-finds : goal.returns-in-Err-clause-finds
-returns-in-Err-clause-finds c =
     let b = c.args.window.now.bytes in
-    let e = c.in-Err.ensures.finds in
-    (containers-same c.args.format (bytes_of b) (tiles_in b) ∙ e.0, e.1)
+    let right = has_container c.args.format (bytes_of b) (tiles_in b) in
+    subst (λ (fine : Bool). Finds fine (IsFirstWrongTile right (tiles_in b)) c.are_right.result)
+    (sym (containers-same c.args.format (bytes_of b) (tiles_in b))) c.are_right.ensures.finds
 
 pub returns-clause-visits : goal.returns-clause-visits
 returns-clause-visits c =
-    let blocks = blocks-weigh (tiles_in c.args.window.now.bytes) c.args.owners.now.blocks.entries c.requires.whole.marking.frame in
-    let both = both-weigh (tiles_in c.args.window.now.bytes) in
-    let most = c.are_right.ensures.most in
-    (c.are_right.ensures.least, omega arith)
-
-pub returns-in-Err-clause-visits : goal.returns-in-Err-clause-visits
-returns-in-Err-clause-visits c =
     let blocks = blocks-weigh (tiles_in c.args.window.now.bytes) c.args.owners.now.blocks.entries c.requires.whole.marking.frame in
     let both = both-weigh (tiles_in c.args.window.now.bytes) in
     let most = c.are_right.ensures.most in

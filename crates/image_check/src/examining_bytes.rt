@@ -1,0 +1,48 @@
+//! The check of an image that lies in memory, which tells, where it is refused, also the byte that shows why.
+ghost use Rattle.std.specs.Prelude.{◌≡◌, ◌%◌, IfErr, OnOk, length, true};
+ghost use Rattle.image_check.specs.Causes.{error_for};
+ghost use Rattle.image_check.specs.Examining.{ExaminesBytes};
+ghost use Rattle.image_check.specs.Formats.{format_in};
+ghost use Rattle.image_check.specs.Opening.{IsRaisedFor, is_late, size_or_least};
+ghost use Rattle.image_check.specs.Passes.{CountsTiles};
+
+use crate::checking::check;
+use crate::errors::ExamineRefused;
+use crate::header::FRONT;
+use crate::placing::place_image;
+use crate::versions::{Versions, version_in};
+use raw_region::{RawRegion, Steps};
+use std::alloc::Global;
+
+/// Copies an image of one of these versions into the region, from `base` on, which is a multiple of 16, and tells
+/// whether it denotes a directory, by the rules of the format that it says, as [`examine`](crate::examine) does. The
+/// bytes are all of the image.
+///
+/// # Errors
+///
+/// Those of [`open_bytes`](crate::open_bytes), for the same reasons, a class with the place that shows it. The region
+/// comes back as it does there, and `steps` is raised as there.
+pub fn examine_bytes(
+    versions: Versions,
+    alloc: Global,
+    image: &[u8],
+    region: RawRegion,
+    base: u64,
+    steps: &mut Steps,
+) -> Result<RawRegion, ExamineRefused>
+    requires aligned { base % 16 ≡ 0 }
+    ensures examines { ExaminesBytes (format_in versions image.now) image.now region base result }
+    ensures steps { IsRaisedFor (size_or_least image.now) steps.old steps.new }
+    ensures tiles { OnOk result (CountsTiles image.now steps.old steps.new) }
+    ensures late { IfErr result (λ refused. is_late (error_for refused.cause) ≡ true → CountsTiles image.now steps.old steps.new) }
+{
+    let window = place_image(versions, image, region, base)?;
+    let format = version_in(window.header(0, FRONT as u64));
+    match check(format, alloc, &window, steps) {
+        Ok(()) => Ok(window.into_region()),
+        Err(cause) => Err(ExamineRefused {
+            region: window.into_region(),
+            cause,
+        }),
+    }
+}

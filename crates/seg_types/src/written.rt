@@ -1,0 +1,105 @@
+//! Values as callers write them: what one is as a value of a kind is learnt when the program runs.
+ghost use Rattle.std.specs.Prelude.{◌≡◌, MatchOption, ⊤};
+ghost use Rattle.seg_types.specs.Commands.{Literal, Quoted, Truth, Whole, value_of_literal};
+ghost use Rattle.seg_types.specs.Literals.{IsPairOf, IsValueOf, pair_of};
+ghost use Rattle.seg_types.specs.Written.{NoText, literal_seen};
+
+use crate::kinds::ScalarKind;
+use crate::refusals::Refusal;
+use crate::values::ScalarValue;
+
+/// A value as a caller writes it, before its kind is known: a truth, a whole number or a text.
+pub trait Written {
+    /// Room that its text may be read into.
+    type Room;
+
+    // The literal that it is.
+    ghost literal: { Self → Literal };
+
+    // Whether the room is long enough for its text.
+    ghost fits: { Self → Type 0 };
+
+    /// The value of a kind that it is.
+    ///
+    /// # Errors
+    ///
+    /// `WrongKind` where it has another form, `OutOfRange` where it is a number outside the range of the kind.
+    fn value_of(&self, kind: ScalarKind) -> Result<ScalarValue, Refusal>
+        ensures { IsValueOf kind (value_of_literal kind (literal self.now)) result };
+
+    /// The text that it is, or `None` where it is none.
+    fn text<'r>(&'r self, room: &'r mut Self::Room) -> Option<&'r [u8]>
+        requires { fits self.now }
+        ensures { MatchOption result (NoText (literal self.now)) (λ text. literal self.now ≡ Quoted text.now) };
+}
+
+/// A value of one kind that is written as one of another.
+impl Written for ScalarValue {
+    type Room = ();
+
+    ghost literal = { literal_seen };
+
+    ghost fits = { λ v. ⊤ };
+
+    fn value_of(&self, kind: ScalarKind) -> Result<ScalarValue, Refusal> {
+        match *self {
+            ScalarValue::Bool(truth) => truth_as(kind, truth),
+            ScalarValue::U8(number) => whole_as(kind, i128::from(number)),
+            ScalarValue::I32(number) => whole_as(kind, i128::from(number)),
+            ScalarValue::I64(number) => whole_as(kind, i128::from(number)),
+            ScalarValue::U64(number) => whole_as(kind, i128::from(number)),
+        }
+    }
+
+    fn text<'r>(&'r self, _room: &'r mut ()) -> Option<&'r [u8]> {
+        None
+    }
+}
+
+/// The value of a kind that a truth is: truths alone have one.
+///
+/// # Errors
+///
+/// `WrongKind` where the kind is another.
+pub fn truth_as(kind: ScalarKind, truth: bool) -> Result<ScalarValue, Refusal>
+    ensures { IsValueOf kind (value_of_literal kind (Truth truth)) result }
+{
+    match kind {
+        ScalarKind::Bool => Ok(ScalarValue::Bool(truth)),
+        _ => Err(Refusal::WrongKind),
+    }
+}
+
+/// The value of a kind that a whole number is.
+///
+/// # Errors
+///
+/// `WrongKind` where the kind is that of truths, `OutOfRange` where the number is outside the range of the kind.
+pub fn whole_as(kind: ScalarKind, number: i128) -> Result<ScalarValue, Refusal>
+    ensures { IsValueOf kind (value_of_literal kind (Whole number)) result }
+{
+    match kind {
+        ScalarKind::Bool => Err(Refusal::WrongKind),
+        _ => ScalarValue::of_number(kind, number).ok_or(Refusal::OutOfRange),
+    }
+}
+
+/// The pair of two kinds that two written values are.
+///
+/// # Errors
+///
+/// `WrongKind` where one has another form, and else `OutOfRange` where one is a number outside the range of its kind.
+pub fn pair_of<A: Written, B: Written>(
+    keys: ScalarKind,
+    values: ScalarKind,
+    at: &A,
+    value: &B,
+) -> Result<(ScalarValue, ScalarValue), Refusal>
+    ensures { IsPairOf keys values (pair_of keys values (A.literal at.now) (B.literal value.now)) result }
+{
+    match (at.value_of(keys), value.value_of(values)) {
+        (Ok(new_key), Ok(new_value)) => Ok((new_key, new_value)),
+        (Err(Refusal::WrongKind), _) | (_, Err(Refusal::WrongKind)) => Err(Refusal::WrongKind),
+        (Err(why), _) | (_, Err(why)) => Err(why),
+    }
+}

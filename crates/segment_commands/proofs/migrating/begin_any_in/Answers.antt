@@ -1,0 +1,20 @@
+use Rattle.std.proofs.Common.{inr, Ok, Err, refl}
+use Rattle.raw_region.specs.Device.{given_since}
+use Rattle.image_check.specs.OpeningAny.{OpensAny}
+use Rattle.segment_manager.specs.declared.modes.Mode.TheVariants.{Write}
+use Rattle.segment_disk.specs.Events.{nothing_given}
+use Rattle.segment_commands.proofs.migrating.begin_any_in.Goals as goal
+
+pub returns-in-Ok-open_any : goal.returns-in-Ok-open_any
+returns-in-Ok-open_any g c =
+    let fresh = c.requires.fresh in
+    let given = given_since nothing_given (g.S.Source.history c.open_any.new.reader) in
+    let opens : OpensAny given c.in-Ok.region 0 Write (Ok c.in-Ok-open_any.segment) = rw fresh at c.in-Ok-open_any.ensures.opens in
+    inr (record { region = c.in-Ok.region; opened = Ok c.in-Ok-open_any.segment; opens_any = opens; answer = refl })
+
+pub returns : goal.returns
+returns g c =
+    let fresh = c.requires.fresh in
+    let given = given_since nothing_given (g.S.Source.history c.open_any.new.reader) in
+    let opens : OpensAny given c.in-Ok.region 0 Write (Err c.in-Err.refused) = rw fresh at c.in-Err.ensures.opens in
+    rw c.from.ensures (inr (record { region = c.in-Ok.region; opened = Err c.in-Err.refused; opens_any = opens; answer = refl }))

@@ -58,9 +58,27 @@ pub fn run<D: Disk, S: Source, O: Lined>(
             None => Err(ProgramFault::Usage),
         },
         ModeName::OpenOnly => run_on_file(alloc, disk, path, Mode::Write, how, until, script, out),
-        ModeName::OpenReadOnly => run_on_file(alloc, disk, path, Mode::ReadOnly, how, until, script, out),
+        ModeName::OpenReadOnly => run_on_file(
+            alloc,
+            disk,
+            path,
+            Mode::ReadOnly,
+            how,
+            until,
+            script,
+            out,
+        ),
         ModeName::OpenCopyOnWrite => {
-            run_on_file(alloc, disk, path, Mode::CopyOnWrite, how, until, script, out)
+            run_on_file(
+                alloc,
+                disk,
+                path,
+                Mode::CopyOnWrite,
+                how,
+                until,
+                script,
+                out,
+            )
         }
     }
 }

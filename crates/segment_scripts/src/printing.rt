@@ -52,10 +52,7 @@ pub fn put_refusal_line<W: Sink>(out: &mut W, why: Refusal) -> Result<Answered, 
     ensures writes { Writes (W.history out.old) (W.history out.new) result (answer_text (Refused why)) }
     ensures tells { Tells result true }
 {
-    Answered::Refused.once(put_pieces(
-        out,
-        &[Piece::Refusal(why), Piece::Bytes(b"\n")],
-    ))
+    Answered::Refused.once(put_pieces(out, &[Piece::Refusal(why), Piece::Bytes(b"\n")]))
 }
 
 /// Writes a handle and a count.

@@ -137,8 +137,8 @@ fn read_lines<M: Machine, S: Source, W: Sink, F: Follower<W>>(
         (given_since (S.history script.old) (S.history script.new))
         (taken_since (W.history out.old) (W.history out.new))
         (M.stands machine.new) fault) }
-    ensures out_grows { OnErr result ((start : M.Place) → M.stands machine.old start
-        → Grows (W.history out.old).bytes (W.history out.new).bytes) }
+    ensures out_grows { (start : M.Place) → M.stands machine.old start
+        → Grows (W.history out.old).bytes (W.history out.new).bytes }
     ensures devices { UsesDevices (S.history script.old) (S.history script.new)
         (W.history out.old) (W.history out.new) result }
 {
@@ -156,7 +156,15 @@ fn read_lines<M: Machine, S: Source, W: Sink, F: Follower<W>>(
             return Ok(End::Whole);
         }
         let within = count.min(left);
-        match feed(machine, scratch, line, &room[..within], out, follower, until) {
+        match feed(
+            machine,
+            scratch,
+            line,
+            &room[..within],
+            out,
+            follower,
+            until,
+        ) {
             Ok(End::Whole) => {}
             Ok(End::Refused) => return Ok(End::Refused),
             Err(_) => return Err(RunFault::WriteFault),
@@ -229,7 +237,15 @@ pub fn run_until<M: Machine, S: Source, W: Sink, F: Follower<W>>(
         room: Room::new(),
     };
     let mut line = OpenLine::new();
-    match read_lines(machine, &mut scratch, script, &mut line, out, follower, until)? {
+    match read_lines(
+        machine,
+        &mut scratch,
+        script,
+        &mut line,
+        out,
+        follower,
+        until,
+    )? {
         End::Refused => Ok(End::Refused),
         End::Whole => match answer_last(machine, &mut scratch, &line, out, follower, until) {
             Ok(end) => Ok(end),

@@ -26,11 +26,7 @@ use segment_manager::{Instance, Object, Segment, locate};
 
 /// Writes what the object of a key says of itself, or that there is none.
 #[inline(never)]
-pub fn put_told<W: Sink>(
-    segment: &Segment,
-    key: &Key,
-    out: &mut W,
-) -> Result<Answered, DeviceFault>
+pub fn put_told<W: Sink>(segment: &Segment, key: &Key, out: &mut W) -> Result<Answered, DeviceFault>
     requires { (W.history out.old).failures < 2 ^ 64 - 1 }
     ensures { AnswersFor (W.history out.old) (W.history out.new) result (StandsFor segment.now.cut.bytes)
         (λ d. told_at d (key_seen key.now)) }

@@ -994,6 +994,69 @@ static void what_is_no_image(void) {
     zx_close(&s);
 }
 
+static uint64_t word_of(const uint8_t *image, uint64_t at) {
+    uint64_t word;
+    memcpy(&word, image + at, sizeof word);
+    return word;
+}
+
+static void is_shown(int line, const uint8_t *image, size_t len, zx_code code, uint64_t wanted) {
+    uint64_t place = 7;
+    is_number(line, "zx_explain", zx_explain(image, len, &place), code);
+    is_number(line, "the place", place, wanted);
+    is_number(line, "zx_check", zx_check(image, len), code);
+}
+#define SHOWN(code, place) is_shown(__LINE__, image, sizeof image, code, place)
+#define SHOWN_BY(word, at, code, place) \
+    do { \
+        const uint64_t before = word_of(image, at), other = (word); \
+        memcpy(image + (at), &other, sizeof other); \
+        SHOWN(code, place); \
+        memcpy(image + (at), &before, sizeof before); \
+    } while (0)
+
+/* The byte that shows each class, in the image of two vectors. */
+static void what_shows_a_class(void) {
+    zx_segment s = ZX_CLOSED_HANDLE;
+    zx_key a = zx_name("a"), b = zx_name("b");
+    uint8_t image[1024], longer[1040] = { 0 };
+    uint64_t place = 7;
+    zx_elements first, second;
+    const int64_t three[] = { 1, 2, 3 };
+    DONE(zx_create(&s, sizeof image));
+    const uint64_t at = (uint64_t)made_vector(&s, a, zx_i64s(three, 3));
+    const uint64_t other = (uint64_t)made_vector(&s, b, zx_i64s(three, 1));
+    DONE(zx_view(&s, &a, &first));
+    DONE(zx_view(&s, &b, &second));
+    DONE(zx_save(&s, image, sizeof image));
+    zx_close(&s);
+    memcpy(longer, image, sizeof image);
+    SHOWN(ZX_DONE, 7);
+    IS(zx_explain(NULL, 0, &place), ZX_NULL_SLICE);
+    IS(place, 7);
+    is_shown(__LINE__, image, 100, ZX_TRUNCATED, 100);
+    is_shown(__LINE__, image, 1008, ZX_TRUNCATED, 1008);
+    is_shown(__LINE__, longer, sizeof longer, ZX_BAD_IMAGE_SIZE, 1024);
+    SHOWN_BY(word_of(image, 0) ^ 1u << 24, 0, ZX_BAD_MAGIC, 3);
+    SHOWN_BY(9, 8, ZX_UNSUPPORTED_VERSION, 8);
+    SHOWN_BY(1025, 16, ZX_BAD_IMAGE_SIZE, 16);
+    SHOWN_BY((uint64_t)1 << 32 | 2, 8, ZX_BAD_RESERVED, 12);
+    SHOWN_BY(1, 88, ZX_BAD_RESERVED, 88);
+    SHOWN_BY(16, 128, ZX_BAD_TAG, 128);
+    SHOWN_BY(1, sizeof image - 16, ZX_BAD_TAG, sizeof image - 16);
+    SHOWN_BY(1, 24, ZX_BAD_FREE_TREE, 24);
+    SHOWN_BY(99, 40, ZX_BAD_INDEX, 40);
+    SHOWN_BY(1, 32, ZX_BAD_INDEX, 32);
+    SHOWN_BY(99, at, ZX_BAD_OBJECT, at);
+    SHOWN_BY(99, other, ZX_BAD_OBJECT, other);
+    SHOWN_BY(first.offset - (other + 24), other + 24, ZX_SHARED_BLOCK, other + 24);
+    SHOWN_BY(99, at + 32, ZX_BAD_CONTAINER, at);
+    SHOWN_BY(99, other + 32, ZX_BAD_CONTAINER, other);
+    const uint64_t none[] = { 1, 0, 0 };
+    memcpy(image + other + 24, none, sizeof none);
+    SHOWN(ZX_ORPHAN_BLOCK, second.offset);
+}
+
 static void what_is_passed_wrongly(void) {
     zx_segment s = ZX_CLOSED_HANDLE;
     zx_key a = zx_name("a"), none = zx_anonymous();
@@ -1203,30 +1266,16 @@ static void rows_of_texts(void) {
     IS(zx_read_names(&s, 0, infos, values, read_texts, 1, 4, &read), ZX_CLOSED);
 }
 
-/* The calls for one number. */
-static void one_number(void) {
+/* What is there for Python has nothing to call here. */
+static void without_python(void) {
     zx_segment s = ZX_CLOSED_HANDLE;
-    uint64_t handle, here = zx_thread();
-    zx_place v = { &s, here, zx_name("v") }, m = { &s, 0, zx_name("m") }, elsewhere = { &s, here + 1, zx_name("v") };
+    zx_key v = zx_name("v");
+    uint8_t row[1] = { 7 };
+    uint64_t here = zx_thread();
     IS(here > 0 && here == zx_thread(), true);
-    DONE(zx_create(&s, 1024));
-    IS(made_vector(&s, v.key, zx_i64s((const int64_t *)&s, 0)), 192);
-    DONE(zx_construct_map(&s, &m.key, ZX_U8, ZX_I32, &handle));
-    DONE(zx_push_number(&v, -5));
-    DONE(zx_set_at(&v, 0, -6));
-    IS(zx_element_at(&v, 0), -6);
-    IS(zx_element_at(&v, 1), ZX_NO_NUMBER);
-    IS(zx_set_at(&v, 1, 1), ZX_OUT_OF_RANGE);
-    DONE(zx_put_at(&m, 255, -7));
-    IS(zx_put_at(&m, 256, -7), ZX_OUT_OF_RANGE);
-    IS(zx_map_at(&m, 255), -7);
-    IS(zx_map_at(&m, 254), ZX_NO_NUMBER);
-    IS(zx_element_at(&elsewhere, 0), ZX_NO_NUMBER);
-    IS(zx_push_number(&elsewhere, 0), ZX_CLOSED);
-    IS(zx_set_at(&elsewhere, 0, 0), ZX_CLOSED);
-    zx_close(&s);
-    IS(zx_put_at(&m, 1, 1), ZX_CLOSED);
-    IS(zx_map_at(&m, 1), ZX_NO_NUMBER);
+    IS(zx_python_at(&s, &v, ZX_VECTOR(ZX_I64), here, &s) == NULL, true);
+    IS(zx_python_row(&s, ZX_U8, row, 1), false);
+    IS(row[0], 7);
 }
 
 int main(int count, char **arguments) {
@@ -1255,12 +1304,13 @@ int main(int count, char **arguments) {
     transactions();
     names_from();
     what_is_no_image();
+    what_shows_a_class();
     what_is_passed_wrongly();
     words();
     files();
     rows_of_numbers();
     rows_of_texts();
-    one_number();
+    without_python();
     printf("every_call.c: %d checks, %d wrong\n", checks, wrong);
     return wrong != 0;
 }

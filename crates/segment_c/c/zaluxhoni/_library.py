@@ -23,7 +23,8 @@ class Elements(ctypes.Structure):
 
 
 class File(ctypes.Structure):
-    _fields_ = [("segment", Handle), ("error", ctypes.c_int32), ("held", ctypes.c_void_p)]
+    _fields_ = [("segment", Handle), ("error", ctypes.c_int32), ("held", ctypes.c_void_p),
+                ("place", ctypes.c_uint64)]
 
 
 class Key(ctypes.Structure):
@@ -53,10 +54,6 @@ class Info(ctypes.Structure):
 
 class Tile(ctypes.Structure):
     _fields_ = [("offset", ctypes.c_uint64), ("len", ctypes.c_uint64), ("use", ctypes.c_uint32)]
-
-
-class Place(ctypes.Structure):
-    _fields_ = [("segment", ctypes.c_void_p), ("thread", ctypes.c_uint64), ("key", Key)]
 
 
 def _path() -> str:
@@ -123,7 +120,8 @@ def _load() -> Any:
         call = getattr(library, "zx_" + name)
         call.argtypes, call.restype = [ctypes.POINTER(Handle), *arguments], u32
     library.zx_close.restype = None
-    library.zx_check.argtypes, library.zx_check.restype = [ctypes.c_char_p, ctypes.c_size_t], u32
+    library.zx_explain.argtypes = [ctypes.c_char_p, ctypes.c_size_t, ctypes.POINTER(u64)]
+    library.zx_explain.restype = u32
     for name in ("zx_words", "zx_file_words"):
         call = getattr(library, name)
         call.argtypes, call.restype = [u32, ctypes.POINTER(Text)], None
@@ -141,12 +139,13 @@ def _load() -> Any:
 
 
 def _load_quick() -> Any:
-    """The calls for one small number of zaluxhoni_rows.h. They are so short that the interpreter's lock is kept, and
-    are given the place and numbers of 32 bits as they stand: to declare what they take costs more than the call."""
-    library = ctypes.PyDLL(_path())
-    for name, answer in (("map_at", ctypes.c_int64), ("element_at", ctypes.c_int64), ("put_at", ctypes.c_uint32),
-                         ("push_number", ctypes.c_uint32), ("set_at", ctypes.c_uint32), ("thread", ctypes.c_uint64)):
-        getattr(library, "zx_" + name).restype = answer
+    """The calls of zaluxhoni_rows.h for objects of CPython's, which keep the interpreter's lock."""
+    library, pointer = ctypes.PyDLL(_path()), ctypes.POINTER
+    library.zx_thread.argtypes, library.zx_thread.restype = [], ctypes.c_uint64
+    library.zx_python_at.argtypes = [pointer(Handle), pointer(Key), ctypes.c_uint32, ctypes.c_uint64, ctypes.py_object]
+    library.zx_python_at.restype = ctypes.py_object
+    library.zx_python_row.argtypes = [ctypes.py_object, ctypes.c_uint32, ctypes.c_void_p, ctypes.c_size_t]
+    library.zx_python_row.restype = ctypes.c_bool
     return library
 
 
@@ -154,8 +153,8 @@ zx = _load()
 free = ctypes.PyDLL(None).free
 free.argtypes, free.restype = [ctypes.c_void_p], None
 quick = _load_quick()
-NO_NUMBER = -0x5A415855584F4E49
-"""What a call for one number answers where it has none."""
+HAS_PYTHON: bool = quick.zx_python_row([], U8, None, 0)
+"""Whether the library takes this interpreter's own lists and numbers."""
 NO_SPACE = 9
 
 

@@ -71,7 +71,7 @@ pub pushed-step : (old new : State) (key : Key) (kind : Kind) (l : Literal) (r :
     → IsStep old new (Push key l) (done_answer r)
 pushed-step old new key kind l r not m =
     let same : (d : Directory) → StandsFor old.cut.bytes d
-        → step_of_kind old.mode d key kind (Push key l) ≡ step old.mode d (Push key l) =
+    → step_of_kind old.mode d key kind (Push key l) ≡ step old.mode d (Push key l) =
     λ d st. same-step old.mode d key kind l r not (m.answers d st) in
     record {
       stays = m.stays;

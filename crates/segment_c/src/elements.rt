@@ -112,7 +112,11 @@ pub extern "C" fn zx_insert(
     ensures marks { IsMarked result h.old.marks h.new.marks }
 {
     let (which, new, mut segment) = passed!(enter_with(alloc, h, key, value));
-    done(add(&mut segment, &which, Spot::Before(index), new), h, segment)
+    done(
+        add(&mut segment, &which, Spot::Before(index), new),
+        h,
+        segment,
+    )
 }
 
 /// Puts a value into the vector of a key, where the spot says.

@@ -1,17 +1,16 @@
 -- The names that go out one by one are those that begin with the text.
-use Rattle.std.proofs.Common.{◌≡◌, ◌++◌, ◌∙◌, ◌==◌, ◌&&◌, ℕ, ◌+◌, ◌-◌, Bool, true, false, List, [], ◌∷◌, suc, zero, Option, Some, None, slice_get, take, drop, refl, sym, ap, subst, append_assoc, arith}
-use Rattle.std.specs.Prelude.{Result, Ok, Err, filter, if◌then◌else◌, not}
+use Rattle.std.proofs.Common.{◌≡◌, ◌++◌, ◌∙◌, ℕ, ◌+◌, ◌-◌, Bool, true, false, List, [], ◌∷◌, suc, zero, Some, None, slice_get, take, drop, refl, sym, ap, subst, append_assoc, arith}
+use Rattle.std.specs.Prelude.{Result, Ok, Err, filter}
 use Rattle.std.specs.List.{flat_map}
 use Rattle.std.specs.Result.{IsErr}
 use Rattle.std.proofs.lemmas.List.{append-nil, drop_more}
 use Rattle.std.proofs.lemmas.Option.{get_or_from_slice_get, slice_get_within}
-use Rattle.raw_region.specs.Answers.{failures_in}
 use Rattle.raw_region.specs.Device.{Took, Writes}
 use Rattle.raw_region.proofs.Laws.{writes-cut, writes-then}
 use Rattle.segment_manager.specs.Directory.{Directory}
 use Rattle.segment_manager.specs.indexes.Iterating.{names_of}
 use Rattle.segment_manager.specs.State.{State, StandsFor}
-use Rattle.segment_report.specs.Names.{begins_with, is_listed, left_behind, listed_line, name_line, names_text}
+use Rattle.segment_report.specs.Names.{begins_with, left_behind, listed_line, name_line, names_text}
 use Rattle.segment_report.specs.Telling.{Tells}
 use Rattle.segment_report.proofs.Telling.{failures_in-err}
 

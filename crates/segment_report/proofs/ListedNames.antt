@@ -1,8 +1,9 @@
 -- The names that go out one by one are those that begin with the text.
-use Rattle.std.proofs.Common.{◌≡◌, ◌++◌, ◌∙◌, ℕ, ◌+◌, ◌-◌, Bool, true, false, List, [], ◌∷◌, suc, zero, Some, None, slice_get, take, drop, refl, sym, ap, subst, append_assoc, arith}
+use Rattle.std.proofs.Common.{◌≡◌, ◌++◌, ◌∙◌, ◌==◌, ℕ, ◌+◌, ◌-◌, Bool, true, false, List, [], ◌∷◌, suc, zero, Some, None, slice_get, take, drop, refl, sym, ap, subst, append_assoc, arith}
 use Rattle.std.specs.Prelude.{Result, Ok, Err, filter}
 use Rattle.std.specs.List.{flat_map}
 use Rattle.std.specs.Result.{IsErr}
+use Rattle.std.proofs.lemmas.Bool.Decides.{nat_tests}
 use Rattle.std.proofs.lemmas.List.{append-nil, drop_more}
 use Rattle.std.proofs.lemmas.Option.{get_or_from_slice_get, slice_get_within}
 use Rattle.raw_region.specs.Device.{Took, Writes}
@@ -26,6 +27,9 @@ first_lines prefix left xs = flat_map name_line (take left (filter (λ name. beg
 one-less : (n : ℕ) → suc n - 1 ≡ n
 one-less n = omega arith
 
+some-left : (n : ℕ) → (suc n == 0) ≡ false
+some-left n = grind (arith, nat_tests)
+
 listed-none : (prefix : List ℕ) (xs : List (List ℕ)) → listed prefix 0 xs ≡ []
 listed-none prefix [] = refl
 listed-none prefix (x ∷ xs) = listed-none prefix xs
@@ -38,8 +42,8 @@ listed-first prefix (suc n) (x ∷ xs) = go (begins_with x prefix) refl (listed-
   where
     go : (b : Bool) → begins_with x prefix ≡ b → listed prefix n xs ≡ first_lines prefix n xs → listed prefix (suc n) xs ≡ first_lines prefix (suc n) xs
         → listed prefix (suc n) (x ∷ xs) ≡ first_lines prefix (suc n) (x ∷ xs)
-    go true e less same = rw (e, one-less n) (ap (λ l. name_line x ++ l) less)
-    go false e less same = rw e same
+    go true e less same = rw (some-left n, e, one-less n) (ap (λ l. name_line x ++ l) less)
+    go false e less same = rw (some-left n, e) same
 
 drop-here : (xs : List (List ℕ)) (i : ℕ) (x : List ℕ) → slice_get xs i ≡ Some x → drop i xs ≡ x ∷ drop (i + 1) xs
 drop-here xs i x e = drop_more xs i x (slice_get_within xs i x e) ∙ ap (λ y. y ∷ drop (i + 1) xs) (get_or_from_slice_get xs i x x e)

@@ -1,5 +1,6 @@
 -- A segment that grows, in a larger region where its own has no room.
 use Rattle.std.specs.Prelude.{◌≡◌, ◌≤◌, ◌<◌, ◌⊎◌, ℕ, ◌+◌, ◌*◌, ◌/◌, ◌%◌, false, Option, Some, None, Result, MatchResult, length, max, min}
+use Rattle.raw_region.specs.Refusals.{refusal_of}
 use Rattle.segment_manager.specs.declared.modes.Mode.{Mode}
 use Rattle.segment_manager.specs.Directory.{Directory}
 use Rattle.segment_manager.specs.blocks.Resized.{Resizes, grown}
@@ -7,17 +8,12 @@ use Rattle.segment_manager.specs.State.{State, StandsFor}
 use Rattle.segment_manager.specs.Step.{is_read_only}
 use Rattle.grow_shrink.specs.declared.larger_region.GrowOrMoveError.{GrowOrMoveError}
 use Rattle.grow_shrink.specs.declared.larger_region.GrowOrMoveError.TheVariants.{Growth, OutOfMemory}
-use Rattle.grow_shrink.specs.declared.larger_region.RegionRefused.{RegionRefused}
 use Rattle.grow_shrink.specs.declared.refusals.GrowError.{GrowError}
 use Rattle.grow_shrink.specs.Resized.{growth_refusal, room_of}
 
 -- the capacity of the region for so many bytes: a multiple of 16 from 176 to 1073741824
 abbrev pub region_len : ℕ → ℕ
 region_len bytes = (max 176 (min bytes 1073741824) + 15) / 16 * 16
-
--- the refusal of a region of so many bytes
-abbrev pub refusal_of : ℕ → RegionRefused
-refusal_of n = record { bytes = n; _made = tt }
 
 -- the first reason not to grow a segment, which is none of its region
 abbrev pub growth_reason : Mode → ℕ → ℕ → Option GrowError

@@ -1,14 +1,14 @@
 //! A segment that grows, in a larger region where its own has no room, and the regions that files and larger segments are
 //! read into.
 ghost use Rattle.std.specs.Prelude.{◌≡◌, ◌≤◌, ◌+◌, length, min, IfErr, IfOk, MatchResult};
-ghost use Rattle.raw_region.specs.{Memory.zeros, Regions.IsCapacity};
+ghost use Rattle.raw_region.specs.{Memory.zeros, Refusals.refusal_of, Regions.IsCapacity};
 ghost use Rattle.segment_manager.specs.State.{IsSegment};
-ghost use Rattle.grow_shrink.specs.LargerRegion.{CopiesWithRoom, GrowsOrMoves, GrowsOrMovesOk, IsShortOfRoom, refusal_of, region_len};
+ghost use Rattle.grow_shrink.specs.LargerRegion.{CopiesWithRoom, GrowsOrMoves, GrowsOrMovesOk, IsShortOfRoom, region_len};
 
 use crate::refusals::GrowError;
 use crate::resizing::grow;
 use block_tags::MAX_SEGMENT_LEN;
-use raw_region::{RawRegion, Window};
+use raw_region::{OutOfMemory, RawRegion, Window};
 use segment_manager::Segment;
 use segment_manager::conditioned::{adopt, extend_end};
 use std::alloc::Global;
@@ -22,7 +22,7 @@ pub enum GrowOrMoveError {
     Growth(GrowError),
     /// The region has no room, and memory for a larger one was refused.
     #[error("out of memory")]
-    OutOfMemory(RegionRefused),
+    OutOfMemory(OutOfMemory),
 }
 
 /// The shortest region that a segment is read into, in bytes: the least size of a segment with a block.
@@ -37,34 +37,18 @@ fn capacity_for(bytes: u64) -> u64
     bytes.clamp(MIN_REGION_LEN, MAX_SEGMENT_LEN).div_ceil(16) * 16
 }
 
-/// Memory for a region was refused. A field is private: only `region_for` makes one, where it asked.
-#[derive(Clone, Copy, Debug, PartialEq, Eq, Error)]
-#[error("out of memory")]
-pub struct RegionRefused {
-    /// How many bytes were asked for.
-    pub bytes: u64,
-    _made: (),
-}
-
 /// Makes a region of zeros with room for a segment of `bytes` bytes, or for the largest segment if these are more.
 ///
 /// # Errors
 ///
 /// If the allocator refuses a region of so many bytes, in whole pieces of 16 and at least 176.
-pub fn region_for(alloc: Global, bytes: u64) -> Result<RawRegion, RegionRefused>
+pub fn region_for(alloc: Global, bytes: u64) -> Result<RawRegion, OutOfMemory>
     ensures bytes { IfOk result (λ region. region ≡ zeros (region_len bytes)) }
     ensures len { IfOk result (λ region. length region ≡ region_len bytes) }
     ensures room { IfOk result (λ region. min bytes 1073741824 ≤ length region) }
     ensures refused { IfErr result (λ refusal. refusal ≡ refusal_of (region_len bytes)) }
 {
-    let capacity = capacity_for(bytes);
-    match RawRegion::new(alloc, capacity) {
-        Ok(region) => Ok(region),
-        Err(_) => Err(RegionRefused {
-            bytes: capacity,
-            _made: (),
-        }),
-    }
+    RawRegion::new(alloc, capacity_for(bytes))
 }
 
 /// Lengthens a segment by `extra` bytes, which are free: a multiple of 16, at least 32. It moves into a larger region if
@@ -121,7 +105,7 @@ fn grown_copy(
     segment: &Segment,
     size: u64,
     extra: u64,
-) -> Result<Segment, RegionRefused>
+) -> Result<Segment, OutOfMemory>
     requires size { size ≡ length segment.now.cut.bytes }
     requires short { IsShortOfRoom segment.now extra }
     ensures moved { IfOk result (λ copy. GrowsOrMovesOk segment.now copy extra) }
@@ -138,7 +122,7 @@ fn grown_copy(
 }
 
 /// Copies a segment to the front of a region of its own with room for `bytes` bytes.
-fn copy_with_room(alloc: Global, segment: &Segment, bytes: u64) -> Result<Segment, RegionRefused>
+fn copy_with_room(alloc: Global, segment: &Segment, bytes: u64) -> Result<Segment, OutOfMemory>
     requires long { length segment.now.cut.bytes ≤ bytes }
     requires few { bytes ≤ 1073741824 }
     ensures copied { IfOk result (λ copy. CopiesWithRoom segment.now copy bytes) }

@@ -135,7 +135,7 @@ grown-run {old} {t} s r =
 pub grows-more : {old mid new : Cut} {p : Place} {each : ℕ} (n : ℕ) {len g : ℕ} {t : Table} {bytes : List ℕ}
     → t.capacity < n → Stands old.bytes p each len t bytes → IsGivenRoom current old mid t.extent (each * n)
     (each * len) g → IsPointed mid new p g n → IsGrown old new p each n len t bytes
-grows-more {old} {mid} {each = each} n {len} {t} {bytes} more s r w =
+grows-more {old} {mid} {new} {p} {each} n {len} {t = t} {bytes} more s r w =
     let l = live_of old.bytes in let y = r.extent in let run = grown-run s r in
     let done = run-headed {k = len} {u = table n (Some y)} run w.change (record {
       link = w.link ∙ ap (λ k. Some k) r.at;

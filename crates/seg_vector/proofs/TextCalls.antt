@@ -67,22 +67,22 @@ cleared {old} {mid} {new} {p} {ps} {t} s r c word =
 
 -- ---- no array
 
-given-up-gaps : {old mid new : Cut} {p : Place} (o : Option Extent) {c : ℕ} {blocks : List Extent}
+given-up-gaps : {old mid new : Cut} {p : Place} (o : Option Extent) (blocks : List Extent) {c : ℕ}
     → IsTextsNow old mid p (option_to_list o ++ blocks) (option_to_list o) [] (table c o)
     → IsGivenBack mid new p 16 (table c o) → option_to_list o ++ blocks ≡ [] → KeepsGaps old new
-given-up-gaps {old} {mid} {new} {p} None x g e =
+given-up-gaps {old} {mid} {new} {p} None blocks x g e =
     let change = subst (λ (xs : List Extent). IsExchanged current old mid (place_at p) 24 xs []) e x.change in
     gaps-trans old mid new (exchanged-live old mid (place_at p) 24 [] [] current change) (x.gaps e) (g.gaps refl)
-given-up-gaps (Some y) x g e = absurd (cc)
+given-up-gaps (Some y) blocks x g e = absurd (cc)
 
-pub given-up-all : {old mid new : Cut} {p : Place} {o : Option Extent} {c : ℕ} {blocks : List Extent}
+pub given-up-all : {old mid new : Cut} {p : Place} {o : Option Extent} (blocks : List Extent) {c : ℕ}
     → IsTextsNow old mid p (option_to_list o ++ blocks) (option_to_list o) [] (table c o)
     → IsGivenBack mid new p 16 (table c o) → IsTextsNow old new p (option_to_list o ++ blocks) [] [] no_table
-given-up-all {old} {mid} {new} {o = o} {blocks = blocks} x g =
+given-up-all {old} {mid} {new} {o = o} blocks x g =
     let arr = option_to_list o in let gone = arr ++ blocks in
     record {
       change = exchange-next _ old mid new _ 24 gone arr arr [] [] (spread-nil arr) x.change g.change;
-      gaps = given-up-gaps o x g;
+      gaps = given-up-gaps o blocks x g;
       texts = none-stands g.stands;
     }
 

@@ -320,11 +320,11 @@ ready-place {now} {n} {loose} q = record {
 
 pub ready-in : {first mid now : Cut} {p : Place} {ps : List OwnedText} {c g : ℕ} (n : ℕ) {o : Option Extent}
     {loose : List Extent} → IsTexts first.bytes p ps (table c o) → IsAsked first mid o (16 * n) g
-    → IsSwapped mid now [] loose → IsReadyRun first now p ps (table c o) g n
-ready-in n {o = None} s (widened w is) since = absurd (cc)
-ready-in n {o = None} s (taken a e) since = ready-place (first-place n s a since)
-ready-in n {o = Some x} s (widened w is) since = ready-place (wide-place n s w is since)
-ready-in {first} n {o = Some x} {loose} s (taken a e) since =
+    → IsSwapped mid now [] loose → (loose ≡ [] → now ≡ mid) → IsReadyRun first now p ps (table c o) g n
+ready-in n {o = None} s (widened w is) since still = absurd (cc)
+ready-in n {o = None} s (taken a e) since still = ready-place (first-place n s a since)
+ready-in n {o = Some x} s (widened w is) since still = ready-place (wide-place n s w is since still)
+ready-in {first} n {o = Some x} {loose} s (taken a e) since still =
     let b = beside s a since in
     record {
       come = loose ++ (a.extent ∷ x ∷ []);
@@ -352,7 +352,7 @@ ready-of {first} {mid} {ps = ps} {t} n {loose} s more a since still = record {
 }
 
 pub ready : {now : Cut} {p : Place} {g n : ℕ} → (r : IsReady now p g n) → IsReadyRun r.first now p r.ps r.t g n
-ready {n} r = ready-in n r.texts r.asked r.since
+ready {n} r = ready-in n r.texts r.asked r.since r.still
 
 -- the words are those that they were
 pub ready-link : {now : Cut} {p : Place} {g n : ℕ} → (r : IsReady now p g n)
@@ -438,8 +438,9 @@ reserved {new} {p} {ps} {t} {n} s more a =
 pub reserved-same : (c : Cut) {p : Place} {ps : List OwnedText} {t : Table} (n : ℕ) → IsTexts c.bytes p ps t
     → n ≤ t.capacity → (w : Table) × (grown_table (live_of c.bytes) 16 n t ≡ Some w)
     × IsTextsNow c c p (option_to_list t.extent) (option_to_list w.extent) ps w
-reserved-same c {t = t} n s f =
-    let same = record { change = (stands-run c (texts-stand s)).change; gaps = λ e. gaps-refl c; texts = s } in
+reserved-same c {p} {ps} {t} n s f =
+    let same : IsTextsNow c c p (option_to_list t.extent) (option_to_list t.extent) ps t =
+    record { change = (stands-run c (texts-stand s)).change; gaps = λ e. gaps-refl c; texts = s } in
     (t, grown-same (live_of c.bytes) 16 n t f, same)
 
 pub too-many-texts : (c : Cut) {p : Place} {ps : List OwnedText} {t : Table} (n : ℕ) → IsTexts c.bytes p ps t

@@ -160,7 +160,7 @@ put-even {now} {p} r =
 module _ {first mid : Cut} {p : Place} {ps : List OwnedText} {t : Table} {g : ℕ} (n : ℕ)
     (s : IsTexts first.bytes p ps t) (a : IsAsked first mid t.extent (16 * n) g) where
   pub asked-run : IsReadyRun first mid p ps t g n
-  asked-run = ready-in n s a (asked-alone a)
+  asked-run = ready-in n s a (asked-alone a) (λ e. refl)
 
   pub asked-link : link_at (bytes_of first.bytes) (place_at p) ≡ link_at (bytes_of mid.bytes) (place_at p)
   asked-link = s.words.link ∙ sym asked-run.run.words.link

@@ -1,7 +1,7 @@
 -- The texts are released, and then the array is given back.
-use Rattle.seg_vector.proofs.{[], given-up-all, stands-none}
+use Rattle.seg_vector.proofs.{[], given-up-all, stands-none, text_blocks}
 use Rattle.seg_vector.proofs.texts.SegTexts.release.Goals as goal
 
 pub returns : goal.returns
 returns c ps t s =
-    let x = c.clear.ensures ps t s in given-up-all x (c.give_back.ensures 0 t [] (stands-none x.texts))
+    let x = c.clear.ensures ps t s in given-up-all (text_blocks ps) x (c.give_back.ensures 0 t [] (stands-none x.texts))

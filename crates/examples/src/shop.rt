@@ -1,4 +1,4 @@
-//! The program of the README: a shop in a file, which the first run makes and each later one opens.
+//! A shop in a file, which the first run makes and each later one opens. Boost: `open_or_create`, `find_or_construct`.
 use anyhow::Result;
 use zaluxhoni::{Disk, Mode, Segment, SegmentFile, named};
 

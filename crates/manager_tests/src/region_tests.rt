@@ -4,7 +4,10 @@ ghost use Rattle.std.specs.Prelude.{◌≡◌, ◌%◌};
 use crate::checks::{done, holds, refusal, same};
 use crate::regions::{are_sevens, reads, region_of_sevens};
 use crate::segments::fresh;
-use image_check::{ImageClass, OpenError, OpenRefused, open, open_bytes, verify};
+use image_check::{
+    ExamineError, ExamineRefused, ImageClass, OpenError, OpenRefused, Verdict, Versions, examine,
+    examine_bytes, open, open_bytes, verify,
+};
 use memory_devices::{Last, MemorySource};
 use raw_region::{RawRegion, Steps};
 use seg_types::Refusal;
@@ -174,6 +177,42 @@ fn a_wrong_image_is_told_and_writes_nothing_beside(rt: HostRuntime) {
     same(&rt, refused.cause, OpenError::Image(ImageClass::BadTag));
     has_sevens_beside(&rt, &refused.region);
     drop(refused);
+}
+
+/// What an examination of an image at 16 in a region of 2048 sevens answers.
+fn examined<R: Abort + AllocGlobal>(rt: &R, image: &[u8]) -> Result<RawRegion, ExamineRefused> {
+    let mut reader = MemorySource::new(image, 7, Last::Ends);
+    let region = region_of_sevens(rt, 2048);
+    examine(rt.alloc(), &mut reader, region, 16, &mut Steps::new())
+}
+
+/// The same of an image that lies in memory.
+fn examined_there<R: Abort + AllocGlobal>(
+    rt: &R,
+    image: &[u8],
+) -> Result<RawRegion, ExamineRefused> {
+    let region = region_of_sevens(rt, 2048);
+    let mut steps = Steps::new();
+    examine_bytes(Versions::All, rt.alloc(), image, region, 16, &mut steps)
+}
+
+#[test]
+fn a_right_image_is_examined(rt: HostRuntime) {
+    let made = fresh(&rt);
+    let image = made.segment.as_bytes();
+    reads(&rt, &done(&rt, examined(&rt, image)), 16, image);
+    reads(&rt, &done(&rt, examined_there(&rt, image)), 16, image);
+    made.ends(&rt);
+}
+
+#[test]
+fn the_place_of_a_wrong_tag_is_told(rt: HostRuntime) {
+    let mut image = [0; 1024];
+    image[..18].copy_from_slice(b"MSEGFILE\x02\0\0\0\0\0\0\0\0\x04");
+    let class = ImageClass::BadTag;
+    let cause = ExamineError::Image(Verdict { class, place: 128 });
+    same(&rt, refusal(&rt, examined(&rt, &image)).cause, cause);
+    same(&rt, refusal(&rt, examined_there(&rt, &image)).cause, cause);
 }
 
 #[test]

@@ -1,14 +1,15 @@
 //! Scripts run by the library's `run` alone: on a machine that is no segment, and on a segment whose writer fails.
-ghost use Rattle.std.specs.Prelude.{◌≡◌, ◌+◌, ◌/◌, ◌%◌, ◌∷◌, [], ℕ, min, length, take};
+ghost use Rattle.std.specs.Prelude.{◌≡◌, ◌+◌, ◌/◌, ◌%◌, ◌==◌, ◌∷◌, [], ℕ, min, length, take};
 ghost use Rattle.std.proofs.Common.{ap, arith, length-take};
 
 use memory_devices::{Last, MemorySink, MemorySource};
 use raw_region::{DeviceFault, RawRegion, Sink, write_all};
-use segment_cli::{Machine, RunFault, Scratch, run};
+use segment_cli::{Answered, End, Machine, RunFault, Scratch, Until, run, serve};
 use segment_manager::{Mode, Segment};
 use std::alloc::{AllocError, Global};
 
-/// A machine that counts the lines, and answers the count and the length of each, as far as 4098.
+/// A machine that counts the lines, and answers the count and the length of each, as far as 4098. It refuses those that
+/// are so long.
 #[derive(Drop)]
 struct Lengths {
     count: u8,
@@ -21,6 +22,8 @@ impl Machine for Lengths {
         let len = min (length line) 4098 in
         (count ∷ len / 256 ∷ len % 256 ∷ [], (count + 1) % 256) };
 
+    ghost refuses = { λ count line. min (length line) 4098 == 4098 };
+
     ghost stands = { λ machine count. machine.count ≡ count };
 
     fn answer<W: Sink>(
@@ -28,17 +31,26 @@ impl Machine for Lengths {
         _scratch: &mut Scratch,
         line: &[u8],
         out: &mut W,
-    ) -> Result<(), DeviceFault> {
+    ) -> Result<Answered, DeviceFault> {
         let len = line.len().min(4098);
         let answer = [self.count, (len / 256) as u8, (len % 256) as u8];
         self.count = self.count.wrapping_add(1);
-        write_all(out, &answer)
+        write_all(out, &answer)?;
+        if len == 4098 {
+            return Ok(Answered::Refused);
+        }
+        Ok(Answered::Done)
     }
 
     ghost long_lines = { λ count line long.
         let same : min (length line) 4098 ≡ min (length (take 4098 line)) 4098 =
         Prim.omega (arith, length-take 4098 line) in
         ap (λ (len : ℕ). (count ∷ len / 256 ∷ len % 256 ∷ [], (count + 1) % 256)) same };
+
+    ghost long_refusals = { λ count line long.
+        let same : min (length line) 4098 ≡ min (length (take 4098 line)) 4098 =
+        Prim.omega (arith, length-take 4098 line) in
+        ap (λ (len : ℕ). len == 4098) same };
 }
 
 const SCRIPT: &[u8] = b"ab\n\ncde\nf";

@@ -4,17 +4,19 @@
 ghost use Rattle.std.specs.Prelude.{◌≡◌, ⊤};
 ghost use Rattle.segment_disk.specs.Events.{nothing_taken};
 
-use raw_region::DeviceFault;
+use raw_region::{DeviceFault, Source};
 use raw_region::stream::{ReadOnce, Reading, Writing};
 use segment_cli::SessionFault;
 use segment_commands::{
     ProgramFault, check, create, draw, draw_page, dump, dump_capacities, dump_json, explain, grow,
-    lint, load, migrate, print, print_language, report, report_file, run, run_strict, shrink, stat,
+    lint, load, migrate, names, print, print_language, report, report_file, run_strict, shrink, stat,
 };
-use segment_disk::{HostDisk, Numbered, Outlet, Output, StopsAtError};
+use segment_disk::{Disk, HostDisk, Numbered, Outlet, Output, StopsAtError, Trouble};
 use segment_invocation::{
-    Answering, Invocation, InvocationFault, ModeName, Saving, VERSION, invocation, is_verbose,
+    Invocation, InvocationFault, Keeping, ModeName, Running, Saving, Script, VERSION, invocation,
+    is_verbose, script_text,
 };
+use segment_lang::{Piece, put_pieces};
 use segment_scripts::command_rows;
 use std::alloc::{AllocError, Global};
 use std::io::{self, BufWriter, ErrorKind, IsTerminal, Read, Write};
@@ -22,6 +24,9 @@ use std::process::ExitCode;
 
 /// Memory for reading the command line, or for the answers, was refused.
 const OUT_OF_MEMORY: ProgramFault = ProgramFault::Session(SessionFault::OutOfMemory);
+
+/// Standard output failed.
+const WRITE_FAULT: ProgramFault = ProgramFault::Session(SessionFault::WriteFault);
 
 /// How many bytes of answers go out at once, at most.
 const PIECE: usize = 65536;
@@ -48,7 +53,7 @@ fn obey(rt: &HostRuntime) -> Result<u8, ProgramFault> {
     let owned = words(rt)?;
     let words = borrowed(rt.alloc(), owned.as_slice()).map_err(|_| OUT_OF_MEMORY)?;
     match invocation(rt.alloc(), words.as_slice()) {
-        Ok(asked) => perform(rt, asked, is_verbose(words.as_slice())),
+        Ok(asked) => perform(rt, &asked, is_verbose(words.as_slice())),
         Err(InvocationFault::Usage(wrong)) => {
             let _ = eprint!(rt; "{wrong}");
             Err(ProgramFault::Usage)
@@ -60,29 +65,97 @@ fn obey(rt: &HostRuntime) -> Result<u8, ProgramFault> {
 /// Does what the command line asks for, with the files of the system, standard input and standard output, and answers
 /// the status. Where a person reads standard error, or more is asked for, it is told behind the line of a fault why the
 /// system did not open or make the file, as far as it said so.
-fn perform(rt: &HostRuntime, asked: Invocation<'_>, is_verbose: bool) -> Result<u8, ProgramFault> {
+fn perform(rt: &HostRuntime, asked: &Invocation<'_>, is_verbose: bool) -> Result<u8, ProgramFault> {
     let Ok(buffer) = BufWriter::with_capacity(rt.alloc(), PIECE, io::writer(rt)) else {
         return Err(OUT_OF_MEMORY);
     };
-    let mut disk = HostDisk::new(rt);
-    let fault = match command(rt, &mut disk, asked, Outlet::new(buffer)) {
+    let mut disk = HostDisk::patient(rt, seconds_of(asked));
+    let mut scripts = HostDisk::new(rt);
+    let out = Outlet::new(buffer);
+    let is_verbose = is_verbose || rt.stderr().is_terminal();
+    let fault = match command(rt, &mut disk, &mut scripts, asked, is_verbose, out) {
         Ok(status) => return Ok(status),
         Err(fault) => fault,
     };
     let status = tell(rt, fault);
-    if is_of_file(fault) && (is_verbose || rt.stderr().is_terminal()) {
-        if let (Some(path), Some(trouble)) = (file_of(asked), disk.trouble()) {
+    if is_of_file(fault) && is_verbose {
+        if let Some((path, trouble)) = trouble_of(asked, &disk, &scripts) {
             report_file(path, trouble, &mut Writing::new(rt.stderr()));
         }
     }
     Ok(status)
 }
 
+/// Checks files one after another, and answers the worst status. Each line that is said of one begins with its path,
+/// which stands there as a text of the language.
+fn check_all<W: Write>(
+    rt: &HostRuntime,
+    disk: &mut HostDisk<'_, HostRuntime>,
+    files: &[&str],
+    is_quiet: bool,
+    is_verbose: bool,
+    out: &mut Outlet<W>,
+) -> Result<u8, ProgramFault> {
+    let mut worst = 0;
+    for file in files {
+        let front = Piece::Text(file.as_bytes());
+        match check(rt.alloc(), disk, file, &mut Outlet::new(io::sink())) {
+            Ok(()) if is_quiet => {}
+            Ok(()) => {
+                let line = [front, Piece::Bytes(b": ok\n")];
+                if put_pieces(out, &line).is_err() {
+                    return Err(WRITE_FAULT);
+                }
+            }
+            Err(fault) => {
+                let _ = put_pieces(
+                    &mut Writing::new(rt.stderr()),
+                    &[front, Piece::Bytes(b": ")],
+                );
+                worst = worst.max(tell(rt, fault));
+                if let (true, Some(trouble)) = (is_verbose, disk.trouble()) {
+                    report_file(file, trouble, &mut Writing::new(rt.stderr()));
+                }
+            }
+        }
+    }
+    match out.flush() {
+        Ok(()) => Ok(worst),
+        Err(_) => Err(WRITE_FAULT),
+    }
+}
+
+/// What the system said of the script that was to be opened, or else of the file, and its path.
+fn trouble_of<'a>(
+    asked: &Invocation<'a>,
+    disk: &HostDisk<'_, HostRuntime>,
+    scripts: &HostDisk<'_, HostRuntime>,
+) -> Option<(&'a str, Trouble)> {
+    match (script_of(asked), scripts.trouble()) {
+        (Some(path), Some(trouble)) => Some((path, trouble)),
+        _ => Some((file_of(asked)?, disk.trouble()?)),
+    }
+}
+
+/// For how many seconds the right to write a file is waited for.
+fn seconds_of(asked: &Invocation<'_>) -> u64 {
+    match asked {
+        Invocation::RunWith(_, _, _, how) => how.keeping.wait,
+        Invocation::GrowWith(_, _, keeping)
+        | Invocation::ShrinkWith(_, keeping)
+        | Invocation::MigrateWith(_, keeping)
+        | Invocation::Load(_, _, keeping) => keeping.wait,
+        _ => 0,
+    }
+}
+
 /// Does what the command line asks for, and answers the status.
 fn command<W: Write + Drop>(
     rt: &HostRuntime,
     disk: &mut HostDisk<'_, HostRuntime>,
-    asked: Invocation<'_>,
+    scripts: &mut HostDisk<'_, HostRuntime>,
+    asked: &Invocation<'_>,
+    is_verbose: bool,
     out: Outlet<W>,
 ) -> Result<u8, ProgramFault>
     requires { out.history ≡ nothing_taken }
@@ -90,15 +163,33 @@ fn command<W: Write + Drop>(
     let alloc = rt.alloc();
     let mut out = out;
     let answer = match asked {
-        Invocation::Create(file, size) => create(alloc, disk, file, size),
-        Invocation::Run(file, mode, size, saving, answering) => {
-            answer(rt, disk, file, mode, size, saving, answering, out)?;
+        Invocation::Create(file, size) => create(alloc, disk, file, *size),
+        Invocation::Run(file, mode, size) => {
+            let run = Run { file, mode: *mode, size: *size };
+            answer(rt, disk, scripts, run, &Running::PLAIN, out)?;
+            return Ok(0);
+        }
+        Invocation::RunWith(file, mode, size, how) => {
+            let run = Run { file, mode: *mode, size: *size };
+            answer(rt, disk, scripts, run, how, out)?;
             return Ok(0);
         }
         Invocation::Check(file) => check(alloc, disk, file, &mut out),
-        Invocation::Grow(file, bytes) => grow(alloc, disk, file, bytes, &mut out),
-        Invocation::Shrink(file) => shrink(alloc, disk, file, &mut out),
-        Invocation::Migrate(file) => migrate(alloc, disk, file, &mut out),
+        Invocation::CheckAll(files, is_quiet) => {
+            return check_all(rt, disk, files.as_slice(), *is_quiet, is_verbose, &mut out);
+        }
+        Invocation::Grow(file, bytes) => grow(alloc, disk, file, *bytes, Saving::InPlace, &mut out),
+        Invocation::GrowWith(file, bytes, keeping) => {
+            grow(alloc, disk, file, *bytes, keeping.saving, &mut out)
+        }
+        Invocation::Shrink(file) => shrink(alloc, disk, file, Saving::InPlace, &mut out),
+        Invocation::ShrinkWith(file, keeping) => {
+            shrink(alloc, disk, file, keeping.saving, &mut out)
+        }
+        Invocation::Migrate(file) => migrate(alloc, disk, file, Saving::InPlace, &mut out),
+        Invocation::MigrateWith(file, keeping) => {
+            migrate(alloc, disk, file, keeping.saving, &mut out)
+        }
         Invocation::Explain(file) => explain(alloc, disk, file, &mut out),
         Invocation::Stat(file) => stat(alloc, disk, file, &mut out),
         Invocation::Draw(file) => draw(alloc, disk, file, &mut out),
@@ -106,8 +197,12 @@ fn command<W: Write + Drop>(
         Invocation::Dump(file) => dump(alloc, disk, file, &mut out),
         Invocation::DumpCapacities(file) => dump_capacities(alloc, disk, file, &mut out),
         Invocation::DumpJson(file) => dump_json(alloc, disk, file, &mut out),
-        Invocation::Load(file, size) => {
-            load(alloc, disk, file, size, &mut Reading::new(rt.reader()))
+        Invocation::Names(file, prefix, most) => {
+            names(alloc, disk, file, prefix, most.unwrap_or(u64::MAX), &mut out)
+        }
+        Invocation::Load(file, size, keeping) => {
+            let mut text = Reading::new(rt.reader());
+            load(alloc, disk, file, *size, keeping.saving, &mut text)
         }
         Invocation::Lint => lint(command_rows(), &mut Reading::new(rt.reader()), &mut out),
         Invocation::Language => print_language(&mut out, command_rows()),
@@ -121,7 +216,7 @@ fn command<W: Write + Drop>(
 }
 
 /// Whether a command says nothing where the reader of standard output ended first, as other tools have it.
-fn ends_quietly(asked: Invocation<'_>) -> bool {
+fn ends_quietly(asked: &Invocation<'_>) -> bool {
     matches!(
         asked,
         Invocation::Explain(_)
@@ -131,61 +226,93 @@ fn ends_quietly(asked: Invocation<'_>) -> bool {
             | Invocation::Dump(_)
             | Invocation::DumpCapacities(_)
             | Invocation::DumpJson(_)
+            | Invocation::Names(_, _, _)
             | Invocation::Lint
             | Invocation::Language
     )
 }
 
-/// Runs the script of standard input, and gives its answers to an output that makes of them what is wanted.
+/// The run that is asked for, as far as no option of its own says more.
+#[derive(Clone, Copy)]
+struct Run<'a> {
+    file: &'a str,
+    mode: ModeName,
+    size: Option<u64>,
+}
+
+/// Runs the script that is asked for, and gives its answers to an output.
 fn answer<O: Output + Drop>(
     rt: &HostRuntime,
     disk: &mut HostDisk<'_, HostRuntime>,
-    file: &str,
-    mode: ModeName,
-    size: Option<u64>,
-    saving: Saving,
-    answering: Answering,
+    scripts: &mut HostDisk<'_, HostRuntime>,
+    run: Run<'_>,
+    how: &Running<'_>,
     out: O,
 ) -> Result<(), ProgramFault>
     requires { O.history out ≡ nothing_taken }
 {
-    if answering.numbered {
-        let numbered = Numbered::new(out);
-        return answer_as(
-            rt,
-            disk,
-            file,
-            mode,
-            size,
-            saving,
-            answering.strict,
-            numbered,
-        );
+    match &how.script {
+        Script::Input => {
+            let mut script = Reading::new(Prompted::new(rt, rt.reader()));
+            answer_script(rt, disk, run, how, &mut script, out)
+        }
+        Script::File(path) => {
+            let Ok(opened) = scripts.open(path) else {
+                return Err(ProgramFault::Session(SessionFault::ReadFault));
+            };
+            let mut script = opened.reader;
+            answer_script(rt, disk, run, how, &mut script, out)
+        }
+        Script::Lines(lines) => {
+            let text = script_text(rt.alloc(), lines.as_slice()).map_err(|_| OUT_OF_MEMORY)?;
+            let mut script = Reading::new(text.as_slice());
+            answer_script(rt, disk, run, how, &mut script, out)
+        }
     }
-    answer_as(rt, disk, file, mode, size, saving, answering.strict, out)
+}
+
+/// Runs a script, and gives its answers to an output that makes of them what is wanted.
+fn answer_script<S: Source, O: Output + Drop>(
+    rt: &HostRuntime,
+    disk: &mut HostDisk<'_, HostRuntime>,
+    run: Run<'_>,
+    how: &Running<'_>,
+    script: &mut S,
+    out: O,
+) -> Result<(), ProgramFault>
+    requires script { (S.history script.old).failures ≡ 0 }
+    requires out { O.history out ≡ nothing_taken }
+{
+    if how.answering.numbered {
+        return answer_as(rt, disk, run, how, script, Numbered::new(out));
+    }
+    answer_as(rt, disk, run, how, script, out)
 }
 
 /// The same to an output as it is, or up to the first error.
-fn answer_as<O: Output + Drop>(
+fn answer_as<S: Source, O: Output + Drop>(
     rt: &HostRuntime,
     disk: &mut HostDisk<'_, HostRuntime>,
-    file: &str,
-    mode: ModeName,
-    size: Option<u64>,
-    saving: Saving,
-    is_strict: bool,
+    run: Run<'_>,
+    how: &Running<'_>,
+    script: &mut S,
     out: O,
 ) -> Result<(), ProgramFault>
-    requires { O.history out ≡ nothing_taken }
+    requires script { (S.history script.old).failures ≡ 0 }
+    requires out { O.history out ≡ nothing_taken }
 {
     let alloc = rt.alloc();
-    let mut script = Reading::new(Prompted::new(rt, rt.reader()));
-    if is_strict {
+    let saving = how.keeping.saving;
+    if how.answering.strict {
         let mut out = StopsAtError::new(out);
-        return run_strict(alloc, disk, file, mode, size, saving, &mut script, &mut out);
+        return run_strict(
+            alloc, disk, run.file, run.mode, run.size, saving, script, &mut out,
+        );
     }
     let mut out = out;
-    run(alloc, disk, file, mode, size, saving, &mut script, &mut out)
+    segment_commands::run(
+        alloc, disk, run.file, run.mode, run.size, saving, script, &mut out,
+    )
 }
 
 /// The script of standard input. Where a person types it, and reads standard error, they are prompted for each line.
@@ -217,24 +344,43 @@ impl<'a, R: Read> ReadOnce for Prompted<'a, R> {
     }
 }
 
-/// The file that the command line names, if there is one.
-fn file_of<'a>(asked: Invocation<'a>) -> Option<&'a str> {
+/// The file with the script that the command line names, if there is one.
+fn script_of<'a>(asked: &Invocation<'a>) -> Option<&'a str> {
+    match asked {
+        Invocation::RunWith(_, _, _, how) => match how.script {
+            Script::File(path) => Some(path),
+            Script::Input | Script::Lines(_) => None,
+        },
+        _ => None,
+    }
+}
+
+/// The file that the command line names, if there is one alone.
+fn file_of<'a>(asked: &Invocation<'a>) -> Option<&'a str> {
     match asked {
         Invocation::Create(file, _)
-        | Invocation::Run(file, _, _, _, _)
+        | Invocation::Run(file, _, _)
+        | Invocation::RunWith(file, _, _, _)
         | Invocation::Check(file)
         | Invocation::Explain(file)
         | Invocation::Grow(file, _)
+        | Invocation::GrowWith(file, _, _)
         | Invocation::Shrink(file)
+        | Invocation::ShrinkWith(file, _)
         | Invocation::Migrate(file)
+        | Invocation::MigrateWith(file, _)
         | Invocation::Stat(file)
         | Invocation::Draw(file)
         | Invocation::DrawPage(file)
         | Invocation::Dump(file)
         | Invocation::DumpCapacities(file)
         | Invocation::DumpJson(file)
-        | Invocation::Load(file, _) => Some(file),
-        Invocation::Lint | Invocation::Language | Invocation::Version => None,
+        | Invocation::Names(file, _, _)
+        | Invocation::Load(file, _, _) => Some(*file),
+        Invocation::CheckAll(_, _)
+        | Invocation::Lint
+        | Invocation::Language
+        | Invocation::Version => None,
     }
 }
 

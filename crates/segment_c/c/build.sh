@@ -32,16 +32,17 @@ cp "$here"/zaluxhoni/*.py "$here/zaluxhoni/py.typed" zaluxhoni
 "$cc" -std=c11 -O2 -fPIC -Wall -Wextra -fvisibility=hidden -c -o heap.o "$here/heap.c"
 "$cc" -std=c11 -O2 -fPIC -Wall -Wextra -c -o files.o "$here/files.c"
 "$cc" -std=c11 -O2 -fPIC -Wall -Wextra -c -o rows.o "$here/rows.c"
+"$cc" -std=c11 -O2 -fPIC -Wall -Wextra -c -o python.o "$here/python.c"
 "$cc" -std=c11 -O2 -fPIC -Wall -Wextra ${ZX_STATE:+"-DZX_STATE=\"$ZX_STATE\""} -c -o state.o "$here/state.c"
 cp "$archive" libzaluxhoni.a
 chmod u+w libzaluxhoni.a
-"$ar" rs libzaluxhoni.a heap.o files.o rows.o state.o
+"$ar" rs libzaluxhoni.a heap.o files.o rows.o python.o state.o
 
 # the shared object shows the calls of the header and nothing else
 printf '{ global: zx_*; local: *; };\n' > shown.map
 "$cc" -shared -pthread -o libzaluxhoni.so -Wl,-soname,libzaluxhoni.so -Wl,--version-script=shown.map \
     -Wl,--whole-archive libzaluxhoni.a -Wl,--no-whole-archive
-rm heap.o files.o rows.o state.o shown.map
+rm heap.o files.o rows.o python.o state.o shown.map
 
 for file in "$here"/examples/*; do
     name=$(basename "$file")

@@ -5,6 +5,7 @@
 #include <errno.h>
 #include <fcntl.h>
 #include <inttypes.h>
+#include <limits.h>
 #include <pthread.h>
 #include <stdio.h>
 #include <stdlib.h>
@@ -25,11 +26,12 @@ struct zx_held_file {
     uint8_t *at;               /* the mapping, of `len` bytes */
     uint64_t len;
     pid_t owner;               /* the process that opened it */
-    int folder;                /* where the name stands */
+    int folder;                /* where the name stands; of a mapped file that existed AT_FDCWD, and its name is a path */
     int file;                  /* with its lock; -1 if none exists under the name */
     bool is_read;              /* mapped and not changed: others may map it too */
     bool is_new;               /* created and never saved */
     bool is_unsynced;          /* saved, but the folder was not synced */
+    bool is_uncut;             /* mapped, and longer than its image since it could not be cut */
     uint64_t saved;            /* the changes of the segment when the file had its image */
     char name[];               /* leads through no link */
 };
@@ -306,16 +308,36 @@ static zx_code judge(zx_file *file, const struct stat *found) {
 }
 
 /* What exists at the path, for a call that opens. ZX_FILE_MISSING only if nothing does. */
-static zx_code look(zx_file *file, const char *path) {
+static zx_code look(zx_file *file, const char *path, bool *is_link) {
     struct stat found;
-    if (stat(path, &found) == 0) return judge(file, &found);
-    if (errno != ENOENT) return fault(file);
-    return faulty(file, lstat(path, &found) == 0 && S_ISLNK(found.st_mode) ? ZX_FILE_DANGLES : ZX_FILE_MISSING, ENOENT);
+    if (lstat(path, &found) != 0) return errno == ENOENT ? faulty(file, ZX_FILE_MISSING, ENOENT) : fault(file);
+    *is_link = S_ISLNK(found.st_mode);
+    if (*is_link && stat(path, &found) != 0)
+        return errno == ENOENT ? faulty(file, ZX_FILE_DANGLES, ENOENT) : fault(file);
+    return judge(file, &found);
+}
+
+/* Keeps the path, which nobody asks for once the file is open. */
+static zx_code keep(const char *path, struct zx_held_file **found) {
+    struct zx_held_file *held = calloc(1, sizeof *held + strlen(path) + 1);
+    if (!held) return ZX_NO_MEMORY;
+    strcpy(held->name, path);
+    held->owner = getpid();
+    held->file = -1;
+    held->folder = AT_FDCWD;
+    enlist(held);
+    *found = held;
+    return ZX_DONE;
+}
+
+static const char *last_name(const char *path) {
+    const char *slash = strrchr(path, '/');
+    return slash ? slash + 1 : path;
 }
 
 /* Opens the folder of a path, and keeps its last name. */
 static zx_code find(zx_file *file, const char *path, struct zx_held_file **found) {
-    const char *slash = strrchr(path, '/'), *name = slash ? slash + 1 : path;
+    const char *name = last_name(path);
     size_t len = strlen(name), before = (size_t)(name - path);
     if (len == 0) return faulty(file, before ? ZX_FILE_FOLDER : ZX_FILE_MISSING, before ? EISDIR : ENOENT);
     struct zx_held_file *held = calloc(1, sizeof *held + len + 1);
@@ -342,49 +364,59 @@ static zx_code find(zx_file *file, const char *path, struct zx_held_file **found
 
 /* ---- the right to write */
 
+/* Removes what one that was killed left beside the file. */
+static void remove_spare(const struct zx_held_file *held) {
+    const char *name = last_name(held->name);
+    size_t before = (size_t)(name - held->name);
+    char spare[PATH_MAX + 40];
+    if (before >= PATH_MAX) return;
+    memcpy(spare, held->name, before);
+    spare_name(spare + before, name);
+    unlinkat(held->folder, spare, 0);
+}
+
 /* Opens and locks the file of a name that was found. AGAIN if the name meanwhile leads to another one. */
-static zx_code lock(zx_file *file, struct zx_held_file *held) {
-    struct stat opened;
+static zx_code lock(zx_file *file, struct zx_held_file *held, struct stat *opened) {
     int how = held->is_read ? O_RDONLY : O_RDWR;
     held->file = openat(held->folder, held->name, how | O_NOFOLLOW | O_NONBLOCK | O_NOCTTY | O_CLOEXEC);
     if (held->file < 0) return errno == ENOENT || errno == ELOOP ? (zx_code)AGAIN : fault(file);
-    if (fstat(held->file, &opened) != 0) return fault(file);
-    zx_code code = judge(file, &opened);
-    if (code != ZX_DONE) return code;
     // a file system without locks refuses nobody
     how = held->is_read ? LOCK_SH : LOCK_EX;
-    if (flock(held->file, how | LOCK_NB) != 0 && errno == EWOULDBLOCK) return faulty(file, ZX_FILE_IN_USE, errno);
-    if (!leads_to(held->folder, held->name, &opened)) return AGAIN;
-    // what one that was killed left beside it
-    char spare[40];
-    spare_name(spare, held->name);
-    if (!held->is_read) unlinkat(held->folder, spare, 0);
+    bool is_refused = flock(held->file, how | LOCK_NB) != 0 && errno == EWOULDBLOCK;
+    if (fstat(held->file, opened) != 0) return fault(file);
+    zx_code code = judge(file, opened);
+    if (code != ZX_DONE) return code;
+    if (is_refused) return faulty(file, ZX_FILE_IN_USE, EWOULDBLOCK);
+    if (!leads_to(held->folder, held->name, opened)) return AGAIN;
+    if (!held->is_read) remove_spare(held);
     return ZX_DONE;
 }
 
-/* Finds what the mode wants: the file, locked; or, if it is to be created, its folder and name. */
-static zx_code hold_once(zx_file *file, const char *path, uint32_t mode, struct zx_held_file **held) {
-    struct stat found;
-    if (mode == ZX_CREATE_ONLY && lstat(path, &found) == 0) return faulty(file, ZX_FILE_EXISTS, EEXIST);
-    zx_code code = look(file, path);
+/* Finds what the mode wants: the file, locked, and what it is; or, if it is to be created, its folder and name. */
+static zx_code hold_once(zx_file *file, const char *path, uint32_t mode, bool is_mapped, struct zx_held_file **held,
+                         struct stat *found) {
+    bool is_link = false;
+    if (mode == ZX_CREATE_ONLY && lstat(path, found) == 0) return faulty(file, ZX_FILE_EXISTS, EEXIST);
+    zx_code code = look(file, path, &is_link);
     if (code == ZX_FILE_MISSING && mode != ZX_OPEN_ONLY && mode < ZX_OPEN_READ_ONLY) return find(file, path, held);
     if (code != ZX_DONE) return code;
     if (mode == ZX_CREATE_ONLY) return AGAIN;
-    char *real = realpath(path, NULL);
-    if (!real) return errno == ENOENT ? (zx_code)AGAIN : errno == ENOMEM ? (zx_code)ZX_NO_MEMORY : fault(file);
-    code = find(file, real, held);
+    char *real = is_link ? realpath(path, NULL) : NULL;
+    if (is_link && !real) return errno == ENOENT ? (zx_code)AGAIN : errno == ENOMEM ? (zx_code)ZX_NO_MEMORY : fault(file);
+    code = is_mapped ? keep(real ? real : path, held) : find(file, real ? real : path, held);
     free(real);
     if (code == ZX_FILE_MISSING) return AGAIN;
     if (code != ZX_DONE) return code;
     (*held)->is_read = mode >= ZX_OPEN_READ_ONLY;
-    code = lock(file, *held);
+    code = lock(file, *held, found);
     if (code != ZX_DONE) release(*held);
     return code;
 }
 
-static zx_code hold(zx_file *file, const char *path, uint32_t mode, struct zx_held_file **held) {
+static zx_code hold(zx_file *file, const char *path, uint32_t mode, bool is_mapped, struct zx_held_file **held,
+                    struct stat *found) {
     for (int tries = 0; tries < TRIES; tries++) {
-        zx_code code = hold_once(file, path, mode, held);
+        zx_code code = hold_once(file, path, mode, is_mapped, held, found);
         if (code != AGAIN) return code;
     }
     return faulty(file, ZX_FILE_IN_USE, EWOULDBLOCK);
@@ -442,15 +474,14 @@ static uint64_t size_said(const uint8_t *image) {
     return size;
 }
 
+static zx_code map_anew(zx_file *file, struct zx_held_file *held, uint32_t how);
+
 /* Maps the file, and opens its segment where it stands. */
-static zx_code map(zx_file *file, struct zx_held_file *held, uint32_t how) {
-    struct stat found;
-    zx_close(&file->segment);
-    if (fstat(held->file, &found) != 0) return fault(file);
-    uint64_t len = (uint64_t)found.st_size;
+static zx_code map(zx_file *file, struct zx_held_file *held, const struct stat *found, uint32_t how) {
+    uint64_t len = (uint64_t)found->st_size;
     // no segment has such a size, so the bytes are refused
     if (len == 0 || len % 16 != 0) return read_segment(file, held->file, how);
-    if (how == ZX_WRITE && !allot(held->file, &found, len)) return fault(file);
+    if (how == ZX_WRITE && !allot(held->file, found, len)) return fault(file);
     int protection = how == ZX_READ ? PROT_READ : PROT_READ | PROT_WRITE;
     void *at = mmap(NULL, len, protection, how == ZX_WRITE ? MAP_SHARED : MAP_PRIVATE, held->file, 0);
     if (at == MAP_FAILED) return fault(file);
@@ -464,7 +495,7 @@ static zx_code map(zx_file *file, struct zx_held_file *held, uint32_t how) {
     bool is_cut = is_longer && how == ZX_WRITE;
     if (is_cut) zx_close(&file->segment);
     if (code != ZX_DONE || is_cut) munmap(at, len);
-    if (is_cut) return cut(held->file, said) ? map(file, held, how) : fault(file);
+    if (is_cut) return cut(held->file, said) ? map_anew(file, held, how) : fault(file);
     if (code != ZX_DONE) return code;
     held->mapped = &file->segment;
     // it stands under its name with all changes, also where it is never flushed
@@ -473,14 +504,27 @@ static zx_code map(zx_file *file, struct zx_held_file *held, uint32_t how) {
     return ZX_DONE;
 }
 
+/* Maps a file that is new, or was cut. */
+static zx_code map_anew(zx_file *file, struct zx_held_file *held, uint32_t how) {
+    struct stat found;
+    return fstat(held->file, &found) == 0 ? map(file, held, &found, how) : fault(file);
+}
+
 /* Ends the mapping. A file that could not be cut before is tried once more. */
 static void unmap(zx_file *file, struct zx_held_file *held) {
     uint64_t size;
-    bool is_written = !held->is_read && file->segment.lent && zx_size(&file->segment, &size) == ZX_DONE;
+    bool is_long = !held->is_read && file->segment.lent && zx_size(&file->segment, &size) == ZX_DONE &&
+                   (size != held->len || held->is_uncut);
     zx_close(&file->segment);
     if (held->owner != getpid()) return;
     munmap(held->at, held->len);
-    if (is_written && !cut(held->file, size)) cut(held->file, size);
+    if (is_long && !cut(held->file, size)) cut(held->file, size);
+}
+
+/* Makes a mapped file as long as its image, and notes where it is not. */
+static bool cut_mapped(struct zx_held_file *held, uint64_t size) {
+    held->is_uncut = !cut(held->file, size);
+    return !held->is_uncut;
 }
 
 /* Makes the mapping as long as is wanted, around an image that fits into it, and the file too. The segment stays
@@ -490,7 +534,7 @@ static zx_code remap(zx_file *file, struct zx_held_file *held, uint64_t size, ui
     struct stat found;
     if (wanted > held->len && (fstat(held->file, &found) != 0 || !allot(held->file, &found, wanted))) {
         zx_code code = fault(file);
-        cut(held->file, size);
+        cut_mapped(held, size);
         return code;
     }
     zx_detach(&file->segment, &memory);
@@ -503,7 +547,7 @@ static zx_code remap(zx_file *file, struct zx_held_file *held, uint64_t size, ui
     }
     zx_code code = attach(file, held, size, ZX_WRITE);
     if (code == ZX_DONE && !is_done) code = faulty(file, ZX_FILE_FAULT, error);
-    if ((code != ZX_DONE || wanted == size) && !cut(held->file, size) && code == ZX_DONE) code = fault(file);
+    if ((code != ZX_DONE || wanted == size) && !cut_mapped(held, size) && code == ZX_DONE) code = fault(file);
     return code;
 }
 
@@ -563,7 +607,8 @@ zx_code zx_file_flush(zx_file *file) {
 }
 
 static zx_code open_unheld(zx_file *file, const char *path, uint32_t how) {
-    zx_code code = look(file, path);
+    bool is_link;
+    zx_code code = look(file, path, &is_link);
     if (code != ZX_DONE) return code;
     int from = open(path, O_RDONLY | O_NONBLOCK | O_NOCTTY | O_CLOEXEC);
     if (from < 0) return fault(file);
@@ -591,17 +636,24 @@ static zx_code make_empty(zx_file *file, struct zx_held_file *held, uint64_t siz
     return code;
 }
 
+/* Opens the segment of the file that is held, and is what was found; or creates both. */
+static zx_code open_found(zx_file *file, struct zx_held_file *held, const struct stat *found, uint32_t how,
+                          uint64_t size, bool is_mapped) {
+    if (held->file >= 0) return is_mapped ? map(file, held, found, how) : read_segment(file, held->file, how);
+    zx_code code = make_empty(file, held, size);
+    if (code != ZX_DONE || !is_mapped) return code;
+    zx_close(&file->segment);
+    return map_anew(file, held, how);
+}
+
 static zx_code open_held(zx_file *file, const char *path, uint32_t mode, uint64_t size, bool is_mapped) {
     uint32_t how = mode == ZX_OPEN_READ_ONLY ? ZX_READ : mode == ZX_OPEN_COPY_ON_WRITE ? ZX_COPY_ON_WRITE : ZX_WRITE;
     for (int tries = 0; tries < TRIES; tries++) {
         struct zx_held_file *held;
-        zx_code code = hold(file, path, mode, &held);
+        struct stat found;
+        zx_code code = hold(file, path, mode, is_mapped, &held, &found);
         if (code != ZX_DONE) return code;
-        if (held->file < 0)
-            code = make_empty(file, held, size);
-        else if (!is_mapped)
-            code = read_segment(file, held->file, ZX_WRITE);
-        if (code == ZX_DONE && is_mapped) code = map(file, held, how);
+        code = open_found(file, held, &found, how, size, is_mapped);
         if (code == ZX_DONE) {
             held->saved = file->segment.changes;
             file->held = held;
@@ -702,7 +754,8 @@ static bool is_one_name(const struct zx_held_file *held, const struct zx_held_fi
 static zx_code put(zx_file *file, const char *path, uint32_t mode, const struct image *image) {
     for (int tries = 0; tries < TRIES; tries++) {
         struct zx_held_file *held;
-        zx_code code = hold(file, path, mode, &held);
+        struct stat found;
+        zx_code code = hold(file, path, mode, false, &held, &found);
         if (code != ZX_DONE) return code;
         if (mode != ZX_CREATE_ONLY && is_one_name(file->held, held)) {
             // its own file was there, and is not any more

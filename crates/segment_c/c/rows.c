@@ -120,42 +120,9 @@ zx_code zx_read_names(zx_segment *segment, uint64_t first, zx_info *infos, zx_va
     return ZX_DONE;
 }
 
-/* ---- one number */
-
 uint64_t zx_thread(void) {
     static atomic_uint_fast64_t threads;
     static _Thread_local uint64_t own;
     if (!own) own = atomic_fetch_add(&threads, 1) + 1;
     return own;
-}
-
-static bool is_here(const zx_place *place) { return !place->thread || place->thread == zx_thread(); }
-
-int64_t zx_map_at(const zx_place *place, int32_t at) {
-    zx_value key = zx_i32(at), value;
-    if (!is_here(place) || zx_map_get(place->segment, &place->key, &key, &value)) return ZX_NO_NUMBER;
-    return word_in(&value);
-}
-
-int64_t zx_element_at(const zx_place *place, int32_t index) {
-    zx_value value;
-    if (index < 0 || !is_here(place)) return ZX_NO_NUMBER;
-    return zx_get(place->segment, &place->key, (uint64_t)index, &value) ? ZX_NO_NUMBER : word_in(&value);
-}
-
-zx_code zx_put_at(const zx_place *place, int32_t at, int32_t number) {
-    zx_value key = zx_i32(at), value = zx_i32(number);
-    bool is_new;
-    return is_here(place) ? zx_map_put(place->segment, &place->key, &key, &value, &is_new) : (zx_code)ZX_CLOSED;
-}
-
-zx_code zx_push_number(const zx_place *place, int32_t number) {
-    zx_value value = zx_i32(number);
-    return is_here(place) ? zx_push(place->segment, &place->key, &value) : (zx_code)ZX_CLOSED;
-}
-
-zx_code zx_set_at(const zx_place *place, int32_t index, int32_t number) {
-    zx_value value = zx_i32(number);
-    if (index < 0) return ZX_OUT_OF_RANGE;
-    return is_here(place) ? zx_set(place->segment, &place->key, (uint64_t)index, &value) : (zx_code)ZX_CLOSED;
 }

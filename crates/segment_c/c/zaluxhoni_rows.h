@@ -43,28 +43,22 @@ zx_code zx_push_texts(zx_segment *segment, const zx_key *key, uint64_t first, co
 zx_code zx_read_names(zx_segment *segment, uint64_t first, zx_info *infos, zx_value *values, uint8_t *names,
                       size_t room, size_t count, size_t *read);
 
-/* ---- one small number: where an object is found, and by whom */
-
-/* An object of a segment; `thread` is what zx_thread says on the one that may use it, or 0 for any. */
-typedef struct {
-    zx_segment *segment;
-    uint64_t thread;
-    zx_key key;
-} zx_place;
-
-/* What zx_map_at and zx_element_at return if they have no number, and by chance if they have just this one. */
-#define ZX_NO_NUMBER (-INT64_C(0x5A415855584F4E49))
+/* ---- objects of CPython's, for the package for Python */
 
 /* A number for this thread that no other one has, also after its end: 1 or more. */
 uint64_t zx_thread(void);
 
-/* zx_map_get, zx_get, zx_map_put, zx_push and zx_set for a number of 32 bits that is no truth. If zx_map_get or zx_get
-   is refused there is no number; on another thread neither, or ZX_CLOSED. */
-int64_t zx_map_at(const zx_place *place, int32_t at);
-int64_t zx_element_at(const zx_place *place, int32_t index);
-zx_code zx_put_at(const zx_place *place, int32_t at, int32_t number);
-zx_code zx_push_number(const zx_place *place, int32_t number);
-zx_code zx_set_at(const zx_place *place, int32_t index, int32_t number);
+/* A function `at` of Python's over an object of the segment, which keeps `owner`, as long as segment and name are there;
+   null in a process without CPython. `kind` is the kind that the object has, and `thread` what zx_thread says on the
+   one that may call it, or 0 for any. at(place) gives the value of a map at a key, or the element at an index;
+   at(place, value) puts a value there and gives True; at(-1, value) puts one behind the last element of a vector. They
+   take an int, or a bool for a truth; where the call of zaluxhoni.h would be refused, and on another thread, they give
+   None, and nothing has changed. */
+void *zx_python_at(zx_segment *segment, const zx_key *key, uint32_t kind, uint64_t thread, void *owner);
+
+/* Puts the first `count` values of a list of Python's side by side into a row of a kind of scalars, and says whether
+   each was of the kind: an int, or a bool for a truth. False in a process without CPython. */
+bool zx_python_row(void *list, uint32_t kind, void *row, size_t count);
 
 #ifdef __cplusplus
 }

@@ -13,12 +13,16 @@ use Rattle.segment_cli.specs.declared.faults.SessionFault.TheVariants.{Image as 
 use Rattle.segment_cli.specs.declared.faults.SessionFault.TheVariants.{BadSize, OutOfMemory, ReadFault, WriteFault}
 use Rattle.segment_cli.specs.Session.{Traffic, KeepsZeros, Saves, IsSizeRefused, IsTooSmall, IsDone, IsImageUnwritten}
 use Rattle.segment_cli.specs.Beginning.{Starts, IsBegun, IsWhyNotBegun, run_fault}
+use Rattle.segment_cli.specs.Serving.{IsServed}
 use Rattle.segment_cli.specs.{declared.faults.SessionFault.SessionFault, Session.IsRefusedBefore, Session.AnswersFault}
 use Rattle.segment_cli.specs.{Session.IsSession, declared.faults.Start.Start, declared.faults.Start.TheVariants.Image}
 use Rattle.segment_scripts.specs.declared.faults.RunFault.TheVariants.{ReadFault as ScriptNotRead}
 use Rattle.segment_scripts.specs.declared.faults.RunFault.TheVariants.{WriteFault as AnswerNotWritten}
 use Rattle.segment_scripts.specs.declared.faults.RunFault.TheVariants.{ScriptTooLong as TooLong}
-use Rattle.segment_scripts.specs.{declared.faults.RunFault.RunFault, Run.run, Leaves.Leaves, Leaves.LeavesFault}
+use Rattle.segment_scripts.specs.declared.ends.End.{End}
+use Rattle.segment_scripts.specs.declared.ends.End.TheVariants.{Whole, Refused as StoppedEarly}
+use Rattle.segment_scripts.specs.declared.ends.Until.TheVariants.{End as ToTheEnd}
+use Rattle.segment_scripts.specs.{declared.faults.RunFault.RunFault, Run.run, Leaves.LeavesFault}
 use Rattle.segment_scripts.specs.{Leaves.RunsWhole, Segments.Place, Segments.IsAt, Segments.answer_line}
 use Rattle.segment_scripts.proofs.Laws.{none_failed}
 use Rattle.segment_cli.proofs.SessionLaws.{place, stands_done, prints_done, done, script_unread, answer_unwritten}
@@ -65,17 +69,12 @@ pub at_first : (mode : Mode) (d : Directory) (s : State) → s.mode ≡ mode →
     → IsAt s (first mode d)
 at_first mode d s is stands = record { mode = is; denotes = stands; zeros = λ e. absurd (cc) }
 
--- what a run leaves, by what it answered
-module _ (s s' : State) (script : Given) (out : Taken) (ran : Result (Unit {0}) RunFault)
-    (leaves : (at : Place) → IsAt s at → Leaves answer_line at script out ran (IsAt s')) where
-  pub whole_by : (u : Unit {0}) → ran ≡ Ok u → (at : Place) → IsAt s at → RunsWhole answer_line at script out (IsAt s')
-  whole_by u is at there =
-      subst (λ (r : Result (Unit {0}) RunFault). Leaves answer_line at script out r (IsAt s')) is (leaves at there)
-
-  pub stopped_by : (fault : RunFault) → ran ≡ Err fault → (at : Place) → IsAt s at
-      → LeavesFault answer_line at script out fault (IsAt s')
-  stopped_by fault is at there =
-      subst (λ (r : Result (Unit {0}) RunFault). Leaves answer_line at script out r (IsAt s')) is (leaves at there)
+-- a run to the end of its script executed all of it
+pub served : (s s' : State) (script : Given) (out : Taken) (end : End) → IsServed ToTheEnd s s' script out end
+    → (at : Place) → IsAt s at → RunsWhole answer_line at script out (IsAt s')
+served s s' script out Whole h at there = (h.left at there).ran
+served s s' script out StoppedEarly h at there =
+    absurd (let stop = (h.left at there).stop in cc)
 
 -- ---- faults, as the call before answers them
 

@@ -1,4 +1,5 @@
 pub mod Session
 pub mod Beginning
+pub mod Serving
 pub mod Migration
 pub use Rattle.segment_scripts.specs.Run

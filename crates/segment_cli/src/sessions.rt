@@ -7,10 +7,11 @@ ghost use Rattle.segment_cli.specs.{Session.IsSession, Session.Saves, Beginning.
 ghost use Rattle.segment_scripts.specs.Lines.{script_limit};
 
 use crate::faults::{SessionFault, Start};
+use crate::serving::serve;
 use image_check::{open, save};
 use raw_region::{DeviceFault, RawRegion, Sink, Source, Steps};
 use segment_manager::{Mode, Segment};
-use segment_scripts::run;
+use segment_scripts::{Nobody, Until};
 use std::alloc::Global;
 
 /// The segment that a session runs its script on: an empty one of the fresh size, or the one of the image, whose reader
@@ -115,8 +116,7 @@ pub fn session<I: Source, S: Source, O: Sink, W: Sink>(
     ensures saved_grows { Grows (W.history image_out.old).bytes (W.history image_out.new).bytes }
 {
     let mut segment = begin(alloc, start, mode, image, region, base)?;
-    let ran = run(&mut segment, script, out);
-    ran?;
+    serve(&mut segment, script, out, &mut Nobody, Until::End)?;
     match save_segment(&segment, image_out) {
         Ok(()) => Ok(()),
         Err(_) => Err(SessionFault::WriteFault),

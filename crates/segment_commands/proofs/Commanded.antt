@@ -20,15 +20,15 @@ is_no_error a e = cc
 pub same_fault : {A : Type 0} (a b : A) → let answer : Result (Unit {0}) A = Err a in answer ≡ Err b → b ≡ a
 same_fault a b e = cc
 
-module _ {A B D O : Type 0} (step : D → Event → D → Type 0) (old new : D) (path : List ℕ) (history : O → Took) (flushes : O → Bool → O → Type 0) (out out' : O) (s : State) where
-  pub resized : TellsAndWrites step old new path history flushes out out' {E = A} s (Ok tt) → TellsAndWrites step old new path history flushes out out' {E = B} s (Ok tt)
+module _ {A B D O : Type 0} (step : D → Event → D → Type 0) (old new : D) (path : List ℕ) (how : Making) (history : O → Took) (flushes : O → Bool → O → Type 0) (out out' : O) (s : State) where
+  pub resized : TellsAndWrites step old new path how history flushes out out' {E = A} s (Ok tt) → TellsAndWrites step old new path how history flushes out out' {E = B} s (Ok tt)
   resized (inl u) = absurd (is_no_error u.fault u.refused)
   resized (inr t) = inr (record {
     tells = record { size = t.tells.size; reply = t.tells.reply; tells = t.tells.tells };
-    writes = written_whole step old new _ path s.cut.bytes t.writes;
+    writes = written_whole step old new how path s.cut.bytes t.writes;
   })
 
-  pub not_resized : (a : A) (b : B) → TellsAndWrites step old new path history flushes out out' {E = A} s (Err a) → TellsAndWrites step old new path history flushes out out' {E = B} s (Err b)
+  pub not_resized : (a : A) (b : B) → TellsAndWrites step old new path how history flushes out out' {E = A} s (Err a) → TellsAndWrites step old new path how history flushes out out' {E = B} s (Err b)
   not_resized a b (inl u) = inl (record {
     fault = b;
     refused = refl;
@@ -37,5 +37,5 @@ module _ {A B D O : Type 0} (step : D → Event → D → Type 0) (old new : D) 
   })
   not_resized a b (inr t) = inr (record {
     tells = record { size = t.tells.size; reply = t.tells.reply; tells = t.tells.tells };
-    writes = not_written step old new _ path s.cut.bytes a b t.writes;
+    writes = not_written step old new how path s.cut.bytes a b t.writes;
   })

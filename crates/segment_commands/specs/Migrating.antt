@@ -11,7 +11,7 @@ use Rattle.segment_cli.specs.declared.faults.SessionFault.TheVariants.{WriteFaul
 use Rattle.segment_commands.specs.declared.program_faults.ProgramFault.{ProgramFault}
 use Rattle.segment_commands.specs.declared.program_faults.ProgramFault.TheVariants.{Session}
 use Rattle.segment_cli.specs.Beginning.{opened_fault}
-use Rattle.segment_disk.specs.declared.presence.Making.TheVariants.{Emptied}
+use Rattle.segment_disk.specs.declared.presence.Making.{Making}
 use Rattle.segment_disk.specs.Events.{Event, After}
 use Rattle.segment_file.specs.Files.{WritesImage, opens}
 use Rattle.segment_commands.specs.Opening.{IsRegionless, IsUnopened}
@@ -54,25 +54,25 @@ module _ {D : Type 0} (step : D → Event → D → Type 0) (old new : D) (path 
     pub refused : result ≡ Err (Session fault)
 
 -- the file was read, and its image could not be written
-pub record IsUnwrittenMigration {D O : Type 0} (step : D → Event → D → Type 0) (old new : D) (path : List ℕ) (out out' : O) (result : Result (Unit {0}) ProgramFault) : Type 0 where
+pub record IsUnwrittenMigration {D O : Type 0} (step : D → Event → D → Type 0) (old new : D) (path : List ℕ) (how : Making) (out out' : O) (result : Result (Unit {0}) ProgramFault) : Type 0 where
   pub segment : State
   pub read : D
   pub opens_file : OpensAnyFile step old read path (Ok segment)
-  pub writes : WritesImage step read new Emptied path segment.cut.bytes result
+  pub writes : WritesImage step read new how path segment.cut.bytes result
   pub silent : out' ≡ out
   pub refused : result ≡ Err (Session WriteFault)
 
 -- the file was read, its image was written whole, and then `ok` was said
-pub record IsMigratedFile {D O : Type 0} (step : D → Event → D → Type 0) (old new : D) (path : List ℕ) (history : O → Took) (flushes : O → Bool → O → Type 0) (out out' : O) (result : Result (Unit {0}) ProgramFault) : Type 0 where
+pub record IsMigratedFile {D O : Type 0} (step : D → Event → D → Type 0) (old new : D) (path : List ℕ) (how : Making) (history : O → Took) (flushes : O → Bool → O → Type 0) (out out' : O) (result : Result (Unit {0}) ProgramFault) : Type 0 where
   pub segment : State
   pub read : D
   pub opens_file : OpensAnyFile step old read path (Ok segment)
-  pub writes : WritesImage step read new Emptied path segment.cut.bytes (written ProgramFault)
+  pub writes : WritesImage step read new how path segment.cut.bytes (written ProgramFault)
   pub tells : Tells history flushes out out' (codes "ok\n") result
   pub answer : (fault : ProgramFault) → result ≡ Err fault → fault ≡ Session WriteFault
 
 -- `migrate`
-abbrev pub IsMigrate : {D O : Type 0} → (D → Event → D → Type 0) → D → D → List ℕ → (O → Took) → (O → Bool → O → Type 0) → O → O → Result (Unit {0}) ProgramFault → Type 0
-IsMigrate step old new path history flushes out out' result =
+abbrev pub IsMigrate : {D O : Type 0} → (D → Event → D → Type 0) → D → D → List ℕ → Making → (O → Took) → (O → Bool → O → Type 0) → O → O → Result (Unit {0}) ProgramFault → Type 0
+IsMigrate step old new path how history flushes out out' result =
     IsUnopenedMigration step old new path out out' result
-    ⊎ (IsUnwrittenMigration step old new path out out' result ⊎ IsMigratedFile step old new path history flushes out out' result)
+    ⊎ (IsUnwrittenMigration step old new path how out out' result ⊎ IsMigratedFile step old new path how history flushes out out' result)

@@ -15,7 +15,7 @@ use Rattle.segment_commands.specs.declared.program_faults.ProgramFault.{ProgramF
 use Rattle.segment_commands.specs.declared.program_faults.ProgramFault.TheVariants.{Growth, Session}
 use Rattle.segment_commands.specs.declared.resizing.Resize.{Resize}
 use Rattle.segment_commands.specs.declared.resizing.Resize.TheVariants.{Grow, Shrink}
-use Rattle.segment_disk.specs.declared.presence.Making.TheVariants.{Emptied}
+use Rattle.segment_disk.specs.declared.presence.Making.{Making}
 use Rattle.segment_disk.specs.Events.{Event}
 use Rattle.segment_file.specs.Files.{WritesImage}
 use Rattle.segment_commands.specs.Opening.{OpensFile}
@@ -45,7 +45,7 @@ pub record TellsSize {O E : Type 0} (history : O → Took) (flushes : O → Bool
   pub reply : IsReply s Size (Number size)
   pub tells : Tells history flushes out out' (size_line size) result
 
-module _ {D O : Type 0} (step : D → Event → D → Type 0) (old new : D) (path : List ℕ) (history : O → Took) (flushes : O → Bool → O → Type 0) (out out' : O) where
+module _ {D O : Type 0} (step : D → Event → D → Type 0) (old new : D) (path : List ℕ) (how : Making) (history : O → Took) (flushes : O → Bool → O → Type 0) (out out' : O) where
   -- the size did not go out, and the disk was not asked for anything
   pub record IsUntold {E : Type 0} (s : State) (result : Result (Unit {0}) E) : Type 0 where
     pub fault : E
@@ -56,7 +56,7 @@ module _ {D O : Type 0} (step : D → Event → D → Type 0) (old new : D) (pat
   -- the size went out, and then the image was written
   pub record IsTold {E : Type 0} (s : State) (result : Result (Unit {0}) E) : Type 0 where
     pub tells : TellsSize history flushes out out' s (told E)
-    pub writes : WritesImage step old new Emptied path s.cut.bytes result
+    pub writes : WritesImage step old new how path s.cut.bytes result
 
   abbrev pub TellsAndWrites : {E : Type 0} → State → Result (Unit {0}) E → Type 0
   TellsAndWrites s result = IsUntold s result ⊎ IsTold s result
@@ -78,19 +78,19 @@ module _ {D O : Type 0} (step : D → Event → D → Type 0) (old new : D) (pat
     pub refused : result ≡ Err (Growth error)
 
 -- the segment was read, and the one that it becomes was written
-pub record IsResized {D O : Type 0} (step : D → Event → D → Type 0) (old new : D) (path : List ℕ) (history : O → Took) (flushes : O → Bool → O → Type 0) (out out' : O)
+pub record IsResized {D O : Type 0} (step : D → Event → D → Type 0) (old new : D) (path : List ℕ) (how : Making) (history : O → Took) (flushes : O → Bool → O → Type 0) (out out' : O)
     (next : Directory → Directory) (result : Result (Unit {0}) ProgramFault) : Type 0 where
   pub segment : State
   pub read : D
   pub opens : OpensFile step old read path Write (Ok segment)
   pub resized : State
   pub becomes : Resizes segment resized next
-  pub goes : TellsAndWrites step read new path history flushes out out' resized result
+  pub goes : TellsAndWrites step read new path how history flushes out out' resized result
   pub answer : (fault : ProgramFault) → result ≡ Err fault → fault ≡ Session WriteFault
 
 -- `grow` and `shrink`
-abbrev pub IsResize : {D O : Type 0} → (D → Event → D → Type 0) → D → D → List ℕ → (O → Took) → (O → Bool → O → Type 0) → O → O
+abbrev pub IsResize : {D O : Type 0} → (D → Event → D → Type 0) → D → D → List ℕ → Making → (O → Took) → (O → Bool → O → Type 0) → O → O
     → (State → Directory → Option GrowError) → (Directory → Directory) → Result (Unit {0}) ProgramFault → Type 0
-IsResize step old new path history flushes out out' why next result =
-    IsUnopenedResize step old new path history flushes out out' result
-    ⊎ (IsUnresized step old new path history flushes out out' why result ⊎ IsResized step old new path history flushes out out' next result)
+IsResize step old new path how history flushes out out' why next result =
+    IsUnopenedResize step old new path how history flushes out out' result
+    ⊎ (IsUnresized step old new path how history flushes out out' why result ⊎ IsResized step old new path how history flushes out out' next result)

@@ -14,7 +14,7 @@ use crate::explaining::Unfit;
 use crate::heading::Headed;
 use crate::reading_on::read_on;
 use grow_shrink::region_for;
-use image_check::{ExamineError, examine, examine_bytes};
+use image_check::{ExamineError, Versions, examine, examine_bytes};
 use raw_region::{Source, Steps};
 use segment_cli::SessionFault;
 use segment_disk::{Disk, Opened};
@@ -55,7 +55,7 @@ fn examine_text(alloc: Global, text: &[u8]) -> Result<(), Unfit>
     let Ok(region) = region_for(alloc, text.len() as u64) else {
         return Err(Unfit::Fault(SessionFault::OutOfMemory));
     };
-    match examine_bytes(alloc, text, region, 0, &mut Steps::new()) {
+    match examine_bytes(Versions::Current, alloc, text, region, 0, &mut Steps::new()) {
         Ok(_) => Ok(()),
         Err(refused) => Err(unfit_of(refused.cause)),
     }

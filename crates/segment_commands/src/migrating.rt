@@ -4,10 +4,12 @@ ghost use Rattle.raw_region.specs.Device.{given_since};
 ghost use Rattle.segment_cli.specs.declared.faults.SessionFault.TheVariants.{RegionTooSmall};
 ghost use Rattle.segment_disk.specs.Events.{nothing_given};
 ghost use Rattle.segment_commands.specs.Holding.{Holds};
+ghost use Rattle.segment_commands.specs.Modes.{making_of};
 ghost use Rattle.segment_commands.specs.Migrating.{BeginsAny, IsMigrate, OpensAnyFile};
 
 use crate::creating::WRITE_FAULT;
 use crate::heading::Headed;
+use crate::modes::making_for;
 use crate::program_faults::ProgramFault;
 use crate::reading_on::read_on;
 use crate::telling::tell;
@@ -17,6 +19,7 @@ use raw_region::{Source, Steps};
 use segment_cli::SessionFault;
 use segment_disk::{Disk, Making, Opened, Output};
 use segment_file::{room_needed, write_image};
+use segment_invocation::Saving;
 use segment_manager::{Mode, Segment};
 use std::alloc::Global;
 
@@ -88,13 +91,14 @@ fn migrate_held<D: Disk, O: Output>(
     alloc: Global,
     disk: &mut D,
     path: &str,
+    making: Making,
     out: &mut O,
 ) -> Result<(), ProgramFault>
     requires { (O.history out.old).failures < 2 ^ 64 - 1 }
-    ensures { IsMigrate D.step disk.old disk.new path.now O.history O.flushes out.old out.new result }
+    ensures { IsMigrate D.step disk.old disk.new path.now making O.history O.flushes out.old out.new result }
 {
     let segment = open_any_segment(alloc, disk, path)?;
-    match write_image(disk, path, Making::Emptied, &segment) {
+    match write_image(disk, path, making, &segment) {
         Ok(()) => match tell(out, b"ok\n") {
             Ok(()) => Ok(()),
             Err(_) => Err(WRITE_FAULT),
@@ -114,16 +118,17 @@ pub fn migrate<D: Disk, O: Output>(
     alloc: Global,
     disk: &mut D,
     path: &str,
+    saving: Saving,
     out: &mut O,
 ) -> Result<(), ProgramFault>
     requires { (O.history out.old).failures < 2 ^ 64 - 1 }
     ensures { Holds D.step disk.old disk.new path.now (out.new ≡ out.old)
-        (λ held done. IsMigrate D.step held done path.now O.history O.flushes out.old out.new result) result }
+        (λ held done. IsMigrate D.step held done path.now (making_of saving) O.history O.flushes out.old out.new result) result }
 {
     let Ok(hold) = disk.hold(path) else {
         return Err(ProgramFault::InUse);
     };
-    let answer = migrate_held(alloc, disk, path, out);
+    let answer = migrate_held(alloc, disk, path, making_for(saving), out);
     disk.release(hold);
     answer
 }

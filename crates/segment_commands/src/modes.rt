@@ -12,7 +12,7 @@ use segment_manager::Mode;
 use std::alloc::Global;
 
 /// How a file that is there comes to take the image that is saved.
-fn making_for(saving: Saving) -> Making
+pub(crate) fn making_for(saving: Saving) -> Making
     ensures { result ≡ making_of saving }
 {
     match saving {

@@ -3,16 +3,19 @@ ghost use Rattle.std.specs.Prelude.{◌≡◌, ◌^◌, ◌-◌, ◌<◌, OnOk};
 ghost use Rattle.grow_shrink.specs.Resized.{IsRefusedBy, growth_refusal, grown, room_of, shrink_refusal, shrunk};
 ghost use Rattle.segment_manager.specs.blocks.Resized.{Resizes};
 ghost use Rattle.segment_commands.specs.Holding.{Holds};
+ghost use Rattle.segment_commands.specs.Modes.{making_of};
 ghost use Rattle.segment_commands.specs.Resizing.{IsResize, TellsAndWrites, TellsSize, next_by, refusal_by, size_line};
 ghost use Rattle.segment_commands.specs.Telling.{Tells};
 
 use crate::creating::WRITE_FAULT;
+use crate::modes::making_for;
 use crate::opening::open_segment;
 use crate::program_faults::ProgramFault;
 use grow_shrink::{GrowError, shrink_to_fit};
 use raw_region::DeviceFault;
 use segment_disk::{Disk, Making, Output};
 use segment_file::write_image;
+use segment_invocation::Saving;
 use segment_lang::put_number_line;
 use segment_manager::{Mode, Segment};
 use std::alloc::Global;
@@ -44,18 +47,19 @@ fn tell_size<O: Output>(segment: &Segment, out: &mut O) -> Result<(), DeviceFaul
     tell_number(out, size)
 }
 
-/// Says the size of a segment, and then writes its image to the file that is emptied for it.
+/// Says the size of a segment, and then writes its image to the file that is emptied or made for it.
 fn tell_and_write<D: Disk, O: Output>(
     disk: &mut D,
     path: &str,
+    making: Making,
     segment: &Segment,
     out: &mut O,
 ) -> Result<(), DeviceFault>
     requires { (O.history out.old).failures < 2 ^ 64 - 1 }
-    ensures { TellsAndWrites D.step disk.old disk.new path.now O.history O.flushes out.old out.new segment.now result }
+    ensures { TellsAndWrites D.step disk.old disk.new path.now making O.history O.flushes out.old out.new segment.now result }
 {
     match tell_size(segment, out) {
-        Ok(()) => write_image(disk, path, Making::Emptied, segment),
+        Ok(()) => write_image(disk, path, making, segment),
         Err(fault) => Err(fault),
     }
 }
@@ -77,16 +81,17 @@ fn resize_held<D: Disk, O: Output>(
     disk: &mut D,
     path: &str,
     how: Resize,
+    making: Making,
     more: u64,
     out: &mut O,
 ) -> Result<(), ProgramFault>
     requires { (O.history out.old).failures < 2 ^ 64 - 1 }
-    ensures { IsResize D.step disk.old disk.new path.now O.history O.flushes out.old out.new
+    ensures { IsResize D.step disk.old disk.new path.now making O.history O.flushes out.old out.new
         (refusal_by how) (next_by how) result }
 {
     let mut segment = open_segment(alloc, disk, path, Mode::Write, more)?;
     match resize_segment(&mut segment, how) {
-        Ok(()) => match tell_and_write(disk, path, &segment, out) {
+        Ok(()) => match tell_and_write(disk, path, making, &segment, out) {
             Ok(()) => Ok(()),
             Err(_) => Err(WRITE_FAULT),
         },
@@ -100,46 +105,48 @@ fn resize_file<D: Disk, O: Output>(
     disk: &mut D,
     path: &str,
     how: Resize,
+    making: Making,
     more: u64,
     out: &mut O,
 ) -> Result<(), ProgramFault>
     requires { (O.history out.old).failures < 2 ^ 64 - 1 }
     ensures { Holds D.step disk.old disk.new path.now (out.new ≡ out.old)
-        (λ held done. IsResize D.step held done path.now O.history O.flushes out.old out.new
+        (λ held done. IsResize D.step held done path.now making O.history O.flushes out.old out.new
         (refusal_by how) (next_by how) result) result }
 {
     let Ok(hold) = disk.hold(path) else {
         return Err(ProgramFault::InUse);
     };
-    let answer = resize_held(alloc, disk, path, how, more, out);
+    let answer = resize_held(alloc, disk, path, how, making, more, out);
     disk.release(hold);
     answer
 }
 
 /// Makes the segment in a file larger by `extra` bytes, says its size, and then writes its image to the file, which is
-/// emptied for it when the size went out.
+/// emptied or replaced for it, as `saving` says, when the size went out.
 ///
 /// # Errors
 ///
 /// Those of opening it; `Growth` where it does not grow; `WriteFault` where the size does not go out, or the file can't
-/// be emptied, takes not the whole image, or need not last. `InUse` where another has the right to write the file.
+/// be emptied or replaced, takes not the whole image, or need not last. `InUse` where another has the right to write the file.
 pub fn grow<D: Disk, O: Output>(
     alloc: Global,
     disk: &mut D,
     path: &str,
     extra: u64,
+    saving: Saving,
     out: &mut O,
 ) -> Result<(), ProgramFault>
     requires { (O.history out.old).failures < 2 ^ 64 - 1 }
     ensures { Holds D.step disk.old disk.new path.now (out.new ≡ out.old)
-        (λ held done. IsResize D.step held done path.now O.history O.flushes out.old out.new
+        (λ held done. IsResize D.step held done path.now (making_of saving) O.history O.flushes out.old out.new
         (λ s d. growth_refusal s.mode d.size extra (room_of s.cut)) (λ d. grown d extra) result) result }
 {
-    resize_file(alloc, disk, path, Resize::Grow(extra), extra, out)
+    resize_file(alloc, disk, path, Resize::Grow(extra), making_for(saving), extra, out)
 }
 
 /// Makes the segment in a file as small as its last block lets it be, says its size, and then writes its image to the
-/// file, which is emptied for it when the size went out.
+/// file, which is emptied or replaced for it, as `saving` says, when the size went out.
 ///
 /// # Errors
 ///
@@ -148,12 +155,13 @@ pub fn shrink<D: Disk, O: Output>(
     alloc: Global,
     disk: &mut D,
     path: &str,
+    saving: Saving,
     out: &mut O,
 ) -> Result<(), ProgramFault>
     requires { (O.history out.old).failures < 2 ^ 64 - 1 }
     ensures { Holds D.step disk.old disk.new path.now (out.new ≡ out.old)
-        (λ held done. IsResize D.step held done path.now O.history O.flushes out.old out.new
+        (λ held done. IsResize D.step held done path.now (making_of saving) O.history O.flushes out.old out.new
         (λ s d. shrink_refusal s.mode) (λ d. shrunk d) result) result }
 {
-    resize_file(alloc, disk, path, Resize::Shrink, 0, out)
+    resize_file(alloc, disk, path, Resize::Shrink, making_for(saving), 0, out)
 }

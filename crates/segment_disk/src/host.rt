@@ -4,21 +4,31 @@ ghost use Rattle.std.specs.Prelude.{⊤};
 use crate::beside::Beside;
 use crate::disk::{Disk, Opened};
 use crate::durable::write_through;
+use crate::limits::longest_file;
 use crate::locks::{Identity, lock};
 use crate::outlet::Outlet;
 use crate::presence::{InUse, Making, Presence, Trouble};
 use crate::sparse::SparseFile;
 use crate::troubles::{making_trouble, trouble_of};
-use raw_region::stream::Reading;
 use raw_region::DeviceFault;
+use raw_region::stream::Reading;
 use std::fs::{self, File, OpenFile, OpenOptions};
 use std::io::{self, ErrorKind};
 use std::rt::Files;
+use std::thread::sleep;
+use std::time::{Clock, Duration};
+
+/// How long a disk waits before it asks again for the right to write a file, and how often it asks in a second.
+const PAUSE: Duration = Duration::from_millis(50);
+
+const TRIES: u64 = 20;
 
 /// The files of the system. A file is written through before it is closed, where it is one that can be.
 #[derive(Drop)]
 pub struct HostDisk<'a, R: Files> {
     files: &'a R,
+    /// For how many seconds it waits for the right to write a file.
+    wait: u64,
     /// The file that is locked, if one is.
     held: Option<Identity>,
     /// The file that was made beside another last, while its fate is open.
@@ -36,8 +46,14 @@ pub struct HostHold {
 impl<'a, R: Files> HostDisk<'a, R> {
     /// The files, none of which was asked for yet.
     pub fn new(files: &'a R) -> HostDisk<'a, R> {
+        HostDisk::patient(files, 0)
+    }
+
+    /// The same, which wait up to so many seconds for the right to write a file that another has.
+    pub fn patient(files: &'a R, wait: u64) -> HostDisk<'a, R> {
         HostDisk {
             files,
+            wait,
             held: None,
             beside: None,
             trouble: None,
@@ -116,7 +132,7 @@ fn open_file<R: Files>(files: &R, path: &str) -> io::Result<Found<R::File>> {
     })
 }
 
-impl<'a, R: Files<File = File> + AllocGlobal> Disk for HostDisk<'a, R> {
+impl<'a, R: Files<File = File> + AllocGlobal + Clock> Disk for HostDisk<'a, R> {
     ghost step = { λ old event new. ⊤ };
 
     type Reader = Reading<File>;
@@ -134,13 +150,17 @@ impl<'a, R: Files<File = File> + AllocGlobal> Disk for HostDisk<'a, R> {
     }
 
     fn hold(&mut self, path: &str) -> Result<HostHold, InUse> {
-        match lock(self.files, path) {
-            Ok(lock) => {
-                self.held = lock.as_ref().and_then(Identity::of);
-                Ok(HostHold { _lock: lock })
+        let mut found = lock(self.files, path);
+        for _ in 0..self.wait.saturating_mul(TRIES) {
+            if found.is_ok() {
+                break;
             }
-            Err(in_use) => Err(in_use),
+            sleep(self.files, PAUSE);
+            found = lock(self.files, path);
         }
+        let lock = found?;
+        self.held = lock.as_ref().and_then(Identity::of);
+        Ok(HostHold { _lock: lock })
     }
 
     fn release(&mut self, _hold: HostHold) {
@@ -181,7 +201,8 @@ impl<'a, R: Files<File = File> + AllocGlobal> Disk for HostDisk<'a, R> {
         match self.file_for(path, how) {
             Ok(file) => {
                 self.trouble = None;
-                Ok(Outlet::new(SparseFile::new(file)))
+                let longest = longest_file(self.files);
+                Ok(Outlet::new(SparseFile::new(file, longest)))
             }
             Err(error) => {
                 self.trouble = making_trouble(error.kind(), path, how);

@@ -6,6 +6,7 @@ mod beside;
 mod disk;
 mod durable;
 mod host;
+mod limits;
 mod locks;
 mod numbering;
 mod outlet;

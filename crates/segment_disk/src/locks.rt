@@ -20,7 +20,10 @@ impl Identity {
     /// That of a file that is open, if the system tells.
     pub(crate) fn of(file: &File) -> Option<Identity> {
         match file.metadata() {
-            Ok(found) => Some(Identity { device: found.dev(), number: found.ino() }),
+            Ok(found) => Some(Identity {
+                device: found.dev(),
+                number: found.ino(),
+            }),
             Err(_) => None,
         }
     }
@@ -28,7 +31,10 @@ impl Identity {
     /// That of the file that a path leads to.
     pub(crate) fn at<R: Files<File = File>>(files: &R, path: &str) -> io::Result<Identity> {
         let found = fs::metadata(files, path)?;
-        Ok(Identity { device: found.dev(), number: found.ino() })
+        Ok(Identity {
+            device: found.dev(),
+            number: found.ino(),
+        })
     }
 }
 

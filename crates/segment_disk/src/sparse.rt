@@ -3,7 +3,7 @@ ghost use Rattle.std.specs.Prelude.{◌≡◌, ◌<◌, ◌≤◌, length, take,
 ghost use Rattle.raw_region.specs.Memory.{AreZero, bytes_of};
 
 use std::fs::{File, OpenFile};
-use std::io::{self, Seek, SeekFrom, Write};
+use std::io::{self, ErrorKind, Seek, SeekFrom, Write};
 
 /// The most bytes that are passed over or written together as one piece.
 const PIECE: usize = 65_536;
@@ -15,16 +15,23 @@ pub struct SparseFile {
     file: File,
     /// Whether pieces may be passed over.
     has_holes: bool,
+    /// How many bytes it may still take.
+    left: u64,
 }
 
 impl SparseFile {
-    /// A file that was just made or emptied.
-    pub(crate) fn new(file: File) -> SparseFile {
+    /// A file that was just made or emptied. A file of a disk may have so many bytes at most.
+    pub(crate) fn new(file: File, longest: u64) -> SparseFile {
         let has_holes = match file.metadata() {
             Ok(found) => found.is_file() && found.len() == 0,
             Err(_) => false,
         };
-        SparseFile { file, has_holes }
+        let left = if has_holes { longest } else { u64::MAX };
+        SparseFile {
+            file,
+            has_holes,
+            left,
+        }
     }
 
     /// Ends the file behind all that it took: what was passed over last is a part of it.
@@ -67,12 +74,17 @@ fn are_zeros(bytes: &[u8]) -> bool
 impl Write for SparseFile {
     fn write(&mut self, bytes: &[u8]) -> io::Result<usize> {
         let front = front_piece(bytes);
-        if self.has_holes && are_zeros(front) {
+        let Some(left) = self.left.checked_sub(front.len() as u64) else {
+            return Err(io::Error::from(ErrorKind::FileTooLarge));
+        };
+        let taken = if self.has_holes && are_zeros(front) {
             self.file.seek(SeekFrom::Current(front.len() as i64))?;
-            Ok(front.len())
+            front.len()
         } else {
-            self.file.write(front)
-        }
+            self.file.write(front)?
+        };
+        self.left = left;
+        Ok(taken)
     }
 
     fn flush(&mut self) -> io::Result<()> {

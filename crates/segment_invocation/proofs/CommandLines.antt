@@ -1,5 +1,5 @@
 -- The command lines that are always understood.
-use Rattle.std.proofs.Common.{◌≡◌, refl, sym, ap, ap₂, ◌∙◌, ℕ, ◌==◌, ◌&&◌, Bool, true, false, not, List, [], ◌∷◌, ◌++◌, Option, Some, None, codes, arith, inl, inr, drop}
+use Rattle.std.proofs.Common.{◌≡◌, refl, sym, subst, ap, ap₂, ◌∙◌, ℕ, ◌==◌, ◌&&◌, Bool, true, false, not, List, [], ◌∷◌, ◌++◌, Option, Some, None, codes, arith, inl, inr, drop, tt}
 use Rattle.std.specs.List.{list_all}
 use Rattle.std.specs.Prelude.{◌⊎◌, is_some, if◌then◌else◌, IsTrue, nat_le, option_map, option_and_then}
 use Rattle.std.proofs.lemmas.Bool.{and_parts}
@@ -12,13 +12,14 @@ use Rattle.clap.specs.Takes.{built_takes, default_passes, entered_passes, is_val
 use Rattle.clap.specs.Faults.{built_fault, fault_of, is_simple_and_free}
 use Rattle.clap.specs.declared.error.kind.ErrorKind.TheVariants.{DisplayVersion}
 use Rattle.segment_lang.specs.Words.{between, is_digit, is_numeral, number_after, number_of}
-use Rattle.segment_invocation.specs.Invocations.{Asked, create, run, check, explain, grow, shrink, migrate, stat, draw, draw_page, dump, dump_capacities, dump_json, load, lint, language, version, IsModePart, IsSizePart, IsWritten, RunWords, asked_in, asked_of, asked_of_run, command_line, flag_words, is_path, is_set, mode_called, mode_of, mode_word, run_sized, saving_of, size_of, wants_size}
+use Rattle.segment_invocation.specs.Invocations.{Asked, Origin, create, run, run_with, ran, is_plain_run, check, check_all, explain, grow, grow_with, shrink, shrink_with, migrate, migrate_with, stat, draw, draw_page, dump, dump_capacities, dump_json, names, load, lint, language, version, input, from_file, from_lines, IsModePart, IsMostPart, IsOriginPart, IsPart, IsRunWritten, IsSizePart, IsWritten, RunWords, asked_in, asked_of, asked_of_run, command_line, flag_words, is_path, is_set, lacks_size, line_words, mode_called, mode_of, mode_word, run_sized, saving_of, saving_part, seconds_of, size_of, wants_size}
 use Rattle.segment_invocation.specs.declared.invocations.ModeName.{ModeName}
 use Rattle.segment_invocation.specs.declared.invocations.ModeName.TheVariants.{CreateOnly, OpenOnly, OpenOrCreate, OpenReadOnly, OpenCopyOnWrite}
 use Rattle.segment_invocation.specs.declared.invocations.Saving.{Saving}
 use Rattle.segment_invocation.specs.declared.invocations.Saving.TheVariants.{InPlace, Replacing}
 use Rattle.segment_invocation.proofs.PlainWords.{IsPlain}
-use Rattle.segment_invocation.proofs.Leaves.{IsRead, saving_word, truth_word, capacities-asks, capacities-passes, check-asks, check-passes, draw-asks, draw-passes, dump-asks, dump-passes, explain-asks, explain-passes, json-asks, json-passes, file-passes, file-rows, html-asks, html-passes, load-asks, load-passes, number-passes, number-rows, run-both, run-file, run-mode, run-size, sized-asks, sized-passes}
+use Rattle.segment_invocation.proofs.Leaves.{ArePlain, IsAsk, run_leaf, said, said_with, saving_word, truth_word, capacities-asks, check-asks, create-asks, draw-asks, dump-asks, explain-asks, grow-asks, html-asks, json-asks, lines-ask, load-asks, migrate-asks, most-asks, names-asks, prefix-asks, prefix-most-asks, quiet-asks, run-both, run-file, run-mode, run-size, script-asks, shrink-asks, sized-asks, stat-asks}
+use Rattle.segment_invocation.specs.Invocations.{run_words}
 
 -- ---- words that are no options
 
@@ -29,6 +30,10 @@ path-plain (c ∷ cs) h = go (c == 45) refl h
     go : (b : Bool) → (c == 45) ≡ b → IsTrue (not b) → IsPlain (c ∷ cs)
     go true e h = cc
     go false e h = (c, cs, refl, e)
+
+lines-plain : (ls : List Text) → IsTrue (list_all is_path ls) → ArePlain ls
+lines-plain [] h = tt
+lines-plain (l ∷ ls) h = let both = and_parts (is_path l) (list_all is_path ls) h in (path-plain l both.0, lines-plain ls both.1)
 
 digit-plain : (d : ℕ) → is_digit d ≡ true → (d == 45) ≡ false
 digit-plain d h = grind (arith, nat_tests)
@@ -72,75 +77,121 @@ record Behind (words : List Text) (a : Asked) : Type 0 where
 behind-create : (f d : Text) (n : ℕ) → IsPlain f → number_of d ≡ Some n → Behind (codes "create" ∷ f ∷ d ∷ []) (create f n)
 unfolding clap_on_literals
 behind-create f d n p h = record {
-  takes = ap (λ b. b && true) (number-passes (codes "create") f d p (number-plain d n h));
-  asks = ap (asked_in (codes "create")) (number-rows (codes "create") f d p (number-plain d n h)) ∙ ap (option_map (create f)) h;
+  takes = ap (λ b. b && true) (create-asks f d p (number-plain d n h)).passes;
+  asks = (create-asks f d p (number-plain d n h)).found ∙ ap (option_and_then (λ n. Some (create f n))) h;
 }
 
 behind-grow : (f d : Text) (n : ℕ) → IsPlain f → number_of d ≡ Some n → Behind (codes "grow" ∷ f ∷ d ∷ []) (grow f n)
 unfolding clap_on_literals
 behind-grow f d n p h = record {
-  takes = ap (λ b. b && true) (number-passes (codes "grow") f d p (number-plain d n h));
-  asks = ap (asked_in (codes "grow")) (number-rows (codes "grow") f d p (number-plain d n h)) ∙ ap (option_map (grow f)) h;
+  takes = ap (λ b. b && true) (grow-asks f d InPlace p (number-plain d n h)).passes;
+  asks = (grow-asks f d InPlace p (number-plain d n h)).found ∙ ap (option_and_then (λ n. Some (grow f n))) h;
+}
+
+behind-grow-replaced : (f d : Text) (n : ℕ) → IsPlain f → number_of d ≡ Some n → Behind (codes "grow" ∷ f ∷ d ∷ codes "--replace" ∷ []) (grow_with f n Replacing 0)
+unfolding clap_on_literals
+behind-grow-replaced f d n p h = record {
+  takes = ap (λ b. b && true) (grow-asks f d Replacing p (number-plain d n h)).passes;
+  asks = (grow-asks f d Replacing p (number-plain d n h)).found ∙ ap (option_and_then (λ n. Some (grow_with f n Replacing 0))) h;
 }
 
 behind-check : (f : Text) → IsPlain f → Behind (codes "check" ∷ f ∷ []) (check f)
 unfolding clap_on_literals
-behind-check f p = record { takes = ap (λ b. b && true) (check-passes f p); asks = check-asks f p }
+behind-check f p = record { takes = ap (λ b. b && true) (check-asks f p).passes; asks = (check-asks f p).found }
+
+behind-quiet : (f : Text) → IsPlain f → Behind (codes "check" ∷ f ∷ codes "--quiet" ∷ []) (check_all (f ∷ []) true)
+unfolding clap_on_literals
+behind-quiet f p = record { takes = ap (λ b. b && true) (quiet-asks f p).passes; asks = (quiet-asks f p).found }
 
 behind-explain : (f : Text) → IsPlain f → Behind (codes "check" ∷ f ∷ codes "--explain" ∷ []) (explain f)
 unfolding clap_on_literals
-behind-explain f p = record { takes = ap (λ b. b && true) (explain-passes f p); asks = explain-asks f p }
+behind-explain f p = record { takes = ap (λ b. b && true) (explain-asks f p).passes; asks = (explain-asks f p).found }
 
 behind-shrink : (f : Text) → IsPlain f → Behind (codes "shrink" ∷ f ∷ []) (shrink f)
 unfolding clap_on_literals
-behind-shrink f p = record {
-  takes = ap (λ b. b && true) (file-passes (codes "shrink") f p);
-  asks = ap (asked_in (codes "shrink")) (file-rows (codes "shrink") f p);
-}
+behind-shrink f p = record { takes = ap (λ b. b && true) (shrink-asks f InPlace p).passes; asks = (shrink-asks f InPlace p).found }
+
+behind-shrink-replaced : (f : Text) → IsPlain f → Behind (codes "shrink" ∷ f ∷ codes "--replace" ∷ []) (shrink_with f Replacing 0)
+unfolding clap_on_literals
+behind-shrink-replaced f p = record { takes = ap (λ b. b && true) (shrink-asks f Replacing p).passes; asks = (shrink-asks f Replacing p).found }
 
 behind-migrate : (f : Text) → IsPlain f → Behind (codes "migrate" ∷ f ∷ []) (migrate f)
 unfolding clap_on_literals
-behind-migrate f p = record {
-  takes = ap (λ b. b && true) (file-passes (codes "migrate") f p);
-  asks = ap (asked_in (codes "migrate")) (file-rows (codes "migrate") f p);
-}
+behind-migrate f p = record { takes = ap (λ b. b && true) (migrate-asks f InPlace p).passes; asks = (migrate-asks f InPlace p).found }
+
+behind-migrate-replaced : (f : Text) → IsPlain f → Behind (codes "migrate" ∷ f ∷ codes "--replace" ∷ []) (migrate_with f Replacing 0)
+unfolding clap_on_literals
+behind-migrate-replaced f p = record { takes = ap (λ b. b && true) (migrate-asks f Replacing p).passes; asks = (migrate-asks f Replacing p).found }
 
 behind-stat : (f : Text) → IsPlain f → Behind (codes "stat" ∷ f ∷ []) (stat f)
 unfolding clap_on_literals
-behind-stat f p = record {
-  takes = ap (λ b. b && true) (file-passes (codes "stat") f p);
-  asks = ap (asked_in (codes "stat")) (file-rows (codes "stat") f p);
-}
+behind-stat f p = record { takes = ap (λ b. b && true) (stat-asks f p).passes; asks = (stat-asks f p).found }
 
 behind-draw : (f : Text) → IsPlain f → Behind (codes "draw" ∷ f ∷ []) (draw f)
 unfolding clap_on_literals
-behind-draw f p = record { takes = ap (λ b. b && true) (draw-passes f p); asks = draw-asks f p }
+behind-draw f p = record { takes = ap (λ b. b && true) (draw-asks f p).passes; asks = (draw-asks f p).found }
 
 behind-page : (f : Text) → IsPlain f → Behind (codes "draw" ∷ f ∷ codes "--html" ∷ []) (draw_page f)
 unfolding clap_on_literals
-behind-page f p = record { takes = ap (λ b. b && true) (html-passes f p); asks = html-asks f p }
+behind-page f p = record { takes = ap (λ b. b && true) (html-asks f p).passes; asks = (html-asks f p).found }
 
 behind-dump : (f : Text) → IsPlain f → Behind (codes "dump" ∷ f ∷ []) (dump f)
 unfolding clap_on_literals
-behind-dump f p = record { takes = ap (λ b. b && true) (dump-passes f p); asks = dump-asks f p }
+behind-dump f p = record { takes = ap (λ b. b && true) (dump-asks f p).passes; asks = (dump-asks f p).found }
 
 behind-capacities : (f : Text) → IsPlain f → Behind (codes "dump" ∷ f ∷ codes "--capacities" ∷ []) (dump_capacities f)
 unfolding clap_on_literals
-behind-capacities f p = record { takes = ap (λ b. b && true) (capacities-passes f p); asks = capacities-asks f p }
+behind-capacities f p = record { takes = ap (λ b. b && true) (capacities-asks f p).passes; asks = (capacities-asks f p).found }
 
 behind-json : (f : Text) → IsPlain f → Behind (codes "dump" ∷ f ∷ codes "--json" ∷ []) (dump_json f)
 unfolding clap_on_literals
-behind-json f p = record { takes = ap (λ b. b && true) (json-passes f p); asks = json-asks f p }
+behind-json f p = record { takes = ap (λ b. b && true) (json-asks f p).passes; asks = (json-asks f p).found }
 
-behind-load : (f : Text) → IsPlain f → Behind (codes "load" ∷ f ∷ []) (load f None)
+behind-names : (f : Text) → IsPlain f → Behind (codes "names" ∷ f ∷ []) (names f [] None)
 unfolding clap_on_literals
-behind-load f p = record { takes = ap (λ b. b && true) (load-passes f p); asks = load-asks f p }
+behind-names f p = record { takes = ap (λ b. b && true) (names-asks f p).passes; asks = (names-asks f p).found }
 
-behind-sized : (f d : Text) (n : ℕ) → IsPlain f → number_of d ≡ Some n → Behind (codes "load" ∷ f ∷ codes "--size" ∷ d ∷ []) (load f (Some n))
+behind-prefix : (f t : Text) → IsPlain f → IsPlain t → Behind (codes "names" ∷ f ∷ codes "--prefix" ∷ t ∷ []) (names f t None)
 unfolding clap_on_literals
-behind-sized f d n p h = record {
-  takes = ap (λ b. b && true) (sized-passes f d p (number-plain d n h));
-  asks = sized-asks f d p (number-plain d n h) ∙ ap (λ o. option_map (load f) (option_map Some o)) h;
+behind-prefix f t p q = record { takes = ap (λ b. b && true) (prefix-asks f t p q).passes; asks = (prefix-asks f t p q).found }
+
+behind-most : (f d : Text) (n : ℕ) → IsPlain f → number_of d ≡ Some n → Behind (codes "names" ∷ f ∷ codes "--most" ∷ d ∷ []) (names f [] (Some n))
+unfolding clap_on_literals
+behind-most f d n p h = record {
+  takes = ap (λ b. b && true) (most-asks f d p (number-plain d n h)).passes;
+  asks = (most-asks f d p (number-plain d n h)).found ∙ ap (λ o. option_map (names f []) (option_map Some o)) h;
+}
+
+behind-prefix-most : (f t d : Text) (n : ℕ) → IsPlain f → IsPlain t → number_of d ≡ Some n
+    → Behind (codes "names" ∷ f ∷ codes "--prefix" ∷ t ∷ codes "--most" ∷ d ∷ []) (names f t (Some n))
+unfolding clap_on_literals
+behind-prefix-most f t d n p q h = record {
+  takes = ap (λ b. b && true) (prefix-most-asks f t d p q (number-plain d n h)).passes;
+  asks = (prefix-most-asks f t d p q (number-plain d n h)).found ∙ ap (λ o. option_map (names f t) (option_map Some o)) h;
+}
+
+-- names, with what stands behind the file
+behind-parts : (f : Text) (prefixes mosts : List Text) (prefix : Text) (most : Option ℕ) → IsPlain f → IsPart (codes "--prefix") prefixes prefix → IsMostPart mosts most
+    → Behind (codes "names" ∷ f ∷ prefixes ++ mosts) (names f prefix most)
+behind-parts f prefixes mosts [] None p a m = rw (a, m) (behind-names f p)
+behind-parts f prefixes mosts [] (Some n) p a (d, h, m) = rw (a, m) (behind-most f d n p h)
+behind-parts f prefixes mosts (c ∷ cs) None p (t, a) m = rw (a, m) (behind-prefix f (c ∷ cs) p (path-plain (c ∷ cs) t))
+behind-parts f prefixes mosts (c ∷ cs) (Some n) p (t, a) (d, h, m) = rw (a, m) (behind-prefix-most f (c ∷ cs) d n p (path-plain (c ∷ cs) t) h)
+
+behind-load : (f : Text) (saving : Saving) → IsPlain f → Behind (codes "load" ∷ f ∷ saving_part saving) (load f None saving 0)
+unfolding clap_on_literals
+behind-load f InPlace p = record { takes = ap (λ b. b && true) (load-asks f InPlace p).passes; asks = (load-asks f InPlace p).found }
+behind-load f Replacing p = record { takes = ap (λ b. b && true) (load-asks f Replacing p).passes; asks = (load-asks f Replacing p).found }
+
+behind-sized : (f d : Text) (n : ℕ) (saving : Saving) → IsPlain f → number_of d ≡ Some n → Behind (codes "load" ∷ f ∷ codes "--size" ∷ d ∷ saving_part saving) (load f (Some n) saving 0)
+unfolding clap_on_literals
+behind-sized f d n InPlace p h = record {
+  takes = ap (λ b. b && true) (sized-asks f d InPlace p (number-plain d n h)).passes;
+  asks = (sized-asks f d InPlace p (number-plain d n h)).found ∙ ap (λ o. option_and_then (λ m. Some (load f m InPlace 0)) (option_map Some o)) h;
+}
+behind-sized f d n Replacing p h = record {
+  takes = ap (λ b. b && true) (sized-asks f d Replacing p (number-plain d n h)).passes;
+  asks = (sized-asks f d Replacing p (number-plain d n h)).found ∙ ap (λ o. option_and_then (λ m. Some (load f m Replacing 0)) (option_map Some o)) h;
 }
 
 behind-lint : Behind (codes "lint" ∷ []) lint
@@ -151,16 +202,6 @@ behind-language : Behind (codes "language" ∷ []) language
 unfolding clap_on_literals
 behind-language = record { takes = refl; asks = refl }
 
--- a run in a mode, with a size where it wants one
-abbrev in_mode : Text → ModeName → Saving → Bool → Bool → Option ℕ → Option Asked
-in_mode f mode saving strict numbered size = option_and_then (λ m. run_sized f m saving strict numbered size) (mode_called (mode_word mode))
-
-mode-asks : (f : Text) (mode : ModeName) (saving : Saving) (strict numbered : Bool) (size : Option ℕ) (a : Asked) → run_sized f mode saving strict numbered size ≡ Some a → in_mode f mode saving strict numbered size ≡ Some a
-mode-asks f mode saving strict numbered size a h = ap (option_and_then (λ m. run_sized f m saving strict numbered size)) (called mode) ∙ h
-
-unsized : (f : Text) (mode : ModeName) (saving : Saving) (strict numbered : Bool) → wants_size mode ≡ false → run_sized f mode saving strict numbered None ≡ Some (run f mode None saving strict numbered)
-unsized f mode saving strict numbered h = rw h refl
-
 saves : (saving : Saving) → saving_of (Some (saving_word saving)) ≡ saving
 saves InPlace = refl
 saves Replacing = refl
@@ -169,18 +210,34 @@ sets : (truth : Bool) → is_set (Some (truth_word truth)) ≡ truth
 sets true = refl
 sets false = refl
 
+-- a run of standard input in a mode, with a size where it wants one
+abbrev in_mode : Text → Option ModeName → Option (Option ℕ) → Saving → Bool → Bool → Option Asked
+in_mode f mode size saving strict numbered =
+    option_and_then (λ m. option_and_then (λ n. if lacks_size m n then None else Some (ran f m n input saving 0 strict numbered)) size) mode
+
 -- the flags say what is asked for
 flags-ask : (f : Text) (mode : Option Text) (size : Option Text) (saving : Saving) (strict numbered : Bool)
-    → asked_of_run (Some f, mode, size, Some (saving_word saving), Some (truth_word strict), Some (truth_word numbered))
-    ≡ option_and_then (λ m. option_and_then (run_sized f m saving strict numbered) (size_of size)) (mode_of mode)
-flags-ask f mode size InPlace false false = refl
-flags-ask f mode size InPlace false true = refl
-flags-ask f mode size InPlace true false = refl
-flags-ask f mode size InPlace true true = refl
-flags-ask f mode size Replacing false false = refl
-flags-ask f mode size Replacing false true = refl
-flags-ask f mode size Replacing true false = refl
-flags-ask f mode size Replacing true true = refl
+    → asked_of_run (said f mode size saving strict numbered) ≡ in_mode f (mode_of mode) (size_of size) saving strict numbered
+flags-ask f mode size saving strict numbered =
+    ap (λ v. in_mode f (mode_of mode) (size_of size) v (is_set (Some (truth_word strict))) (is_set (Some (truth_word numbered)))) (saves saving)
+    ∙ ap₂ (in_mode f (mode_of mode) (size_of size) saving) (sets strict) (sets numbered)
+
+-- a mode that has the size that it wants
+sized : (f : Text) (mode : ModeName) (size : Option ℕ) (saving : Saving) (strict numbered : Bool) → lacks_size mode size ≡ false
+    → in_mode f (mode_called (mode_word mode)) (Some size) saving strict numbered ≡ Some (ran f mode size input saving 0 strict numbered)
+sized f mode size saving strict numbered h =
+    ap (λ m. in_mode f m (Some size) saving strict numbered) (called mode)
+    ∙ ap (λ b. if b then None else Some (ran f mode size input saving 0 strict numbered)) h
+
+with-size : (mode : ModeName) (n : ℕ) → lacks_size mode (Some n) ≡ false
+with-size CreateOnly n = refl
+with-size OpenOnly n = refl
+with-size OpenOrCreate n = refl
+with-size OpenReadOnly n = refl
+with-size OpenCopyOnWrite n = refl
+
+without-size : (mode : ModeName) → wants_size mode ≡ false → lacks_size mode None ≡ false
+without-size mode h = ap (λ b. b && true) h
 
 -- ---- behind the name of a subcommand all words are its own
 
@@ -211,38 +268,60 @@ takes_at end words_pass = entered_passes app end.stopped
     && (list_all default_passes app.top.rules && is_valid app.top (finished app.top.rules end.held) (is_some (entered app end.stopped)))))
 
 -- the words of a run ask for what they say
-behind-read : (words : List Text) (said : RunWords) (a : Asked) → IsRead words said → asked_of_run said ≡ Some a → Behind (codes "run" ∷ words) a
+behind-read : (words : List Text) (what : RunWords) (a : Asked) → IsAsk run_leaf run_words words what → asked_of_run what ≡ Some a → Behind (codes "run" ∷ words) a
 unfolding clap_on_literals
-behind-read words said a r h = record {
+behind-read words what a r h = record {
   takes = ap₂ takes_at (run-walk words) (run-words words) ∙ ap (λ b. b && true) r.passes;
-  asks = ap (λ (e : Walk). asked_of (entered app e.stopped)) (run-walk words) ∙ (ap asked_of_run r.found ∙ h);
+  asks = ap (λ (w : Walk). asked_of (entered app w.stopped)) (run-walk words) ∙ (ap asked_of_run r.found ∙ h);
 }
 
-behind-run : (f : Text) (saving : Saving) (strict numbered : Bool) → IsPlain f → Behind (codes "run" ∷ f ∷ flag_words saving strict numbered) (run f OpenOnly None saving strict numbered)
+behind-run : (f : Text) (saving : Saving) (strict numbered : Bool) → IsPlain f → Behind (codes "run" ∷ f ∷ flag_words saving strict numbered) (ran f OpenOnly None input saving 0 strict numbered)
 behind-run f saving strict numbered p = behind-read _ _ _ (run-file f saving strict numbered p) (flags-ask f None None saving strict numbered)
 
 behind-mode : (f : Text) (mode : ModeName) (saving : Saving) (strict numbered : Bool) → IsPlain f → wants_size mode ≡ false
-    → Behind (codes "run" ∷ f ∷ codes "--mode" ∷ mode_word mode ∷ flag_words saving strict numbered) (run f mode None saving strict numbered)
+    → Behind (codes "run" ∷ f ∷ codes "--mode" ∷ mode_word mode ∷ flag_words saving strict numbered) (ran f mode None input saving 0 strict numbered)
 behind-mode f mode saving strict numbered p h = behind-read _ _ _ (run-mode f (mode_word mode) saving strict numbered p (mode-plain mode))
-    (flags-ask f (Some (mode_word mode)) None saving strict numbered ∙ mode-asks f mode saving strict numbered None _ (unsized f mode saving strict numbered h))
+    (flags-ask f (Some (mode_word mode)) None saving strict numbered ∙ sized f mode None saving strict numbered (without-size mode h))
 
 behind-size : (f d : Text) (n : ℕ) (saving : Saving) (strict numbered : Bool) → IsPlain f → number_of d ≡ Some n
-    → Behind (codes "run" ∷ f ∷ codes "--size" ∷ d ∷ flag_words saving strict numbered) (run f OpenOnly (Some n) saving strict numbered)
+    → Behind (codes "run" ∷ f ∷ codes "--size" ∷ d ∷ flag_words saving strict numbered) (ran f OpenOnly (Some n) input saving 0 strict numbered)
 behind-size f d n saving strict numbered p h = behind-read _ _ _ (run-size f d saving strict numbered p (number-plain d n h))
-    (flags-ask f None (Some d) saving strict numbered ∙ ap (λ o. option_and_then (run_sized f OpenOnly saving strict numbered) (option_map Some o)) h)
+    (flags-ask f None (Some d) saving strict numbered ∙ ap (λ o. in_mode f (Some OpenOnly) (option_map Some o) saving strict numbered) h)
 
 behind-both : (f d : Text) (mode : ModeName) (n : ℕ) (saving : Saving) (strict numbered : Bool) → IsPlain f → number_of d ≡ Some n
-    → Behind (codes "run" ∷ f ∷ codes "--mode" ∷ mode_word mode ∷ codes "--size" ∷ d ∷ flag_words saving strict numbered) (run f mode (Some n) saving strict numbered)
+    → Behind (codes "run" ∷ f ∷ codes "--mode" ∷ mode_word mode ∷ codes "--size" ∷ d ∷ flag_words saving strict numbered) (ran f mode (Some n) input saving 0 strict numbered)
 behind-both f d mode n saving strict numbered p h = behind-read _ _ _ (run-both f (mode_word mode) d saving strict numbered p (mode-plain mode) (number-plain d n h))
     (flags-ask f (Some (mode_word mode)) (Some d) saving strict numbered
-    ∙ (ap (λ o. option_and_then (λ m. option_and_then (run_sized f m saving strict numbered) (option_map Some o)) (mode_called (mode_word mode))) h ∙ mode-asks f mode saving strict numbered (Some n) _ refl))
+    ∙ (ap (λ o. in_mode f (mode_called (mode_word mode)) (option_map Some o) saving strict numbered) h ∙ sized f mode (Some n) saving strict numbered (with-size mode n)))
 
 behind-options : (f : Text) (modes sizes flags : List Text) (mode : ModeName) (size : Option ℕ) (saving : Saving) (strict numbered : Bool) → flags ≡ flag_words saving strict numbered → IsPlain f
-    → IsModePart modes mode → IsSizePart sizes mode size → Behind (codes "run" ∷ f ∷ modes ++ (sizes ++ flags)) (run f mode size saving strict numbered)
+    → IsModePart modes mode → IsSizePart sizes mode size → Behind (codes "run" ∷ f ∷ modes ++ (sizes ++ flags)) (ran f mode size input saving 0 strict numbered)
 behind-options f modes sizes flags mode None v t n e p (inl m) (s, w) = rw (e, m, s) (behind-mode f mode v t n p w)
 behind-options f modes sizes flags mode None v t n e p (inr (m, o)) (s, w) = rw (e, m, s, o) (behind-run f v t n p)
 behind-options f modes sizes flags mode (Some k) v t n e p (inl m) (d, h, s) = rw (e, m, s) (behind-both f d mode k v t n p h)
 behind-options f modes sizes flags mode (Some k) v t n e p (inr (m, o)) (d, h, s) = rw (e, m, s, o) (behind-size f d k v t n p h)
+
+-- a run of a script that the command line names or has
+abbrev of_script : Text → Origin → Asked
+of_script f origin = ran f OpenOnly None origin InPlace 0 false false
+
+behind-origin : (f : Text) (words : List Text) (origin : Origin) → IsPlain f → IsOriginPart words origin → Behind (codes "run" ∷ f ∷ words) (of_script f origin)
+behind-origin f words input p e = rw e (behind-run f InPlace false false p)
+behind-origin f words (from_file path) p (t, e) = rw e (behind-read _ _ _ (script-asks f path p (path-plain path t)) refl)
+behind-origin f words (from_lines []) p h = absurd h
+behind-origin f words (from_lines (l ∷ ls)) p (t, e) =
+    let both = and_parts (is_path l) (list_all is_path ls) t in
+    rw e (behind-read _ _ _ (lines-ask f l ls p (path-plain l both.0) (lines-plain ls both.1)) refl)
+
+behind-script : (f : Text) (mode : ModeName) (size : Option ℕ) (origin : Origin) (saving : Saving) (strict numbered : Bool) (words origins : List Text) → IsPlain f → IsOriginPart origins origin
+    → mode ≡ OpenOnly → size ≡ None → saving ≡ InPlace → strict ≡ false → numbered ≡ false → words ≡ codes "run" ∷ f ∷ origins → Behind words (ran f mode size origin saving 0 strict numbered)
+behind-script f mode size origin saving strict numbered words origins p o m z s t n e = rw (e, m, z, s, t, n) (behind-origin f origins origin p o)
+
+behind-written : (f : Text) (mode : ModeName) (size : Option ℕ) (origin : Origin) (saving : Saving) (strict numbered : Bool) (words : List Text) → IsPlain f
+    → IsRunWritten f mode size origin saving strict numbered words → Behind words (ran f mode size origin saving 0 strict numbered)
+behind-written f mode size input saving strict numbered words p (modes, sizes, m, s, e) = rw e (behind-options f modes sizes _ mode size saving strict numbered refl p m s)
+behind-written f mode size (from_file path) saving strict numbered words p (origins, o, m, z, s, t, n, e) = behind-script f mode size (from_file path) saving strict numbered words origins p o m z s t n e
+behind-written f mode size (from_lines ls) saving strict numbered words p (origins, o, m, z, s, t, n, e) = behind-script f mode size (from_lines ls) saving strict numbered words origins p o m z s t n e
 
 -- words that have no command
 pub record IsVersion (words : List Text) (a : Asked) : Type 0 where
@@ -253,22 +332,34 @@ asks-version : IsVersion (codes "--version" ∷ []) version
 unfolding clap_on_literals
 asks-version = record { is = refl; fault = refl }
 
+-- a run that has options
+with-options : (f : Text) (mode : ModeName) (size : Option ℕ) (origin : Origin) (saving : Saving) (strict numbered : Bool) (words : List Text) → is_plain_run origin saving 0 strict numbered ≡ false
+    → Behind words (ran f mode size origin saving 0 strict numbered) → Behind words (run_with f mode size origin saving 0 strict numbered)
+with-options f mode size origin saving strict numbered words h b =
+    subst (Behind words) (ap (λ p. if p then run f mode size else run_with f mode size origin saving 0 strict numbered) h) b
+
 behind : (words : List Text) (a : Asked) → IsWritten a words → Behind words a ⊎ IsVersion words a
 behind words (create f n) (p, d, h, e) = inl (rw e (behind-create f d n (path-plain f p) h))
-behind words (run f mode size saving strict numbered) (p, modes, sizes, m, s, e) = inl (rw e (behind-options f modes sizes _ mode size saving strict numbered refl (path-plain f p) m s))
+behind words (run f mode size) (p, r) = inl (behind-written f mode size input InPlace false false words (path-plain f p) r)
+behind words (run_with f mode size origin saving wait strict numbered) (p, w, o, r) = inl (rw w (with-options f mode size origin saving strict numbered words o (behind-written f mode size origin saving strict numbered words (path-plain f p) r)))
 behind words (check f) (p, e) = inl (rw e (behind-check f (path-plain f p)))
+behind words (check_all files quiet) (f, p, l, q, e) = inl (rw (e, l, q) (behind-quiet f (path-plain f p)))
 behind words (explain f) (p, e) = inl (rw e (behind-explain f (path-plain f p)))
 behind words (grow f n) (p, d, h, e) = inl (rw e (behind-grow f d n (path-plain f p) h))
+behind words (grow_with f n saving wait) (p, w, v, d, h, e) = inl (rw (e, w, v) (behind-grow-replaced f d n (path-plain f p) h))
 behind words (shrink f) (p, e) = inl (rw e (behind-shrink f (path-plain f p)))
+behind words (shrink_with f saving wait) (p, w, v, e) = inl (rw (e, w, v) (behind-shrink-replaced f (path-plain f p)))
 behind words (migrate f) (p, e) = inl (rw e (behind-migrate f (path-plain f p)))
+behind words (migrate_with f saving wait) (p, w, v, e) = inl (rw (e, w, v) (behind-migrate-replaced f (path-plain f p)))
 behind words (stat f) (p, e) = inl (rw e (behind-stat f (path-plain f p)))
 behind words (draw f) (p, e) = inl (rw e (behind-draw f (path-plain f p)))
 behind words (draw_page f) (p, e) = inl (rw e (behind-page f (path-plain f p)))
 behind words (dump f) (p, e) = inl (rw e (behind-dump f (path-plain f p)))
 behind words (dump_capacities f) (p, e) = inl (rw e (behind-capacities f (path-plain f p)))
 behind words (dump_json f) (p, e) = inl (rw e (behind-json f (path-plain f p)))
-behind words (load f None) (p, e) = inl (rw e (behind-load f (path-plain f p)))
-behind words (load f (Some n)) (p, sizes, (d, h, s), e) = inl (rw (e, s) (behind-sized f d n (path-plain f p) h))
+behind words (names f prefix most) (p, prefixes, mosts, a, m, e) = inl (rw e (behind-parts f prefixes mosts prefix most (path-plain f p) a m))
+behind words (load f None saving wait) (p, w, e) = inl (rw (e, w) (behind-load f saving (path-plain f p)))
+behind words (load f (Some n) saving wait) (p, w, sizes, (d, h, s), e) = inl (rw (e, w, s) (behind-sized f d n saving (path-plain f p) h))
 behind words lint e = inl (rw e behind-lint)
 behind words language e = inl (rw e behind-language)
 behind words version e = inr (rw e asks-version)

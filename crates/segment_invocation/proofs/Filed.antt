@@ -30,4 +30,5 @@ without_file name rows l h e =
     (neither (bytes_eq name (codes "stat")) _ _ (rw e refl)
     (neither (bytes_eq name (codes "draw")) _ _ (rw e refl)
     (neither (bytes_eq name (codes "dump")) _ _ (rw e refl)
-    (neither (bytes_eq name (codes "load")) _ _ (rw e refl) (rw (l, h) refl))))))))))
+    (neither (bytes_eq name (codes "names")) _ _ (rw e refl)
+    (neither (bytes_eq name (codes "load")) _ _ (rw e refl) (rw (l, h) refl)))))))))))

@@ -1,25 +1,32 @@
 -- What the program may be asked on its command line, over the matches that clap states for its words.
 use Rattle.std.specs.Prelude.{◌≡◌, ◌⊎◌, ◌==◌, ◌∷◌, ◌++◌, ℕ, Bool, true, false, not, List, [], Option, Some, None}
 use Rattle.std.specs.Prelude.{is_some, Result, MatchResult, IsTrue, option_map, option_and_then, codes, fold}
+use Rattle.std.specs.Prelude.{◌&&◌, flat_map, length, map, nat_lt, unwrap_or}
+use Rattle.std.specs.List.{list_all}
+use Rattle.std.specs.Option.{option_map_or}
 use Rattle.std.specs.Prelude.{if◌then◌else◌}
 use Rattle.std.specs.Str.{bytes_eq}
-use Rattle.clap.specs.Walk.{Row, Rule, Text, first_of}
+use denote.Ref.{Bor}
+use Rattle.clap.specs.Walk.{Row, Rule, Text, all_of, first_of}
 use Rattle.clap.specs.Simple.{App, Shape, new_rule, new_shape, subcommand_of, with_subcommand}
 use Rattle.clap.specs.Faults.{fault_of}
 use Rattle.clap.specs.Kinds.{IsAmong}
 use Rattle.clap.specs.Values.{kind_of}
 use Rattle.clap.specs.declared.error.kind.ErrorKind.TheVariants.{DisplayVersion}
-use Rattle.clap.specs.declared.builder.action.ArgAction.TheVariants.{Set, SetTrue}
+use Rattle.clap.specs.declared.builder.action.ArgAction.TheVariants.{Append, Set, SetTrue}
 use Rattle.segment_lang.specs.Words.{number_of}
 use Rattle.segment_invocation.specs.declared.invocations.Invocation.{Invocation}
-use Rattle.segment_invocation.specs.declared.invocations.Invocation.TheVariants.{Create, Run, Check, Explain, Grow, Shrink, Migrate, Stat, Draw, DrawPage, Dump, DumpCapacities, DumpJson, Load, Lint, Language, Version}
+use Rattle.segment_invocation.specs.declared.invocations.Invocation.TheVariants.{Create, Run, RunWith, Check, CheckAll, Explain, Grow, GrowWith, Shrink, ShrinkWith, Migrate, MigrateWith, Stat, Draw, DrawPage, Dump, DumpCapacities, DumpJson, Names, Load, Lint, Language, Version}
 use Rattle.segment_invocation.specs.declared.invocations.ModeName.{ModeName}
 use Rattle.segment_invocation.specs.declared.invocations.ModeName.TheVariants.{CreateOnly, OpenOnly, OpenOrCreate, OpenReadOnly, OpenCopyOnWrite}
 use Rattle.segment_invocation.specs.declared.invocations.Saving.{Saving}
 use Rattle.segment_invocation.specs.declared.invocations.Saving.TheVariants.{InPlace, Replacing}
+use Rattle.segment_invocation.specs.declared.invocations.Keeping.{Keeping}
+use Rattle.segment_invocation.specs.declared.invocations.Script.{Script}
+use Rattle.segment_invocation.specs.declared.invocations.Script.TheVariants as script
 use Rattle.segment_invocation.specs.declared.usage.UsageError.{UsageError}
 use Rattle.segment_invocation.specs.declared.usage.UsageError.TheVariants.{Words, Command, File, Number, Mode}
-use Rattle.segment_invocation.specs.declared.usage.UsageError.TheVariants.{Size}
+use Rattle.segment_invocation.specs.declared.usage.UsageError.TheVariants.{Size, Script as TwoScripts, Files}
 
 -- ---- the command line, as clap reads it
 
@@ -31,9 +38,25 @@ option name = record (new_rule name) { long = Some name; action = Some Set; valu
 abbrev pub flag : Text → Rule
 flag name = record (new_rule name) { long = Some name; action = Some SetTrue }
 
+-- a value behind `-` and this letter, as often as there are values
+abbrev pub lines : Text → ℕ → Rule
+lines name letter = record (new_rule name) { short = Some letter; action = Some Append; value_names = 1 }
+
+-- a value in its place, which may be left out
+abbrev pub maybe : Text → Rule
+maybe name = record (new_rule name) { value_names = 1 }
+
 -- a value in its place, which must be there; help has a word for it
 abbrev pub operand : Text → Rule
 operand name = record (new_rule name) { required = true; value_names = 1 }
+
+-- the same, and there may be more of them
+abbrev pub operands : Text → Rule
+operands name = record (operand name) { action = Some Append }
+
+-- how a file is taken and saved
+abbrev pub kept : List Rule
+kept = flag (codes "replace") ∷ option (codes "wait") ∷ []
 
 -- a subcommand that takes these, and `--verbose`
 abbrev pub taking : Text → List Rule → Shape
@@ -46,11 +69,17 @@ program = record { top = record (new_shape (codes "segment")) { has_version = tr
 abbrev pub file_command : Text → Shape
 file_command name = taking name (operand (codes "file") ∷ [])
 
-abbrev pub number_command : Text → Shape
-number_command name = taking name (operand (codes "file") ∷ operand (codes "number") ∷ [])
+abbrev pub create_command : Shape
+create_command = taking (codes "create") (operand (codes "file") ∷ operand (codes "number") ∷ [])
+
+abbrev pub grow_command : Shape
+grow_command = taking (codes "grow") (operand (codes "file") ∷ operand (codes "number") ∷ kept)
+
+abbrev pub kept_command : Text → Shape
+kept_command name = taking name (operand (codes "file") ∷ kept)
 
 abbrev pub check_command : Shape
-check_command = taking (codes "check") (operand (codes "file") ∷ flag (codes "explain") ∷ [])
+check_command = taking (codes "check") (operands (codes "file") ∷ flag (codes "explain") ∷ flag (codes "quiet") ∷ [])
 
 abbrev pub draw_command : Shape
 draw_command = taking (codes "draw") (operand (codes "file") ∷ flag (codes "html") ∷ [])
@@ -58,60 +87,91 @@ draw_command = taking (codes "draw") (operand (codes "file") ∷ flag (codes "ht
 abbrev pub dump_command : Shape
 dump_command = taking (codes "dump") (operand (codes "file") ∷ flag (codes "capacities") ∷ flag (codes "json") ∷ [])
 
+abbrev pub names_command : Shape
+names_command = taking (codes "names") (operand (codes "file") ∷ option (codes "prefix") ∷ option (codes "most") ∷ [])
+
 abbrev pub load_command : Shape
-load_command = taking (codes "load") (operand (codes "file") ∷ option (codes "size") ∷ [])
+load_command = taking (codes "load") (operand (codes "file") ∷ option (codes "size") ∷ kept)
 
 abbrev pub run_options : List Rule
-run_options = operand (codes "file") ∷ option (codes "mode") ∷ option (codes "size") ∷ []
+run_options = operand (codes "file") ∷ maybe (codes "script") ∷ option (codes "mode") ∷ option (codes "size") ∷ lines (codes "line") 99 ∷ []
 
 abbrev pub run_command : Shape
-run_command = taking (codes "run") (run_options ++ (flag (codes "replace") ∷ flag (codes "strict") ∷ flag (codes "numbered") ∷ []))
+run_command = taking (codes "run") (run_options ++ (flag (codes "replace") ∷ flag (codes "strict") ∷ flag (codes "numbered") ∷ option (codes "wait") ∷ []))
 
 abbrev pub subcommands : List Shape
-subcommands = number_command (codes "create") ∷ run_command ∷ check_command ∷ number_command (codes "grow") ∷ file_command (codes "shrink")
-    ∷ file_command (codes "migrate") ∷ file_command (codes "stat") ∷ draw_command ∷ dump_command ∷ load_command ∷ taking (codes "lint") [] ∷ taking (codes "language") [] ∷ []
+subcommands = create_command ∷ run_command ∷ check_command ∷ grow_command ∷ kept_command (codes "shrink") ∷ kept_command (codes "migrate")
+    ∷ file_command (codes "stat") ∷ draw_command ∷ dump_command ∷ names_command ∷ load_command ∷ taking (codes "lint") [] ∷ taking (codes "language") [] ∷ []
 
 abbrev pub command_line : App
 command_line = fold with_subcommand program subcommands
 
 -- ---- what the matches ask for
 
--- a file goes by its path; a run says whether it is strict, and whether its answers are numbered; a load has a size or
--- takes the least
+-- where a script comes from
+pub data Origin : Type 0 where
+  input : Origin
+  from_file : Text → Origin
+  from_lines : List Text → Origin
+
+-- a file goes by its path; a file that is written may have how it is saved, and how many seconds are waited for it; a run
+-- may also have a script, and whether it is strict, and its answers are numbered; a check of all says whether it is quiet;
+-- names begin with a text and may be limited; a load has a size or takes the least
 pub data Asked : Type 0 where
   create : Text → ℕ → Asked
-  run : Text → ModeName → Option ℕ → Saving → Bool → Bool → Asked
+  run : Text → ModeName → Option ℕ → Asked
+  run_with : Text → ModeName → Option ℕ → Origin → Saving → ℕ → Bool → Bool → Asked
   check : Text → Asked
+  check_all : List Text → Bool → Asked
   explain : Text → Asked
   grow : Text → ℕ → Asked
+  grow_with : Text → ℕ → Saving → ℕ → Asked
   shrink : Text → Asked
+  shrink_with : Text → Saving → ℕ → Asked
   migrate : Text → Asked
+  migrate_with : Text → Saving → ℕ → Asked
   stat : Text → Asked
   draw : Text → Asked
   draw_page : Text → Asked
   dump : Text → Asked
   dump_capacities : Text → Asked
   dump_json : Text → Asked
-  load : Text → Option ℕ → Asked
+  names : Text → Text → Option ℕ → Asked
+  load : Text → Option ℕ → Saving → ℕ → Asked
   lint : Asked
   language : Asked
   version : Asked
 
+abbrev pub origin_by : Script → Origin
+origin_by script.Input = input
+origin_by (script.File path) = from_file path.now
+origin_by (script.Lines texts) = from_lines (map (λ s. s.now) texts.items)
+
+-- the script of these lines: a line end stands behind each
+abbrev pub script_text : List (Bor Text) → Text
+script_text = flat_map (λ line. line.now ++ 0x0A ∷ [])
+
 abbrev pub asked_by : Invocation → Asked
 asked_by (Create file size) = create file.now size
-asked_by (Run file mode size saving answering) = run file.now mode size saving answering.strict answering.numbered
+asked_by (Run file mode size) = run file.now mode size
+asked_by (RunWith file mode size how) = run_with file.now mode size (origin_by how.script) how.keeping.saving how.keeping.wait how.answering.strict how.answering.numbered
 asked_by (Check file) = check file.now
+asked_by (CheckAll files quiet) = check_all (map (λ s. s.now) files.items) quiet
 asked_by (Explain file) = explain file.now
 asked_by (Grow file bytes) = grow file.now bytes
+asked_by (GrowWith file bytes keeping) = grow_with file.now bytes keeping.saving keeping.wait
 asked_by (Shrink file) = shrink file.now
+asked_by (ShrinkWith file keeping) = shrink_with file.now keeping.saving keeping.wait
 asked_by (Migrate file) = migrate file.now
+asked_by (MigrateWith file keeping) = migrate_with file.now keeping.saving keeping.wait
 asked_by (Stat file) = stat file.now
 asked_by (Draw file) = draw file.now
 asked_by (DrawPage file) = draw_page file.now
 asked_by (Dump file) = dump file.now
 asked_by (DumpCapacities file) = dump_capacities file.now
 asked_by (DumpJson file) = dump_json file.now
-asked_by (Load file size) = load file.now size
+asked_by (Names file prefix most) = names file.now prefix.now most
+asked_by (Load file size keeping) = load file.now size keeping.saving keeping.wait
 asked_by Lint = lint
 asked_by Language = language
 asked_by Version = version
@@ -158,21 +218,68 @@ abbrev pub is_set : Option Text → Bool
 is_set None = false
 is_set (Some word) = bytes_eq word (codes "true")
 
--- a run, unless its mode wants a size and there is none
-abbrev pub run_sized : Text → ModeName → Saving → Bool → Bool → Option ℕ → Option Asked
-run_sized file mode saving strict numbered (Some size) = Some (run file mode (Some size) saving strict numbered)
-run_sized file mode saving strict numbered None = if wants_size mode then None else Some (run file mode None saving strict numbered)
+-- for how many seconds a file is waited for, by what stands for `--wait`
+abbrev pub seconds_of : Option Text → Option ℕ
+seconds_of word = option_map (λ n. unwrap_or n 0) (size_of word)
+
+-- where a script comes from: a file or the lines of the command line, and not both
+abbrev pub origin_of : Option Text → List Text → Option Origin
+origin_of None [] = Some input
+origin_of None (line ∷ rest) = Some (from_lines (line ∷ rest))
+origin_of (Some path) [] = Some (from_file path)
+origin_of (Some path) (line ∷ rest) = None
+
+-- no option says otherwise how a file is taken and saved
+abbrev pub is_plain : Saving → ℕ → Bool
+is_plain InPlace wait = wait == 0
+is_plain Replacing wait = false
+
+-- no option says otherwise what a run is asked for
+abbrev pub is_plain_run : Origin → Saving → ℕ → Bool → Bool → Bool
+is_plain_run input saving wait strict numbered = is_plain saving wait && (not strict && not numbered)
+is_plain_run origin saving wait strict numbered = false
+
+-- a run, with its options where there are some
+abbrev pub ran : Text → ModeName → Option ℕ → Origin → Saving → ℕ → Bool → Bool → Asked
+ran file mode size origin saving wait strict numbered =
+    if is_plain_run origin saving wait strict numbered then run file mode size
+    else run_with file mode size origin saving wait strict numbered
+
+-- another command, with its options where there are some
+abbrev pub kept_as : Asked → (Saving → ℕ → Asked) → Saving → ℕ → Asked
+kept_as plain with saving wait = if is_plain saving wait then plain else with saving wait
+
+-- the values of a word that may stand there more than once
+abbrev pub list_of : Text → List Row → List Text
+list_of id words = unwrap_or (all_of id words) []
 
 -- what the words of a subcommand ask for: each word by its id
 abbrev pub with_file : (Text → Option Asked) → List Row → Option Asked
 with_file ask words = option_and_then ask (first_of (codes "file") words)
 
-abbrev pub with_number : (Text → ℕ → Asked) → List Row → Option Asked
-with_number ask words = with_file (λ file. option_map (ask file) (option_and_then number_of (first_of (codes "number") words))) words
+abbrev pub with_number : (Text → ℕ → Option Asked) → List Row → Option Asked
+with_number ask words = with_file (λ file. option_and_then (ask file) (option_and_then number_of (first_of (codes "number") words))) words
 
--- a check's file, and its flag --explain
+-- how a file is taken and saved: the flag --replace, and the seconds of --wait
+abbrev pub with_kept : (Saving → ℕ → Asked) → List Row → Option Asked
+with_kept ask words = option_map (ask (saving_of (first_of (codes "replace") words))) (seconds_of (first_of (codes "wait") words))
+
+abbrev pub asked_kept : (Text → Asked) → (Text → Saving → ℕ → Asked) → List Row → Option Asked
+asked_kept plain with words = with_file (λ file. with_kept (kept_as (plain file) (with file)) words) words
+
+abbrev pub asked_grow : List Row → Option Asked
+asked_grow words = with_number (λ file n. with_kept (kept_as (grow file n) (grow_with file n)) words) words
+
+-- a check of these files, the first of which this is, and its flags --explain and --quiet: one file alone is explained
+abbrev pub checked_of : Text → List Text → Bool → Bool → Option Asked
+checked_of file files explains quiet =
+    if nat_lt 1 (length files) then (if explains then None else Some (check_all files quiet))
+    else if explains then Some (explain file)
+    else if quiet then Some (check_all files true)
+    else Some (check file)
+
 abbrev pub asked_check : List Row → Option Asked
-asked_check words = with_file (λ file. Some (if is_set (first_of (codes "explain") words) then explain file else check file)) words
+asked_check words = with_file (λ file. checked_of file (list_of (codes "file") words) (is_set (first_of (codes "explain") words)) (is_set (first_of (codes "quiet") words))) words
 
 -- a picture's file, and its flag --html
 abbrev pub asked_draw : List Row → Option Asked
@@ -182,42 +289,70 @@ asked_draw words = with_file (λ file. Some (if is_set (first_of (codes "html") 
 abbrev pub asked_dump : List Row → Option Asked
 asked_dump words = with_file (λ file. Some (if is_set (first_of (codes "json") words) then dump_json file else if is_set (first_of (codes "capacities") words) then dump_capacities file else dump file)) words
 
+-- the file of names, what they begin with, and how many there are at most
+abbrev pub asked_names : List Row → Option Asked
+asked_names words = with_file (λ file. option_map (names file (unwrap_or (first_of (codes "prefix") words) [])) (size_of (first_of (codes "most") words))) words
+
 -- a load's file and size
 abbrev pub asked_load : List Row → Option Asked
-asked_load words = with_file (λ file. option_map (load file) (size_of (first_of (codes "size") words))) words
+asked_load words = with_file (λ file. option_and_then (λ size. with_kept (load file size) words) (size_of (first_of (codes "size") words))) words
 
--- a run's file, mode, size, and its flags --replace, --strict and --numbered
-abbrev pub RunWords : Type 0
-RunWords = Option Text × Option Text × Option Text × Option Text × Option Text × Option Text
+-- a run's file, mode, size, script and lines, and its words --replace, --wait, --strict and --numbered
+pub record RunWords : Type 0 where
+  pub file : Option Text
+  pub mode : Option Text
+  pub size : Option Text
+  pub script : Option Text
+  pub lines : List Text
+  pub replace : Option Text
+  pub wait : Option Text
+  pub strict : Option Text
+  pub numbered : Option Text
 
 abbrev pub run_words : List Row → RunWords
-run_words words = (
-  first_of (codes "file") words,
-  first_of (codes "mode") words,
-  first_of (codes "size") words,
-  first_of (codes "replace") words,
-  first_of (codes "strict") words,
-  first_of (codes "numbered") words,
-)
+run_words words = record {
+  file = first_of (codes "file") words;
+  mode = first_of (codes "mode") words;
+  size = first_of (codes "size") words;
+  script = first_of (codes "script") words;
+  lines = list_of (codes "line") words;
+  replace = first_of (codes "replace") words;
+  wait = first_of (codes "wait") words;
+  strict = first_of (codes "strict") words;
+  numbered = first_of (codes "numbered") words;
+}
+
+-- the mode of a run wants a size, and there is none
+abbrev pub lacks_size : ModeName → Option ℕ → Bool
+lacks_size mode size = wants_size mode && not (is_some size)
+
+-- a run, unless its mode wants a size and there is none
+abbrev pub run_sized : RunWords → Text → ModeName → Option ℕ → Origin → ℕ → Option Asked
+run_sized said file mode size origin wait =
+    if lacks_size mode size then None
+    else Some (ran file mode size origin (saving_of said.replace) wait (is_set said.strict) (is_set said.numbered))
 
 abbrev pub asked_of_run : RunWords → Option Asked
-asked_of_run (file, mode, size, replace, strict, numbered) =
-    option_and_then (λ path. option_and_then (λ m. option_and_then (run_sized path m (saving_of replace) (is_set strict) (is_set numbered)) (size_of size)) (mode_of mode)) file
+asked_of_run said =
+    option_and_then (λ file. option_and_then (λ mode. option_and_then (λ size. option_and_then (λ wait. option_and_then (λ origin.
+    run_sized said file mode size origin wait)
+    (origin_of said.script said.lines)) (seconds_of said.wait)) (size_of said.size)) (mode_of said.mode)) said.file
 
 abbrev pub asked_run : List Row → Option Asked
 asked_run words = asked_of_run (run_words words)
 
 abbrev pub asked_in : Text → List Row → Option Asked
 asked_in subcommand words =
-    if bytes_eq subcommand (codes "create") then with_number create words
+    if bytes_eq subcommand (codes "create") then with_number (λ file n. Some (create file n)) words
     else if bytes_eq subcommand (codes "run") then asked_run words
     else if bytes_eq subcommand (codes "check") then asked_check words
-    else if bytes_eq subcommand (codes "grow") then with_number grow words
-    else if bytes_eq subcommand (codes "shrink") then with_file (λ file. Some (shrink file)) words
-    else if bytes_eq subcommand (codes "migrate") then with_file (λ file. Some (migrate file)) words
+    else if bytes_eq subcommand (codes "grow") then asked_grow words
+    else if bytes_eq subcommand (codes "shrink") then asked_kept shrink shrink_with words
+    else if bytes_eq subcommand (codes "migrate") then asked_kept migrate migrate_with words
     else if bytes_eq subcommand (codes "stat") then with_file (λ file. Some (stat file)) words
     else if bytes_eq subcommand (codes "draw") then asked_draw words
     else if bytes_eq subcommand (codes "dump") then asked_dump words
+    else if bytes_eq subcommand (codes "names") then asked_names words
     else if bytes_eq subcommand (codes "load") then asked_load words
     else if bytes_eq subcommand (codes "lint") then Some lint
     else if bytes_eq subcommand (codes "language") then Some language
@@ -240,13 +375,15 @@ Reads wanted result = MatchResult result (λ a. wanted ≡ Some a) (λ e. wanted
 
 -- ---- what is wrong with words that ask for nothing
 
--- there is no such command or mode, or no file, number or size
+-- there is no such command or mode, or no file, number or size; or two scripts, or more files than are explained
 pub data Wrong : Type 0 where
   no_command : Wrong
   no_file : Wrong
   no_number : Wrong
   no_mode : Wrong
   no_size : Wrong
+  two_scripts : Wrong
+  many_files : Wrong
 
 -- what an error says of the words, unless it is one of clap's
 abbrev pub wrong_by : UsageError → Option Wrong
@@ -256,18 +393,29 @@ wrong_by File = Some no_file
 wrong_by Number = Some no_number
 wrong_by (Mode nearest) = Some no_mode
 wrong_by Size = Some no_size
+wrong_by TwoScripts = Some two_scripts
+wrong_by Files = Some many_files
 
--- of a run the first of these: its mode is none, its size is no number, it lacks a size
+-- of a run the first of these: its mode is none, its size is no number, it lacks a size, the seconds are no number, it has
+-- two scripts
 abbrev pub wrong_run : RunWords → Wrong
-wrong_run (file, mode, size, replace, strict, numbered) =
-    if is_some (mode_of mode) then (if is_some (size_of size) then no_size else no_number) else no_mode
+wrong_run said =
+    if not (is_some (mode_of said.mode)) then no_mode
+    else if not (is_some (size_of said.size)) then no_number
+    else if option_map_or (λ mode. lacks_size mode (unwrap_or (size_of said.size) None)) (mode_of said.mode) false then no_size
+    else if is_some (seconds_of said.wait) then two_scripts
+    else no_number
 
--- of a command with a file: its number, or what is wrong with a run, or there is no such command
+-- of a command with a file: its numbers, or what is wrong with a run or a check, or there is no such command
 abbrev pub wrong_filed : Text → List Row → Wrong
 wrong_filed subcommand words =
     if bytes_eq subcommand (codes "run") then wrong_run (run_words words)
+    else if bytes_eq subcommand (codes "check") then many_files
     else if bytes_eq subcommand (codes "create") then no_number
     else if bytes_eq subcommand (codes "grow") then no_number
+    else if bytes_eq subcommand (codes "shrink") then no_number
+    else if bytes_eq subcommand (codes "migrate") then no_number
+    else if bytes_eq subcommand (codes "names") then no_number
     else if bytes_eq subcommand (codes "load") then no_number
     else no_command
 
@@ -322,24 +470,61 @@ flag_part word false = []
 abbrev pub flag_words : Saving → Bool → Bool → List Text
 flag_words saving strict numbered = saving_part saving ++ (flag_part (codes "--strict") strict ++ flag_part (codes "--numbered") numbered)
 
+-- the lines of a script, each behind `-c`
+abbrev pub line_words : List Text → List Text
+line_words [] = []
+line_words (line ∷ rest) = codes "-c" ∷ line ∷ line_words rest
+
+-- what stands for the script of a run, behind the file
+abbrev pub IsOriginPart : List Text → Origin → Type 0
+IsOriginPart words input = words ≡ []
+IsOriginPart words (from_file path) = IsTrue (is_path path) × (words ≡ path ∷ [])
+IsOriginPart words (from_lines []) = ⊥
+IsOriginPart words (from_lines (line ∷ rest)) = IsTrue (list_all is_path (line ∷ rest)) × (words ≡ line_words (line ∷ rest))
+
+-- `NAME TEXT`, which may be left out
+abbrev pub IsPart : Text → List Text → Text → Type 0
+IsPart name words [] = words ≡ []
+IsPart name words (c ∷ cs) = IsTrue (is_path (c ∷ cs)) × (words ≡ name ∷ (c ∷ cs) ∷ [])
+
+-- `--most N`, which may be left out
+abbrev pub IsMostPart : List Text → Option ℕ → Type 0
+IsMostPart words None = words ≡ []
+IsMostPart words (Some most) = (digits : Text) × (number_of digits ≡ Some most) × (words ≡ codes "--most" ∷ digits ∷ [])
+
+-- a run, with its script from standard input, or else with no other word than the script
+abbrev pub IsRunWritten : Text → ModeName → Option ℕ → Origin → Saving → Bool → Bool → List Text → Type 0
+IsRunWritten file mode size input saving strict numbered words = (modes : List Text) × (sizes : List Text) × IsModePart modes mode × IsSizePart sizes mode size
+    × (words ≡ codes "run" ∷ file ∷ modes ++ (sizes ++ flag_words saving strict numbered))
+IsRunWritten file mode size origin saving strict numbered words = (origins : List Text) × IsOriginPart origins origin
+    × (mode ≡ OpenOnly) × (size ≡ None) × (saving ≡ InPlace) × (strict ≡ false) × (numbered ≡ false) × (words ≡ codes "run" ∷ file ∷ origins)
+
 -- the words behind the program's name say what is asked for
 abbrev pub IsWritten : Asked → List Text → Type 0
 IsWritten (create file size) words = IsTrue (is_path file) × (digits : Text) × (number_of digits ≡ Some size) × (words ≡ codes "create" ∷ file ∷ digits ∷ [])
-IsWritten (run file mode size saving strict numbered) words = IsTrue (is_path file) × (modes : List Text) × (sizes : List Text) × IsModePart modes mode × IsSizePart sizes mode size
-    × (words ≡ codes "run" ∷ file ∷ modes ++ (sizes ++ flag_words saving strict numbered))
+IsWritten (run file mode size) words = IsTrue (is_path file) × IsRunWritten file mode size input InPlace false false words
+IsWritten (run_with file mode size origin saving wait strict numbered) words = IsTrue (is_path file) × (wait ≡ 0) × (is_plain_run origin saving 0 strict numbered ≡ false)
+    × IsRunWritten file mode size origin saving strict numbered words
 IsWritten (check file) words = IsTrue (is_path file) × (words ≡ codes "check" ∷ file ∷ [])
+IsWritten (check_all files quiet) words = (file : Text) × IsTrue (is_path file) × (files ≡ file ∷ []) × (quiet ≡ true) × (words ≡ codes "check" ∷ file ∷ codes "--quiet" ∷ [])
 IsWritten (explain file) words = IsTrue (is_path file) × (words ≡ codes "check" ∷ file ∷ codes "--explain" ∷ [])
 IsWritten (grow file bytes) words = IsTrue (is_path file) × (digits : Text) × (number_of digits ≡ Some bytes) × (words ≡ codes "grow" ∷ file ∷ digits ∷ [])
+IsWritten (grow_with file bytes saving wait) words = IsTrue (is_path file) × (wait ≡ 0) × (saving ≡ Replacing) × (digits : Text) × (number_of digits ≡ Some bytes)
+    × (words ≡ codes "grow" ∷ file ∷ digits ∷ codes "--replace" ∷ [])
 IsWritten (shrink file) words = IsTrue (is_path file) × (words ≡ codes "shrink" ∷ file ∷ [])
+IsWritten (shrink_with file saving wait) words = IsTrue (is_path file) × (wait ≡ 0) × (saving ≡ Replacing) × (words ≡ codes "shrink" ∷ file ∷ codes "--replace" ∷ [])
 IsWritten (migrate file) words = IsTrue (is_path file) × (words ≡ codes "migrate" ∷ file ∷ [])
+IsWritten (migrate_with file saving wait) words = IsTrue (is_path file) × (wait ≡ 0) × (saving ≡ Replacing) × (words ≡ codes "migrate" ∷ file ∷ codes "--replace" ∷ [])
 IsWritten (stat file) words = IsTrue (is_path file) × (words ≡ codes "stat" ∷ file ∷ [])
 IsWritten (draw file) words = IsTrue (is_path file) × (words ≡ codes "draw" ∷ file ∷ [])
 IsWritten (draw_page file) words = IsTrue (is_path file) × (words ≡ codes "draw" ∷ file ∷ codes "--html" ∷ [])
 IsWritten (dump file) words = IsTrue (is_path file) × (words ≡ codes "dump" ∷ file ∷ [])
 IsWritten (dump_capacities file) words = IsTrue (is_path file) × (words ≡ codes "dump" ∷ file ∷ codes "--capacities" ∷ [])
 IsWritten (dump_json file) words = IsTrue (is_path file) × (words ≡ codes "dump" ∷ file ∷ codes "--json" ∷ [])
-IsWritten (load file None) words = IsTrue (is_path file) × (words ≡ codes "load" ∷ file ∷ [])
-IsWritten (load file (Some size)) words = IsTrue (is_path file) × (sizes : List Text) × IsSized sizes size × (words ≡ codes "load" ∷ file ∷ sizes)
+IsWritten (names file prefix most) words = IsTrue (is_path file) × (prefixes : List Text) × (mosts : List Text) × IsPart (codes "--prefix") prefixes prefix × IsMostPart mosts most
+    × (words ≡ codes "names" ∷ file ∷ prefixes ++ mosts)
+IsWritten (load file None saving wait) words = IsTrue (is_path file) × (wait ≡ 0) × (words ≡ codes "load" ∷ file ∷ saving_part saving)
+IsWritten (load file (Some size) saving wait) words = IsTrue (is_path file) × (wait ≡ 0) × (sizes : List Text) × IsSized sizes size × (words ≡ codes "load" ∷ file ∷ sizes ++ saving_part saving)
 IsWritten lint words = words ≡ codes "lint" ∷ []
 IsWritten language words = words ≡ codes "language" ∷ []
 IsWritten version words = words ≡ codes "--version" ∷ []

@@ -3,13 +3,16 @@ use Rattle.std.specs.Prelude.{List, Option, fold, map}
 use denote.Ref.{Bor}
 use Rattle.clap.specs.Walk.{Rule, Text}
 use Rattle.clap.specs.Simple.{Shape, new_app, with_rule}
-use Rattle.segment_invocation.specs.Invocations.{flag, operand, option}
+use Rattle.segment_invocation.specs.Invocations.{flag, lines, maybe, operand, operands, option}
 use Rattle.segment_invocation.specs.declared.command_line.Word.{Word}
 use Rattle.segment_invocation.specs.declared.command_line.Word.TheVariants as word
 
 -- a word, as clap reads it
 abbrev pub word_rule : Word → Rule
 word_rule (word.Operand name shown help) = operand name.now
+word_rule (word.Operands name shown help) = operands name.now
+word_rule (word.Optional name shown help) = maybe name.now
+word_rule (word.Short name letter shown help) = lines name.now letter
 word_rule (word.Option name shown help) = option name.now
 word_rule (word.Flag name help) = flag name.now
 

@@ -1,5 +1,5 @@
 //! What the words of a command line ask for.
-ghost use Rattle.std.specs.Prelude.{◌≡◌, false, Some, None, Ok, Err, map, drop, codes, IfErr, IfOk, MatchResult, option_map, option_and_then};
+ghost use Rattle.std.specs.Prelude.{◌≡◌, false, Some, None, Ok, Err, map, drop, codes, IfErr, IfOk, MatchResult, option_map, option_and_then, unwrap_or};
 ghost use Rattle.std.specs.List.{list_any};
 ghost use Rattle.std.specs.Str.{bytes_eq};
 ghost use Rattle.clap.specs.Matches.{found_of};
@@ -7,25 +7,37 @@ ghost use Rattle.clap.specs.Values.{kind_of};
 ghost use Rattle.clap.specs.Walk.{first_of, rows_of};
 ghost use Rattle.clap.specs.declared.error.kind.ErrorKind.TheVariants.{DisplayVersion, OutOfMemory as NoMemory};
 ghost use Rattle.segment_lang.specs.Words.{number_of};
-ghost use Rattle.segment_invocation.specs.Invocations.{Asked, IsAskedBy, IsWritten, IsWrongBy, Reads, asked_by, asked_in, asked_run, is_set, mode_of, no_mode, no_number, run_words, saving_of, size_of, wrong_by, wrong_filed, wrong_in, wrong_run};
+ghost use Rattle.segment_invocation.specs.Invocations.{Asked, IsAskedBy, IsWritten, IsWrongBy, Reads, asked_by, asked_check, asked_grow, asked_in, asked_kept, asked_names, asked_run, is_set, list_of, many_files, migrate, migrate_with, mode_of, no_mode, no_number, origin_by, origin_of, run_words, saving_of, seconds_of, shrink, shrink_with, size_of, two_scripts, wrong_by, wrong_filed, wrong_in, wrong_run};
 ghost use Rattle.segment_invocation.specs.declared.invocations.Invocation.TheVariants.{Version};
 ghost use Rattle.segment_invocation.specs.declared.usage.InvocationFault.TheVariants.{OutOfMemory, Usage};
 ghost use Rattle.segment_invocation.specs.declared.usage.UsageError.TheVariants.{Words};
 
 use crate::command_line::command_line;
-use crate::invocations::{Answering, Invocation, ModeName, Saving};
+use crate::invocations::{Answering, Invocation, Keeping, ModeName, Running, Saving, Script};
 use crate::nearest::nearest_mode;
 use crate::usage::{InvocationFault, UsageError};
 use clap::error::ErrorKind;
 use clap::{ArgMatches, Error as Misread};
 use segment_lang::number_of;
-use std::alloc::Global;
+use std::alloc::{AllocError, Global};
 
 /// The word of an operand or an option, if there is one.
 fn word_of<'a>(words: &ArgMatches<'a>, id: &str) -> Option<&'a str>
     ensures { option_map (λ word. word.now) result ≡ first_of id.now (rows_of (found_of words.now)) }
 {
     words.get_str(id)
+}
+
+/// The values of an operand or an option that may stand there more than once.
+fn texts_in<'a>(alloc: Global, words: &ArgMatches<'a>, id: &str) -> Result<Vec<&'a str>, AllocError>
+    ensures { IfOk result (λ texts. map (λ s. s.now) texts.items ≡ list_of id.now (rows_of (found_of words.now))) }
+{
+    let mut texts = Vec::new(alloc);
+    match words.get_strs(id) {
+        Some(values) => texts.extend_from_slice(values)?,
+        None => {}
+    }
+    Ok(texts)
 }
 
 /// The number of a command.
@@ -56,21 +68,21 @@ fn mode_in(alloc: Global, words: &ArgMatches<'_>) -> Result<ModeName, UsageError
     }
 }
 
-/// The size that is asked for, if there is one.
-fn size_in(words: &ArgMatches<'_>) -> Result<Option<u64>, UsageError>
-    ensures read { Reads (size_of (first_of (codes "size") (rows_of (found_of words.now)))) result }
+/// The number behind an option, if there is one.
+fn count_in(words: &ArgMatches<'_>, id: &str) -> Result<Option<u64>, UsageError>
+    ensures read { Reads (size_of (first_of id.now (rows_of (found_of words.now)))) result }
     ensures wrong { IfErr result (λ e. wrong_by e ≡ Some no_number) }
 {
-    match word_of(words, "size") {
+    match word_of(words, id) {
         Some(word) => match number_of(word.as_bytes()) {
-            Some(size) => Ok(Some(size)),
+            Some(count) => Ok(Some(count)),
             None => Err(UsageError::Number),
         },
         None => Ok(None),
     }
 }
 
-/// How a run saves.
+/// How a command saves.
 fn saving_in(words: &ArgMatches<'_>) -> Saving
     ensures { result ≡ saving_of (first_of (codes "replace") (rows_of (found_of words.now))) }
 {
@@ -87,6 +99,35 @@ fn is_set(words: &ArgMatches<'_>, id: &str) -> bool
     matches!(word_of(words, id), Some("true"))
 }
 
+/// How the file of a command is taken and saved.
+fn keeping_in(words: &ArgMatches<'_>) -> Result<Keeping, UsageError>
+    ensures saving { IfOk result (λ k. k.saving ≡ saving_of (first_of (codes "replace") (rows_of (found_of words.now)))) }
+    ensures read { MatchResult result (λ k. seconds_of (first_of (codes "wait") (rows_of (found_of words.now))) ≡ Some k.wait)
+        (λ e. seconds_of (first_of (codes "wait") (rows_of (found_of words.now))) ≡ None) }
+    ensures wrong { IfErr result (λ e. wrong_by e ≡ Some no_number) }
+{
+    let wait = count_in(words, "wait")?;
+    Ok(Keeping {
+        saving: saving_in(words),
+        wait: wait.unwrap_or(0),
+    })
+}
+
+/// Where the script of a run comes from, that has these lines on the command line.
+fn script_in<'a>(words: &ArgMatches<'a>, lines: Vec<&'a str>) -> Result<Script<'a>, UsageError>
+    ensures read { MatchResult result
+        (λ s. origin_of (first_of (codes "script") (rows_of (found_of words.now))) (map (λ l. l.now) lines.entry.items) ≡ Some (origin_by s))
+        (λ e. origin_of (first_of (codes "script") (rows_of (found_of words.now))) (map (λ l. l.now) lines.entry.items) ≡ None) }
+    ensures wrong { IfErr result (λ e. wrong_by e ≡ Some two_scripts) }
+{
+    match word_of(words, "script") {
+        Some(path) if lines.is_empty() => Ok(Script::File(path)),
+        Some(_) => Err(UsageError::Script),
+        None if lines.is_empty() => Ok(Script::Input),
+        None => Ok(Script::Lines(lines)),
+    }
+}
+
 /// How a run answers.
 fn answering_in(words: &ArgMatches<'_>) -> Answering
     ensures strict { result.strict ≡ is_set (first_of (codes "strict") (rows_of (found_of words.now))) }
@@ -98,23 +139,118 @@ fn answering_in(words: &ArgMatches<'_>) -> Answering
     }
 }
 
-/// What the words of the command `run` ask for, of a file.
+/// What the words of the command `run` ask for, of a file, with the lines that stand among them.
 fn read_run<'a>(
     alloc: Global,
     file: &'a str,
     words: &ArgMatches<'a>,
+    lines: Vec<&'a str>,
 ) -> Result<Invocation<'a>, UsageError>
-    requires { first_of (codes "file") (rows_of (found_of words.now)) ≡ Some file.now }
+    requires file { first_of (codes "file") (rows_of (found_of words.now)) ≡ Some file.now }
+    requires lines { map (λ l. l.now) lines.items ≡ list_of (codes "line") (rows_of (found_of words.now)) }
     ensures read { MatchResult result (λ i. asked_run (rows_of (found_of words.now)) ≡ Some (asked_by i))
         (λ e. asked_run (rows_of (found_of words.now)) ≡ None) }
     ensures wrong { IfErr result (λ e. wrong_by e ≡ Some (wrong_run (run_words (rows_of (found_of words.now))))) }
 {
     let mode = mode_in(alloc, words)?;
-    let size = size_in(words)?;
+    let size = count_in(words, "size")?;
     if mode.wants_size() && size.is_none() {
         return Err(UsageError::Size);
     }
-    Ok(Invocation::Run(file, mode, size, saving_in(words), answering_in(words)))
+    let keeping = keeping_in(words)?;
+    let running = Running {
+        script: script_in(words, lines)?,
+        keeping,
+        answering: answering_in(words),
+    };
+    if running.is_plain() {
+        return Ok(Invocation::Run(file, mode, size));
+    }
+    Ok(Invocation::RunWith(file, mode, size, running))
+}
+
+/// What the words of the command `check` ask for, of these files, the first of which this is.
+fn read_check<'a>(
+    file: &'a str,
+    words: &ArgMatches<'a>,
+    files: Vec<&'a str>,
+) -> Result<Invocation<'a>, UsageError>
+    requires file { first_of (codes "file") (rows_of (found_of words.now)) ≡ Some file.now }
+    requires files { map (λ f. f.now) files.items ≡ list_of (codes "file") (rows_of (found_of words.now)) }
+    ensures read { MatchResult result (λ i. asked_check (rows_of (found_of words.now)) ≡ Some (asked_by i))
+        (λ e. asked_check (rows_of (found_of words.now)) ≡ None) }
+    ensures wrong { IfErr result (λ e. wrong_by e ≡ Some many_files) }
+{
+    let explains = is_set(words, "explain");
+    let is_quiet = is_set(words, "quiet");
+    if files.len() > 1 {
+        if explains {
+            return Err(UsageError::Files);
+        }
+        return Ok(Invocation::CheckAll(files, is_quiet));
+    }
+    if explains {
+        return Ok(Invocation::Explain(file));
+    }
+    if is_quiet {
+        return Ok(Invocation::CheckAll(files, true));
+    }
+    Ok(Invocation::Check(file))
+}
+
+/// What the words of the command `grow` ask for, of a file.
+fn read_grow<'a>(file: &'a str, words: &ArgMatches<'a>) -> Result<Invocation<'a>, UsageError>
+    requires { first_of (codes "file") (rows_of (found_of words.now)) ≡ Some file.now }
+    ensures read { MatchResult result (λ i. asked_grow (rows_of (found_of words.now)) ≡ Some (asked_by i))
+        (λ e. asked_grow (rows_of (found_of words.now)) ≡ None) }
+    ensures wrong { IfErr result (λ e. wrong_by e ≡ Some no_number) }
+{
+    let bytes = number_in(words)?;
+    let keeping = keeping_in(words)?;
+    if keeping.is_plain() {
+        return Ok(Invocation::Grow(file, bytes));
+    }
+    Ok(Invocation::GrowWith(file, bytes, keeping))
+}
+
+/// What the words of the command `shrink` ask for, of a file.
+fn read_shrink<'a>(file: &'a str, words: &ArgMatches<'a>) -> Result<Invocation<'a>, UsageError>
+    requires { first_of (codes "file") (rows_of (found_of words.now)) ≡ Some file.now }
+    ensures read { MatchResult result (λ i. asked_kept shrink shrink_with (rows_of (found_of words.now)) ≡ Some (asked_by i))
+        (λ e. asked_kept shrink shrink_with (rows_of (found_of words.now)) ≡ None) }
+    ensures wrong { IfErr result (λ e. wrong_by e ≡ Some no_number) }
+{
+    let keeping = keeping_in(words)?;
+    if keeping.is_plain() {
+        return Ok(Invocation::Shrink(file));
+    }
+    Ok(Invocation::ShrinkWith(file, keeping))
+}
+
+/// What the words of the command `migrate` ask for, of a file.
+fn read_migrate<'a>(file: &'a str, words: &ArgMatches<'a>) -> Result<Invocation<'a>, UsageError>
+    requires { first_of (codes "file") (rows_of (found_of words.now)) ≡ Some file.now }
+    ensures read { MatchResult result (λ i. asked_kept migrate migrate_with (rows_of (found_of words.now)) ≡ Some (asked_by i))
+        (λ e. asked_kept migrate migrate_with (rows_of (found_of words.now)) ≡ None) }
+    ensures wrong { IfErr result (λ e. wrong_by e ≡ Some no_number) }
+{
+    let keeping = keeping_in(words)?;
+    if keeping.is_plain() {
+        return Ok(Invocation::Migrate(file));
+    }
+    Ok(Invocation::MigrateWith(file, keeping))
+}
+
+/// What the words of the command `names` ask for, of a file.
+fn read_names<'a>(file: &'a str, words: &ArgMatches<'a>) -> Result<Invocation<'a>, UsageError>
+    requires { first_of (codes "file") (rows_of (found_of words.now)) ≡ Some file.now }
+    ensures read { MatchResult result (λ i. asked_names (rows_of (found_of words.now)) ≡ Some (asked_by i))
+        (λ e. asked_names (rows_of (found_of words.now)) ≡ None) }
+    ensures wrong { IfErr result (λ e. wrong_by e ≡ Some no_number) }
+{
+    let most = count_in(words, "most")?;
+    let prefix = word_of(words, "prefix").unwrap_or("");
+    Ok(Invocation::Names(file, prefix, most))
 }
 
 /// What the words of a command ask for that has a file.
@@ -123,8 +259,12 @@ fn read_filed<'a>(
     name: &str,
     file: &'a str,
     words: &ArgMatches<'a>,
+    files: Vec<&'a str>,
+    lines: Vec<&'a str>,
 ) -> Result<Invocation<'a>, UsageError>
     requires file { first_of (codes "file") (rows_of (found_of words.now)) ≡ Some file.now }
+    requires files { map (λ f. f.now) files.items ≡ list_of (codes "file") (rows_of (found_of words.now)) }
+    requires lines { map (λ l. l.now) lines.items ≡ list_of (codes "line") (rows_of (found_of words.now)) }
     requires lint { bytes_eq name.now (codes "lint") ≡ false }
     requires language { bytes_eq name.now (codes "language") ≡ false }
     ensures read { MatchResult result (λ i. asked_in name.now (rows_of (found_of words.now)) ≡ Some (asked_by i))
@@ -133,19 +273,19 @@ fn read_filed<'a>(
 {
     match name {
         "create" => Ok(Invocation::Create(file, number_in(words)?)),
-        "run" => read_run(alloc, file, words),
-        "check" if is_set(words, "explain") => Ok(Invocation::Explain(file)),
-        "check" => Ok(Invocation::Check(file)),
-        "grow" => Ok(Invocation::Grow(file, number_in(words)?)),
-        "shrink" => Ok(Invocation::Shrink(file)),
-        "migrate" => Ok(Invocation::Migrate(file)),
+        "run" => read_run(alloc, file, words, lines),
+        "check" => read_check(file, words, files),
+        "grow" => read_grow(file, words),
+        "shrink" => read_shrink(file, words),
+        "migrate" => read_migrate(file, words),
         "stat" => Ok(Invocation::Stat(file)),
         "draw" if is_set(words, "html") => Ok(Invocation::DrawPage(file)),
         "draw" => Ok(Invocation::Draw(file)),
         "dump" if is_set(words, "json") => Ok(Invocation::DumpJson(file)),
         "dump" if is_set(words, "capacities") => Ok(Invocation::DumpCapacities(file)),
         "dump" => Ok(Invocation::Dump(file)),
-        "load" => Ok(Invocation::Load(file, size_in(words)?)),
+        "names" => read_names(file, words),
+        "load" => Ok(Invocation::Load(file, count_in(words, "size")?, keeping_in(words)?)),
         _ => Err(UsageError::Command),
     }
 }
@@ -156,7 +296,11 @@ fn read_command<'a>(
     alloc: Global,
     name: &str,
     words: &ArgMatches<'a>,
+    files: Vec<&'a str>,
+    lines: Vec<&'a str>,
 ) -> Result<Invocation<'a>, UsageError>
+    requires files { map (λ f. f.now) files.items ≡ list_of (codes "file") (rows_of (found_of words.now)) }
+    requires lines { map (λ l. l.now) lines.items ≡ list_of (codes "line") (rows_of (found_of words.now)) }
     ensures read { MatchResult result (λ i. asked_in name.now (rows_of (found_of words.now)) ≡ Some (asked_by i))
         (λ e. asked_in name.now (rows_of (found_of words.now)) ≡ None) }
     ensures wrong { IfErr result (λ e. wrong_by e ≡ Some (wrong_in name.now (rows_of (found_of words.now)))) }
@@ -165,7 +309,7 @@ fn read_command<'a>(
         "lint" => Ok(Invocation::Lint),
         "language" => Ok(Invocation::Language),
         _ => match word_of(words, "file") {
-            Some(file) => read_filed(alloc, name, file, words),
+            Some(file) => read_filed(alloc, name, file, words, files, lines),
             None => Err(UsageError::File),
         },
     }
@@ -205,7 +349,11 @@ pub fn invocation<'a>(
         Err(other) => return read_other(other),
     };
     match matches.subcommand() {
-        Some((name, found)) => Ok(read_command(alloc, name, found)?),
+        Some((name, found)) => {
+            let files = texts_in(alloc, found, "file")?;
+            let lines = texts_in(alloc, found, "line")?;
+            Ok(read_command(alloc, name, found, files, lines)?)
+        }
         None => Err(InvocationFault::Usage(UsageError::Command)),
     }
 }

@@ -19,11 +19,11 @@ const CREATE: &str =
     "Makes FILE with an empty segment of SIZE bytes; a FILE that exists is refused";
 
 /// What the command `run` does.
-const RUN: &str =
-    "Runs the script of standard input on the segment in FILE, prints its answers, and saves the segment";
+const RUN: &str = "Runs a script on the segment in FILE, prints its answers, and saves the segment";
 
 /// What the command `check` does.
-const CHECK: &str = "Prints ok where FILE holds a segment, and else says why it holds none";
+const CHECK: &str =
+    "Prints ok where FILE holds a segment, and else says why it holds none; the status is the worst of all FILEs";
 
 /// What the command `grow` does.
 const GROW: &str = "Adds BYTES free bytes at the end of the segment in FILE, and prints its size";
@@ -44,9 +44,12 @@ const DRAW: &str = "Prints a picture of the segment in FILE, as SVG";
 /// What the command `dump` does.
 const DUMP: &str = "Prints the objects of the segment in FILE as text";
 
+/// What the command `names` does.
+const NAMES: &str = "Prints the names in the segment in FILE, in their order, a line each";
+
 /// What the command `load` does.
 const LOAD: &str =
-    "Makes FILE with a segment of the dump of standard input; a FILE that exists is refused";
+    "Makes FILE with a segment of the dump of standard input; without --replace a FILE that exists is refused";
 
 /// What the command `lint` does.
 const LINT: &str =
@@ -80,8 +83,12 @@ Modes:
   open_read_only      Commands that may change the segment are refused, and nothing is saved
   open_copy_on_write  Commands may change the segment, and nothing is saved
 
-Example:
-  echo 'construct i64 a 5' | segment run a.seg --mode open_or_create --size 1024";
+The script is the lines of -c, or SCRIPT, or else standard input. Its commands are those of 'segment language', and
+'segment language --help' says what KIND, KEY, NEWKEY and ARGS stand for.
+
+Examples:
+  echo 'construct i64 a 5' | segment run a.seg --mode open_or_create --size 1024
+  segment run a.seg -c 'show a' -c 'set a 0 6'";
 
 /// What statuses the program ends with.
 const STATUSES: &str = "\
@@ -106,8 +113,14 @@ const SIZES: &str = "A number of bytes: 144, or a multiple of 16 from 176 to 107
 pub enum Word {
     /// A value in its place, which must be there; help calls it by the second text.
     Operand(&'static str, &'static str, &'static str),
+    /// The same, and there may be more of them.
+    Operands(&'static str, &'static str, &'static str),
+    /// The same, which may be left out.
+    Optional(&'static str, &'static str, &'static str),
     /// A value behind its name, which may be left out; help calls it by the second text.
     Option(&'static str, &'static str, &'static str),
+    /// A value behind a hyphen and a letter, as often as there are values; help calls it by the second text.
+    Short(&'static str, char, &'static str, &'static str),
     /// A name that stands alone, and may be left out.
     Flag(&'static str, &'static str),
 }
@@ -123,6 +136,20 @@ type Row = (
 /// The file of a command.
 const FILE: Word = Word::Operand("file", "FILE", "The path of the file with the segment");
 
+/// The files of a check.
+const FILES: Word = Word::Operands("file", "FILE", "The path of the file with the segment");
+
+/// The script of a run, as a file.
+const SCRIPT: Word = Word::Optional("script", "SCRIPT", "The path of a file with the script");
+
+/// A line of the script of a run.
+const LINE: Word = Word::Short(
+    "line",
+    'c',
+    "LINE",
+    "A line of the script; the next -c has the next one",
+);
+
 /// The size of a segment that is made.
 const SIZE: Word = Word::Operand("number", "SIZE", SIZES);
 
@@ -135,10 +162,17 @@ const MODE: Word = Word::Option("mode", "MODE", "One of the five modes below");
 /// The size of a segment that a run makes.
 const RUN_SIZE: Word = Word::Option("size", "SIZE", SIZES);
 
-/// What a run does to a file that it saves.
+/// What is done to a file that is saved.
 const REPLACE: Word = Word::Flag(
     "replace",
     "The image goes to a new file, FILE.new, which then takes the place of FILE: one of the two is whole at each moment",
+);
+
+/// How long a file is waited for that another program writes.
+const WAIT: Word = Word::Option(
+    "wait",
+    "SECONDS",
+    "How long to wait for FILE where another program writes it; without it that is told at once",
 );
 
 /// What a run does behind an error.
@@ -159,22 +193,32 @@ const EXPLAIN: Word = Word::Flag(
     "Where FILE holds no segment, tells in words why, and at which byte, from 0 on, that shows",
 );
 
+/// What a check leaves out.
+const QUIET: Word = Word::Flag("quiet", "Prints nothing for a FILE that holds a segment");
+
 /// The option of a picture.
 const HTML: Word = Word::Flag(
     "html",
     "Prints a page for a browser: the picture, the figures of stat, and the objects as a table",
 );
 
-/// What a dump has behind its end.
+/// How a dump is written.
 const JSON: Word = Word::Flag(
     "json",
     "Writes each object as a line of JSON: class, name, kind and value; then --capacities tells nothing",
 );
 
+/// What a dump has behind its end.
 const CAPACITIES: Word = Word::Flag(
     "capacities",
     "Behind the objects, tells the capacities: of the indexes, vectors, strings and vectors of strings",
 );
+
+/// What the names that are printed begin with.
+const PREFIX: Word = Word::Option("prefix", "TEXT", "Prints only names that begin with TEXT");
+
+/// How many names are printed.
+const MOST: Word = Word::Option("most", "N", "Prints the first N of them at most");
 
 /// The size of a segment that is loaded.
 const LOADED: Word = Word::Option(
@@ -190,22 +234,25 @@ const VERBOSE: Word = Word::Flag(
 );
 
 /// The commands, in the order in which help has them.
-static COMMANDS: [Row; 12] = [
+static COMMANDS: [Row; 13] = [
     ("create", CREATE, None, &[FILE, SIZE, VERBOSE]),
     (
         "run",
         RUN,
         Some(MODES),
-        &[FILE, MODE, RUN_SIZE, REPLACE, STRICT, NUMBERED, VERBOSE],
+        &[
+            FILE, SCRIPT, MODE, RUN_SIZE, LINE, REPLACE, STRICT, NUMBERED, WAIT, VERBOSE,
+        ],
     ),
-    ("check", CHECK, None, &[FILE, EXPLAIN, VERBOSE]),
-    ("grow", GROW, None, &[FILE, BYTES, VERBOSE]),
-    ("shrink", SHRINK, None, &[FILE, VERBOSE]),
-    ("migrate", MIGRATE, None, &[FILE, VERBOSE]),
+    ("check", CHECK, None, &[FILES, EXPLAIN, QUIET, VERBOSE]),
+    ("grow", GROW, None, &[FILE, BYTES, REPLACE, WAIT, VERBOSE]),
+    ("shrink", SHRINK, None, &[FILE, REPLACE, WAIT, VERBOSE]),
+    ("migrate", MIGRATE, None, &[FILE, REPLACE, WAIT, VERBOSE]),
     ("stat", STAT, None, &[FILE, VERBOSE]),
     ("draw", DRAW, None, &[FILE, HTML, VERBOSE]),
     ("dump", DUMP, None, &[FILE, CAPACITIES, JSON, VERBOSE]),
-    ("load", LOAD, None, &[FILE, LOADED, VERBOSE]),
+    ("names", NAMES, None, &[FILE, PREFIX, MOST, VERBOSE]),
+    ("load", LOAD, None, &[FILE, LOADED, REPLACE, WAIT, VERBOSE]),
     ("lint", LINT, None, &[VERBOSE]),
     ("language", LANGUAGE, Some(WORDS), &[VERBOSE]),
 ];
@@ -218,6 +265,17 @@ fn arg_of<'a>(alloc: Global, word: &Word) -> Arg<'a>
     match *word {
         Word::Operand(name, shown, help) => Arg::new(alloc, name)
             .required(true)
+            .value_name(shown)
+            .help(help),
+        Word::Operands(name, shown, help) => Arg::new(alloc, name)
+            .required(true)
+            .action(ArgAction::Append)
+            .value_name(shown)
+            .help(help),
+        Word::Optional(name, shown, help) => { Arg::new(alloc, name).value_name(shown).help(help) }
+        Word::Short(name, letter, shown, help) => Arg::new(alloc, name)
+            .short(letter)
+            .action(ArgAction::Append)
             .value_name(shown)
             .help(help),
         Word::Option(name, shown, help) => Arg::new(alloc, name)

@@ -1,6 +1,8 @@
 //! What the program may be asked for.
-ghost use Rattle.std.specs.Prelude.{◌≡◌};
-ghost use Rattle.segment_invocation.specs.Invocations.{mode_called, wants_size};
+ghost use Rattle.std.specs.Prelude.{◌≡◌, IfOk};
+ghost use Rattle.segment_invocation.specs.Invocations.{is_plain, is_plain_run, mode_called, origin_by, script_text, wants_size};
+
+use std::alloc::{AllocError, Global};
 
 /// The name of a mode on the command line.
 #[derive(Clone, Copy, Debug, PartialEq, Eq)]
@@ -58,24 +60,125 @@ pub struct Answering {
     pub numbered: bool,
 }
 
-/// What the program is asked for. A file goes by its path, and sizes count bytes.
+/// How the file of a command that writes is taken and saved.
 #[derive(Clone, Copy, Debug, PartialEq, Eq)]
+pub struct Keeping {
+    /// How a file that is there is saved.
+    pub saving: Saving,
+    /// `--wait`: for how many seconds the right to write the file is waited for, where another has it.
+    pub wait: u64,
+}
+
+impl Keeping {
+    /// As it is where no option says otherwise.
+    pub const PLAIN: Keeping = Keeping {
+        saving: Saving::InPlace,
+        wait: 0,
+    };
+
+    /// Whether no option says otherwise.
+    pub(crate) fn is_plain(self) -> bool
+        ensures { result ≡ is_plain self.saving self.wait }
+    {
+        match self.saving {
+            Saving::InPlace => self.wait == 0,
+            Saving::Replacing => false,
+        }
+    }
+}
+
+/// Where the script of a run comes from.
+#[derive(Debug, Drop, PartialEq, Eq)]
+pub enum Script<'a> {
+    /// Standard input.
+    Input,
+    /// A file, by its path.
+    File(&'a str),
+    /// The command line: `-c` before each line.
+    Lines(Vec<&'a str>),
+}
+
+/// The script of these lines: each with a line end behind it.
+///
+/// # Errors
+///
+/// Memory for it was refused.
+pub fn script_text(alloc: Global, lines: &[&str]) -> Result<Vec<u8>, AllocError>
+    ensures { IfOk result (λ text. text.items ≡ script_text lines.now) }
+{
+    let mut text = Vec::new(alloc);
+    'lines: for line in lines {
+        text.extend_from_slice(line.as_bytes())?;
+        text.push(b'\n')?;
+    }
+    Ok(text)
+}
+
+/// What a run is asked for beside its file, mode and size.
+#[derive(Debug, Drop, PartialEq, Eq)]
+pub struct Running<'a> {
+    /// Where its script comes from.
+    pub script: Script<'a>,
+    /// How its file is taken and saved.
+    pub keeping: Keeping,
+    /// How it answers.
+    pub answering: Answering,
+}
+
+impl<'a> Running<'a> {
+    /// As it is where no option says otherwise.
+    pub const PLAIN: Running<'static> = Running {
+        script: Script::Input,
+        keeping: Keeping::PLAIN,
+        answering: Answering {
+            strict: false,
+            numbered: false,
+        },
+    };
+
+    /// Whether no option says otherwise.
+    pub(crate) fn is_plain(&self) -> bool
+        ensures { result ≡ is_plain_run (origin_by self.now.script) self.now.keeping.saving self.now.keeping.wait
+            self.now.answering.strict self.now.answering.numbered }
+    {
+        match self.script {
+            Script::Input => {
+                self.keeping.is_plain() && !self.answering.strict && !self.answering.numbered
+            }
+            Script::File(_) | Script::Lines(_) => false,
+        }
+    }
+}
+
+/// What the program is asked for. A file goes by its path, and sizes count bytes.
+#[derive(Debug, Drop, PartialEq, Eq)]
 pub enum Invocation<'a> {
     /// To make an empty segment of this size in a file that is not there.
     Create(&'a str, u64),
-    /// To run a script on the segment in a file, in a mode, with the size of a segment that is made. The modes
-    /// `create_only` and `open_or_create` have a size.
-    Run(&'a str, ModeName, Option<u64>, Saving, Answering),
+    /// To run the script of standard input on the segment in a file, in a mode, with the size of a segment that is made.
+    /// The modes `create_only` and `open_or_create` have a size.
+    Run(&'a str, ModeName, Option<u64>),
+    /// The same, as other options say.
+    RunWith(&'a str, ModeName, Option<u64>, Running<'a>),
     /// To check that a file holds a segment.
     Check(&'a str),
+    /// To check that of several files, or of one, and to name those that hold none; of the others nothing where the
+    /// second is true.
+    CheckAll(Vec<&'a str>, bool),
     /// To check the same, and where it holds none to tell in words why, and which byte shows it.
     Explain(&'a str),
     /// To make the segment in a file larger by so many bytes.
     Grow(&'a str, u64),
+    /// The same, as other options say.
+    GrowWith(&'a str, u64, Keeping),
     /// To make the segment in a file as small as its last block lets it be.
     Shrink(&'a str),
+    /// The same, as other options say.
+    ShrinkWith(&'a str, Keeping),
     /// To write the segment in a file, of this format or an older one, in this format.
     Migrate(&'a str),
+    /// The same, as other options say.
+    MigrateWith(&'a str, Keeping),
     /// To tell how the bytes of the segment in a file are used, in figures.
     Stat(&'a str),
     /// To draw the segment in a file.
@@ -88,9 +191,11 @@ pub enum Invocation<'a> {
     DumpCapacities(&'a str),
     /// To write its objects as lines of JSON.
     DumpJson(&'a str),
-    /// To make a segment of such a text in a file that is not there: of this size, or as long as the text says and cut
-    /// behind its last block.
-    Load(&'a str, Option<u64>),
+    /// To print the names of the segment in a file that begin with a text, in their order, at most so many.
+    Names(&'a str, &'a str, Option<u64>),
+    /// To make a segment of such a text: of this size, or as long as the text says and cut behind its last block. It is
+    /// made in a file that is not there, or is to take the place of the one that is.
+    Load(&'a str, Option<u64>, Keeping),
     /// To tell which lines of a script are no commands.
     Lint,
     /// To print the commands of a script.

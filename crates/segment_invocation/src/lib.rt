@@ -9,7 +9,9 @@ mod usage;
 mod version;
 
 pub use asking::{invocation, is_verbose};
-pub use invocations::{Answering, Invocation, ModeName, Saving};
+pub use invocations::{
+    Answering, Invocation, Keeping, ModeName, Running, Saving, Script, script_text,
+};
 pub use nearest::Tip;
 pub use usage::{InvocationFault, UsageError};
 pub use version::VERSION;

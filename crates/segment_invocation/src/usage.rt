@@ -23,8 +23,8 @@ pub enum UsageError {
     /// A command has no file.
     #[error("error: a file is missing\n")]
     File,
-    /// A size or a number of bytes is no number from 0 to 18446744073709551615 in plain decimal.
-    #[error("error: a number of bytes has digits alone, with no zero in front, and is at most 18446744073709551615\n")]
+    /// A size or another number is none from 0 to 18446744073709551615 in plain decimal.
+    #[error("error: a number has digits alone, with no zero in front, and is at most 18446744073709551615\n")]
     Number,
     /// The mode is none of the five; the name of the nearest, if one is near.
     #[error("error: a mode is create_only, open_only, open_or_create, open_read_only or open_copy_on_write\n{0}")]
@@ -32,6 +32,12 @@ pub enum UsageError {
     /// The mode may make a segment, and no size is given.
     #[error("error: the modes create_only and open_or_create want --size with a number of bytes\n")]
     Size,
+    /// A script is to come from a file and from the command line.
+    #[error("error: the script is SCRIPT or the lines of -c, and not both\n")]
+    Script,
+    /// More than one file is to be explained.
+    #[error("error: --explain takes one FILE\n")]
+    Files,
 }
 
 /// Why a command line asks for nothing that the program does.

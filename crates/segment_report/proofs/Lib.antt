@@ -7,3 +7,4 @@ mod Telling
 mod Drawn
 mod Stated
 mod Rows
+mod ListedNames

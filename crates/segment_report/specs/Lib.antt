@@ -7,3 +7,4 @@ pub mod Picture
 pub mod Objects
 pub mod Stat
 pub mod Page
+pub mod Names

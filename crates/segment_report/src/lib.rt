@@ -3,6 +3,7 @@
 
 mod entries;
 mod figures;
+mod names;
 mod objects;
 mod page;
 mod parts;
@@ -13,5 +14,6 @@ mod sizes;
 mod tallies;
 
 pub use figures::stat;
+pub use names::put_names;
 pub use page::draw_page;
 pub use picture::draw;

@@ -1,19 +1,25 @@
 -- Where a run stops: at a fault of a device, at the limit, or at the end.
-use Rattle.std.proofs.Common.{◌≡◌, ◌==◌, ℕ, ◌+◌, ◌<◌, ◌≤◌, min, nat_lt, nat_le, inl, inr, false, true, List, [], ◌∷◌, ◌++◌, length, take, drop, refl, sym, ap, subst, ◌∙◌, arith}
+use Rattle.std.proofs.Common.{◌≡◌, ◌==◌, ℕ, ◌+◌, ◌<◌, ◌≤◌, min, nat_lt, nat_le, inl, inr, Bool, false, true, List, [], ◌∷◌, ◌++◌, length, take, drop, refl, sym, ap, subst, ◌∙◌, arith}
 use Rattle.std.proofs.lemmas.List.{append_assoc, take_all, take-take, drop_all, length-take, length-drop, length-append, append-nil, length-take-le, take-append-drop}
 use Rattle.std.proofs.lemmas.Bool.{ne_eqb}
 use Rattle.std.proofs.lemmas.Bool.Decides.{nat_tests}
 use Rattle.std.proofs.Math.Seq.{take-append-add}
 use Rattle.raw_region.specs.Answers.{AddsFront}
-use Rattle.raw_region.specs.Device.{Given, Grows}
+use Rattle.raw_region.specs.Device.{Given, Grows, Taken}
 use Rattle.raw_region.proofs.Laws.{added, both_added}
 use Rattle.segment_scripts.specs.Run.{lines}
 use Rattle.segment_scripts.specs.Leaves.{answer_all, Answers, AnswersPart}
 use Rattle.segment_scripts.specs.Lines.{ended_lines, open_line, script_limit, executable}
-use Rattle.segment_scripts.specs.Behind.{kept, HasAnswered, HasStopped, IsBehind, IsStoppedIn, IsStoppedAtLast}
+use Rattle.segment_scripts.specs.Behind.{kept, EndsAtLast, EndsIn, FailsIn, HasAnswered, HasStopped, IsBehind, IsStoppedAtLast}
+use Rattle.segment_scripts.specs.Stopping.{IsStoppedAt, goes_on}
 use Rattle.segment_scripts.proofs.Kept.{at_most_or_more}
 use Rattle.segment_scripts.proofs.LineLaws.{ended_lines-end, lines-parts, last_lines, last-some, last-none}
 use Rattle.segment_scripts.proofs.RunLaws.{answers_one, stops_at, same_answer}
+
+-- of these lines some were answered, behind none of which the run was to end, and the answer to the next was cut
+pub record IsPartOn {P : Type 0} (respond : P → List ℕ → List ℕ × P) (stops : P → List ℕ → Bool) (start : P) (all : List (List ℕ)) (printed : List ℕ) (Stands : P → Type 0) : Type 0 where
+  pub part : AnswersPart respond start all printed Stands
+  pub on : goes_on respond stops start part.answered ≡ true
 
 -- ---- devices
 
@@ -86,35 +92,87 @@ module _ {P : Type 0} (respond : P → List ℕ → List ℕ × P) where
     stands = h.stands;
   }
 
-  pub printed_part : (start : P) (before : List ℕ) (all ls : List (List ℕ)) (l : List ℕ) (more : List (List ℕ)) (Stands : P → Type 0) (taken : List ℕ)
-      → HasStopped respond start before ls l Stands taken → all ≡ ls ++ l ∷ more → AnswersPart respond start all (drop (length before) taken) Stands
-  printed_part start before all ls l more Stands taken h e =
-      let told = (answer_all respond start ls).0 in
-      let text = (respond (answer_all respond start ls).1 l).0 in
-      let n = h.prints.count in
-      record {
-        answered = ls;
-        next = l;
-        rest = more;
-        parts = e;
-        front = take n text;
-        prints = added before taken (told ++ take n text) (h.prints.added ∙ append_assoc before told (take n text));
-        part = (drop n text, sym (take-append-drop n text), (let fewer = h.prints.fewer in omega (arith, length-drop n text)));
-        stands = h.stands;
-      }
+  module _ (stops : P → List ℕ → Bool) where
+    -- of these lines some were answered, and the answer to the next was cut
+    pub printed_part : (start : P) (before : List ℕ) (all ls : List (List ℕ)) (l : List ℕ) (more : List (List ℕ)) (Stands : P → Type 0) (taken : List ℕ)
+        → HasStopped respond start before ls l Stands taken → goes_on respond stops start ls ≡ true → all ≡ ls ++ l ∷ more → IsPartOn respond stops start all (drop (length before) taken) Stands
+    printed_part start before all ls l more Stands taken h on e =
+        let told = (answer_all respond start ls).0 in
+        let text = (respond (answer_all respond start ls).1 l).0 in
+        let n = h.prints.count in
+        record {
+          part = record {
+            answered = ls;
+            next = l;
+            rest = more;
+            parts = e;
+            front = take n text;
+            prints = added before taken (told ++ take n text) (h.prints.added ∙ append_assoc before told (take n text));
+            part = (drop n text, sym (take-append-drop n text), (let fewer = h.prints.fewer in omega (arith, length-drop n text)));
+            stands = h.stands;
+          };
+          on = on;
+        }
 
-  -- a line end in the piece is executable, as far as the piece is within the limit
-  pub cut_in : (start : P) (before read piece : List ℕ) (left count within : ℕ) (script : Given) (Stands : P → Type 0) (taken : List ℕ)
-      → length read + left ≡ script_limit → within ≡ min count left
-      → script.bytes ≡ read ++ take count piece → script.ended ≡ false
-      → IsStoppedIn respond start before read (take within piece) Stands taken
-      → AnswersPart respond start (executable script) (drop (length before) taken) Stands
-  cut_in start before read piece left count within script Stands taken limit is bytes unended h =
-      let all : take script_limit script.bytes ≡ (read ++ h.front) ++ 0x0A ∷ h.more =
-      ap (take script_limit) bytes ∙ within_limit script_limit left count read piece limit ∙ ap (λ (n : ℕ). read ++ take n piece) (sym is)
-      ∙ ap (λ (l : List ℕ). read ++ l) h.parts ∙ sym (append_assoc read h.front (0x0A ∷ h.more)) in
-      printed_part start before (executable script) (ended_lines (read ++ h.front)) (open_line (read ++ h.front)) (ended_lines h.more) Stands taken h.stopped
-      (executable-open script unended ∙ ap ended_lines all ∙ ended_lines-end (read ++ h.front) h.more)
+    -- a line end in the piece is executable, as far as the piece is within the limit
+    executable_in : (read piece front more : List ℕ) (left count within : ℕ) (script : Given)
+        → length read + left ≡ script_limit → within ≡ min count left
+        → script.bytes ≡ read ++ take count piece → script.ended ≡ false → take within piece ≡ front ++ 0x0A ∷ more
+        → executable script ≡ ended_lines (read ++ front) ++ open_line (read ++ front) ∷ ended_lines more
+    executable_in read piece front more left count within script limit is bytes unended parts =
+        let all : take script_limit script.bytes ≡ (read ++ front) ++ 0x0A ∷ more =
+        ap (take script_limit) bytes ∙ within_limit script_limit left count read piece limit ∙ ap (λ (n : ℕ). read ++ take n piece) (sym is)
+        ∙ ap (λ (l : List ℕ). read ++ l) parts ∙ sym (append_assoc read front (0x0A ∷ more)) in
+        executable-open script unended ∙ ap ended_lines all ∙ ended_lines-end (read ++ front) more
+
+    -- the writer failed in the answer to a line that ends there
+    pub cut_in : (start : P) (before read piece : List ℕ) (left count within : ℕ) (script : Given) (Stands : P → Type 0) (taken : List ℕ)
+        → length read + left ≡ script_limit → within ≡ min count left
+        → script.bytes ≡ read ++ take count piece → script.ended ≡ false
+        → FailsIn respond stops start before read (take within piece) Stands taken
+        → IsPartOn respond stops start (executable script) (drop (length before) taken) Stands
+    cut_in start before read piece left count within script Stands taken limit is bytes unended h =
+        printed_part start before (executable script) (ended_lines (read ++ h.front)) (open_line (read ++ h.front)) (ended_lines h.more) Stands taken h.stopped h.on
+        (executable_in read piece h.front h.more left count within script limit is bytes unended h.parts)
+
+    -- the run ended behind a line that ends there
+    pub stopped_in : (start : P) (before read piece : List ℕ) (left count within : ℕ) (script : Given) (out : Taken) (Stands : P → Type 0) (taken : List ℕ)
+        → length read + left ≡ script_limit → within ≡ min count left
+        → script.bytes ≡ read ++ take count piece → script.ended ≡ false
+        → EndsIn respond stops start before read (take within piece) Stands taken
+        → out.bytes ≡ drop (length before) taken → script.failed ≡ false → out.failed ≡ false
+        → IsStoppedAt respond stops start script out Stands
+    stopped_in start before read piece left count within script out Stands taken limit is bytes unended h took given written = record {
+      before = ended_lines (read ++ h.front);
+      last = open_line (read ++ h.front);
+      rest = ended_lines h.more;
+      parts = executable_in read piece h.front h.more left count within script limit is bytes unended h.parts;
+      on = h.ends.on;
+      stop = h.ends.stop;
+      answers = subst (λ (t : List ℕ). Answers respond start (ended_lines (read ++ h.front) ++ open_line (read ++ h.front) ∷ []) t Stands) (sym took)
+          (printed start before (ended_lines (read ++ h.front) ++ open_line (read ++ h.front) ∷ []) Stands taken h.ends.answered);
+      read = given;
+      written = written;
+    }
+
+    -- the run ended behind the last line
+    pub stopped_at_end : (start : P) (before : List ℕ) (script : Given) (out : Taken) (Stands : P → Type 0) (taken : List ℕ)
+        → script.ended ≡ true → length script.bytes ≤ script_limit
+        → EndsAtLast respond stops start before script.bytes Stands taken
+        → out.bytes ≡ drop (length before) taken → script.failed ≡ false → out.failed ≡ false
+        → IsStoppedAt respond stops start script out Stands
+    stopped_at_end start before script out Stands taken whole within h took given written = record {
+      before = ended_lines script.bytes;
+      last = open_line script.bytes;
+      rest = [];
+      parts = executable-whole script whole within ∙ h.parts;
+      on = h.ends.on;
+      stop = h.ends.stop;
+      answers = subst (λ (t : List ℕ). Answers respond start (ended_lines script.bytes ++ open_line script.bytes ∷ []) t Stands) (sym took)
+          (printed start before (ended_lines script.bytes ++ open_line script.bytes ∷ []) Stands taken h.ends.answered);
+      read = given;
+      written = written;
+    }
 
   -- more bytes came than were left
   pub cut_at_limit : (start : P) (before read piece : List ℕ) (left count within : ℕ) (bytes : List ℕ) (Stands : P → Type 0) (line taken : List ℕ)
@@ -127,6 +185,15 @@ module _ {P : Type 0} (respond : P → List ℕ → List ℕ × P) where
       ap (take script_limit) given ∙ within_limit script_limit left count read piece limit ∙ ap (λ (n : ℕ). read ++ take n piece) (sym is) in
       subst (λ (l : List ℕ). Answers respond start (ended_lines l) (drop (length before) taken) Stands) (sym all)
       (printed start before (ended_lines (read ++ take within piece)) Stands taken h.answered)
+
+  pub on_at_limit : (stops : P → List ℕ → Bool) (start : P) (read piece : List ℕ) (left count within : ℕ) (bytes : List ℕ)
+      → length read + left ≡ script_limit → within ≡ min count left
+      → bytes ≡ read ++ take count piece
+      → goes_on respond stops start (ended_lines (read ++ take within piece)) ≡ true → goes_on respond stops start (ended_lines (take script_limit bytes)) ≡ true
+  on_at_limit stops start read piece left count within bytes limit is given on =
+      let all : take script_limit bytes ≡ read ++ take within piece =
+      ap (take script_limit) given ∙ within_limit script_limit left count read piece limit ∙ ap (λ (n : ℕ). read ++ take n piece) (sym is) in
+      ap (λ (l : List ℕ). goes_on respond stops start (ended_lines l)) all ∙ on
 
   pub beyond_limit : (read piece bytes : List ℕ) (left count : ℕ) → length read + left ≡ script_limit → left < count → count ≤ length piece → bytes ≡ read ++ take count piece → script_limit < length bytes
   beyond_limit read piece bytes left count limit more fits given =

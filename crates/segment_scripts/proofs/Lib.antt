@@ -4,7 +4,9 @@ mod LineEnds
 mod Kept
 mod RunLaws
 mod Cuts
+mod StopLaws
 mod Owed
+mod Refusals
 mod WrongLines
 mod Meant
 mod NewKinds

@@ -1,6 +1,6 @@
 -- The lines of objects in a listing.
 use Rattle.std.proofs.Common.{◌≡◌, ℕ, List, [], ◌∷◌, ◌++◌, length, Option, Some, None, Result, Ok, Err, refl, sym, ap}
-use Rattle.std.proofs.Common.{◌∙◌}
+use Rattle.std.proofs.Common.{◌∙◌, false}
 use Rattle.seg_types.specs.declared.kinds.Kind.TheVariants.{Map}
 use Rattle.seg_types.specs.declared.kinds.ScalarKind.{ScalarKind}
 use Rattle.seg_types.specs.declared.refusals.Refusal.{Refusal}
@@ -13,6 +13,7 @@ use Rattle.segment_manager.specs.objects.Instances.{IsInstance, IsMissing, SaysA
 use Rattle.segment_manager.specs.State.{Answers, State, StandsFor}
 use Rattle.segment_manager.specs.containers.Contents.{sizes_at, sizes_of}
 use Rattle.segment_scripts.specs.Answer.{answer_text, class_words, entry_words, handle_text, line, measure_words}
+use Rattle.segment_scripts.specs.Refusing.{is_refusal}
 use Rattle.segment_scripts.specs.Replies.{told_at, told_of}
 use Rattle.segment_scripts.specs.Parts.{part_of, said_words}
 use Rattle.segment_scripts.specs.Shown.{length_in, number_words}
@@ -74,6 +75,10 @@ module _ (s : State) (key : Key) (said : Instance) (h : SaysOf s key said) where
       let f = h.says d st in
       (λ j. line (class_words (f.2.class j) (f.2.name j) ++ entry-said f.0 said f.2 j ++ e j)) ∙ ap (λ (q : Option Object). answer_text (told_of q)) (sym f.1)
 
+  -- it is told
+  pub told-here : (d : Directory) → StandsFor s.cut.bytes d → false ≡ is_refusal (told_at d key)
+  told-here d st = ap (λ (q : Option Object). is_refusal (told_of q)) (sym (h.says d st).1)
+
   measured : (r : Result (ℕ × ℕ) Refusal) → Answers s (λ d. sizes_at d key) r → (d : Directory) (st : StandsFor s.cut.bytes d) → r ≡ sizes_of (h.says d st).0.value
   measured r a d st = a.answers d st ∙ ap sizes_of_object (h.says d st).1
 
@@ -94,5 +99,5 @@ module _ (s : State) (key : Key) (said : Instance) (h : SaysOf s key said) where
   told-numbers why a d st = words-said d st [] (measure-none (h.says d st).0.value why (measured (Err why) a d st))
 
 -- there is none
-pub told-missing : (s : State) (key : Key) (r : Refusal) → IsMissing s key r → (d : Directory) → StandsFor s.cut.bytes d → answer_text (Refused r) ≡ answer_text (told_at d key)
-told-missing s key r h d k = ap (λ (q : Refusal). answer_text (Refused q)) h.is ∙ ap (λ (o : Option Object). answer_text (told_of o)) (sym (h.missing d k))
+pub told-missing : (s : State) (key : Key) (r : Refusal) → IsMissing s key r → (d : Directory) → StandsFor s.cut.bytes d → Refused r ≡ told_at d key
+told-missing s key r h d k = ap Refused h.is ∙ ap told_of (sym (h.missing d k))

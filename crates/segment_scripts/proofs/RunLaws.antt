@@ -4,11 +4,25 @@ use Rattle.std.proofs.lemmas.Bool.{eqb-true}
 use Rattle.std.proofs.lemmas.List.{append-nil, append_assoc, take_all, nil_from_length}
 use Rattle.raw_region.specs.Answers.{AddsFront}
 use Rattle.segment_scripts.specs.Leaves.{answer_all}
-use Rattle.segment_scripts.specs.Behind.{kept, HasAnswered, HasStopped, IsBehind, IsStoppedIn}
+use Rattle.segment_scripts.specs.Behind.{kept, HasAnswered, HasStopped, IsBehind}
 use Rattle.segment_scripts.specs.Lines.{ended_lines, open_line, whole_lines}
 use Rattle.segment_scripts.proofs.Kept.{at_most_or_more, kept_more}
 use Rattle.segment_scripts.proofs.LineEnds.{BeginsWithEnd}
 use Rattle.segment_scripts.proofs.LineLaws.{ended_lines-end, ended_lines-open, open_line-end, open_line-open, ended-nil, open-nil}
+
+-- what is kept of a long line decides as the whole of it
+pub kept-decides : {P A : Type 0} (f : P → List ℕ → A) → ((place : P) (line : List ℕ) → 4097 < length line → f place line ≡ f place (take kept line)) → (place : P) (line : List ℕ) → f place (take kept line) ≡ f place line
+kept-decides f long place line = elim (at_most_or_more (length line) 4097) [
+  | inl h ↦ ap (f place) (take_all kept line (omega arith))
+  | inr h ↦ sym (long place line h)
+]
+
+-- bytes behind no open line are all of their line
+pub whole_line : {P A : Type 0} (f : P → List ℕ → A) → ((place : P) (line : List ℕ) → 4097 < length line → f place line ≡ f place (take kept line))
+    → (place : P) (line end : List ℕ) → (length line == 0) ≡ true → f place end ≡ f place (take kept (line ++ end))
+whole_line f long place line end none =
+    let empty : line ≡ [] = nil_from_length line (eqb-true _ 0 none) in
+    sym (ap (λ (l : List ℕ). f place (take kept (l ++ end))) empty ∙ kept-decides f long place end)
 
 module _ {P : Type 0} (respond : P → List ℕ → List ℕ × P) where
   pub answer_all-text : (place : P) (ls : List (List ℕ)) (l : List ℕ) → (answer_all respond place (ls ++ l ∷ [])).0 ≡ (answer_all respond place ls).0 ++ (respond (answer_all respond place ls).1 l).0
@@ -20,13 +34,6 @@ module _ {P : Type 0} (respond : P → List ℕ → List ℕ × P) where
   pub answer_all-place : (place : P) (ls : List (List ℕ)) (l : List ℕ) → (answer_all respond place (ls ++ l ∷ [])).1 ≡ (respond (answer_all respond place ls).1 l).1
   answer_all-place place [] l = refl
   answer_all-place place (x ∷ xs) l = answer_all-place (respond place x).1 xs l
-
-  -- a long line is answered by what is kept of it
-  pub respond-kept : ((place : P) (line : List ℕ) → 4097 < length line → respond place line ≡ respond place (take kept line)) → (place : P) (line : List ℕ) → respond place (take kept line) ≡ respond place line
-  respond-kept long place line = elim (at_most_or_more (length line) 4097) [
-    | inl h ↦ ap (respond place) (take_all kept line (omega arith))
-    | inr h ↦ sym (long place line h)
-  ]
 
   -- one more line was answered
   pub answers_one : (start : P) (before : List ℕ) (ls : List (List ℕ)) (l : List ℕ) (Stands Stands' : P → Type 0) (taken taken' : List ℕ)
@@ -57,7 +64,7 @@ module _ {P : Type 0} (respond : P → List ℕ → List ℕ × P) where
 
   -- what is kept of the open line is answered as the whole of it
   pub same_answer : ((place : P) (line : List ℕ) → 4097 < length line → respond place line ≡ respond place (take kept line)) → (line all : List ℕ) → line ≡ take kept all → (place : P) → respond place line ≡ respond place all
-  same_answer long line all e place = ap (respond place) e ∙ respond-kept long place all
+  same_answer long line all e place = ap (respond place) e ∙ kept-decides respond long place all
 
   pub behind_none : (start : P) (before : List ℕ) (Stands : P → Type 0) → Stands start → IsBehind respond start before [] Stands [] before
   behind_none start before Stands s = record {
@@ -110,32 +117,3 @@ module _ {P : Type 0} (respond : P → List ℕ → List ℕ × P) where
       subst (λ (l : List ℕ). IsBehind respond start before l Stands' line' taken') all
       (behind_end long start before ((read ++ done) ++ end) Stands Stands' (take kept (line ++ end)) line' taken taken'
       (behind_open start before (read ++ done) end Stands line (take kept (line ++ end)) taken h ends.unended refl) leads ok new)
-
-  -- and its answer was cut
-  pub stopped_in : ((place : P) (line : List ℕ) → 4097 < length line → respond place line ≡ respond place (take kept line))
-      → (start : P) (before read piece done rest end more : List ℕ) (Stands Stands' : P → Type 0) (line taken taken' : List ℕ)
-      → IsBehind respond start before (read ++ done) Stands line taken
-      → piece ≡ done ++ rest → BeginsWithEnd rest end more
-      → ((p : P) → Stands p → Stands' (respond p (take kept (line ++ end))).1)
-      → ((p : P) → Stands p → AddsFront taken taken' (respond p (take kept (line ++ end))).0)
-      → IsStoppedIn respond start before read piece Stands' taken'
-  stopped_in long start before read piece done rest end more Stands Stands' line taken taken' h parts ends leads err =
-      let front : List ℕ = read ++ (done ++ end) in
-      let all : (read ++ done) ++ end ≡ front = append_assoc read done end in
-      let was = subst (λ (l : List ℕ). IsBehind respond start before l Stands (take kept (line ++ end)) taken) all (behind_open start before (read ++ done) end Stands line (take kept (line ++ end)) taken h ends.unended refl) in
-      let same = same_answer long (take kept (line ++ end)) (open_line front) was.line_kept in
-      record {
-        front = done ++ end;
-        more = more;
-        parts = parts ∙ ap (λ (l : List ℕ). done ++ l) ends.parts ∙ sym (append_assoc done end (0x0A ∷ more));
-        stopped = stops_at start before (ended_lines front) (open_line front) Stands Stands' taken taken' was.answered
-            (λ p s. subst (λ (r : List ℕ × P). Stands' r.1) (same p) (leads p s))
-            (λ p s. subst (λ (r : List ℕ × P). AddsFront taken taken' r.0) (same p) (err p s));
-      }
-
-  -- bytes behind no open line are all of their line
-  pub whole_line : ((place : P) (line : List ℕ) → 4097 < length line → respond place line ≡ respond place (take kept line))
-      → (place : P) (line end : List ℕ) → (length line == 0) ≡ true → respond place end ≡ respond place (take kept (line ++ end))
-  whole_line long place line end none =
-      let empty : line ≡ [] = nil_from_length line (eqb-true _ 0 none) in
-      sym (ap (λ (l : List ℕ). respond place (take kept (l ++ end))) empty ∙ respond-kept long place end)

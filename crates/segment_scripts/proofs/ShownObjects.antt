@@ -1,5 +1,5 @@
 -- What is shown of an object: its kind, and its numbers, texts or pairs one after another, or its bytes.
-use Rattle.std.proofs.Common.{◌≡◌, ℕ, ℤ, List, [], ◌∷◌, ◌++◌, length, map, Option, Some, None, Result, Ok, Err}
+use Rattle.std.proofs.Common.{◌≡◌, ℕ, ℤ, false, List, [], ◌∷◌, ◌++◌, length, map, Option, Some, None, Result, Ok, Err}
 use Rattle.std.proofs.Common.{slice_get, refl, sym, ap, subst, ◌∙◌, append_assoc}
 use Rattle.std.specs.List.{flat_map}
 use Rattle.best_fit.specs.Table.{Table}
@@ -28,6 +28,7 @@ use Rattle.segment_manager.specs.containers.Walks.{pairs_at, pairs_of}
 use Rattle.segment_manager.proofs.Laws.{said-at, same-object}
 use Rattle.segment_scripts.specs.Answer.{answer_text, line, pair_text, shown_words}
 use Rattle.segment_scripts.specs.Parts.{element_part, part_of, parts_until}
+use Rattle.segment_scripts.specs.Refusing.{is_refusal}
 use Rattle.segment_scripts.specs.Replies.{shown_at, shown_of, text_at, text_in, text_of}
 use Rattle.segment_scripts.specs.ShownPairs.{map_line, pair_part}
 use Rattle.segment_scripts.specs.Shown.{front_text, length_in, string_line, texts_line, value_line}
@@ -169,6 +170,10 @@ module _ (s : State) (key : Key) (o : Located) (l : IsLocated s key o) where
   pub scalars-at : (k : ScalarKind) → elements_of o.kind ≡ Ok k → HasScalars s (ByHandle o.handle)
   scalars-at k e = (k, record { answers = λ d st. sym e ∙ ap elements_of (kind-said d st) ∙ sym (ap elements_of_object (at-handle d st)) })
 
+  -- it is shown
+  pub shown-here : (d : Directory) → StandsFor s.cut.bytes d → false ≡ is_refusal (shown_at d key)
+  shown-here d st = ap (λ (r : Option Object). is_refusal (shown_of r)) (sym (said-at s key o l d st).is)
+
   -- what is written of a row of numbers is what is shown of it
   row-said : (d : Directory) (st : StandsFor s.cut.bytes d) (k : ScalarKind) (zs : List ℤ) (n : ℕ) → n ≡ length zs → IsRow (said-at s key o l d st).object.value k zs
       → value_line o.kind n s.mode d (ByHandle o.handle) ≡ answer_text (shown_at d key)
@@ -224,5 +229,5 @@ module _ (s : State) (key : Key) (o : Located) (l : IsLocated s key o) where
       ∙ ap (λ (r : Option Object). answer_text (shown_of r)) (sym f.is)
 
 -- there is none
-pub shown-missing : (s : State) (key : Key) (r : Refusal) → IsMissing s key r → (d : Directory) → StandsFor s.cut.bytes d → answer_text (Refused r) ≡ answer_text (shown_at d key)
-shown-missing s key r h d k = ap (λ (q : Refusal). answer_text (Refused q)) h.is ∙ ap (λ (o : Option Object). answer_text (shown_of o)) (sym (h.missing d k))
+pub shown-missing : (s : State) (key : Key) (r : Refusal) → IsMissing s key r → (d : Directory) → StandsFor s.cut.bytes d → Refused r ≡ shown_at d key
+shown-missing s key r h d k = ap Refused h.is ∙ ap shown_of (sym (h.missing d k))

@@ -36,14 +36,15 @@ use Rattle.segment_manager.proofs.ElementLaws.{IsOfKindAt, of_kind-steps, with-f
 use Rattle.segment_manager.proofs.Laws.{step-same, step_of_kind-by_key}
 use Rattle.segment_scripts.specs.Changes.{Executes, IsTextElement}
 use Rattle.segment_scripts.specs.declared.replies.Answer.{Answer as Said}
-use Rattle.segment_scripts.specs.Answer.{answer_text}
 use Rattle.segment_scripts.specs.Replies.{answer_seen, bytes_taken, text_at, text_in, text_of}
-use Rattle.segment_scripts.specs.Writing.{WritesFor}
-use Rattle.raw_region.specs.Device.{Took, Writes}
+use Rattle.segment_scripts.specs.declared.answered.Answered.{Answered}
+use Rattle.segment_scripts.specs.Refusing.{AnswersFor}
+use Rattle.raw_region.specs.Device.{Took}
 use Rattle.segment_scripts.specs.Shown.{length_in}
 use Rattle.segment_manager.proofs.CommandLaws.{IsTexts, NoText, answered-reads, open-writing, refuses, step-effect}
 use Rattle.segment_manager.proofs.CommandLaws.{texts-if, told}
 use Rattle.segment_scripts.proofs.NewKinds.{kind-same}
+use Rattle.segment_scripts.proofs.Refusals.{answers-before}
 
 -- ---- literals that are texts
 
@@ -223,11 +224,9 @@ executes-by_key old key o l new c h = record {
   refused = λ d st e. h.refused d st (ap (λ (n : Answer × Directory). is_untouched n.0) (step-same old key o l c d st) ∙ e);
 }
 
--- what is written of the answer of a step
-pub step-writes : {A E : Type 0} (old new : State) (c : Command) (answer : Answer) (reply : Said) (was now : Took) (result : Result A E) → IsStep old new c answer
-    → ((d : Directory) → answer_seen d reply ≡ answer) → WritesFor was now result (StandsFor new.cut.bytes) (λ d. answer_text (answer_seen d reply))
-    → WritesFor was now result (StandsFor old.cut.bytes) (λ d. answer_text (step.step old.mode d c).0)
-step-writes old new c answer reply was now result r same w = record {
-  writes = λ d k. subst (Writes was now result) (ap answer_text (same (step.step old.mode d c).1 ∙ r.answers d k)) (w.writes (step.step old.mode d c).1 (r.denotes d k));
-  counted = w.counted;
-}
+-- what is answered behind a step
+pub step-answers : {E : Type 0} (old new : State) (c : Command) (answer : Answer) (reply : Said) (was now : Took) (result : Result Answered E) → IsStep old new c answer
+    → ((d : Directory) → answer_seen d reply ≡ answer) → AnswersFor was now result (StandsFor new.cut.bytes) (λ d. answer_seen d reply)
+    → AnswersFor was now result (StandsFor old.cut.bytes) (λ d. (step.step old.mode d c).0)
+step-answers old new c answer reply was now result r same w =
+    answers-before {said = λ d. answer_seen d reply} (λ d. (step.step old.mode d c).1) w r.denotes (λ d k. same (step.step old.mode d c).1 ∙ r.answers d k)

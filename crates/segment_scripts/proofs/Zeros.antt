@@ -21,10 +21,11 @@ use Rattle.segment_scripts.specs.declared.replies.Answer.{Answer as Reply}
 use Rattle.segment_scripts.specs.Answer.{answer_text}
 use Rattle.segment_scripts.specs.Changes.{Executes}
 use Rattle.segment_scripts.specs.Replies.{Replies, answer_seen, has_element}
+use Rattle.segment_scripts.specs.declared.answered.Answered.{Answered}
+use Rattle.segment_scripts.specs.Refusing.{AnswersFor, Tells, is_refusal, refuses}
 use Rattle.segment_scripts.specs.Run.{respond}
 use Rattle.segment_scripts.specs.Segments.{Place, IsAt, Responds, place_after}
-use Rattle.segment_scripts.specs.Writing.{WritesFor}
-use Rattle.segment_scripts.proofs.Owed.{writes_owed}
+use Rattle.segment_scripts.proofs.Refusals.{answers-before, answers-owed}
 
 -- ---- a command
 
@@ -105,36 +106,38 @@ answered s c asked r e =
 asked-owed : (old : State) (c : Command) (asked : Reading) → Asked c ≡ asked → (at : Place) → IsAt old at → answer_text (step old.mode at.directory c).0 ≡ (respond at.mode at.directory asked).0
 asked-owed old c asked e at h = ap (λ (n : Mode). answer_text (step n at.directory c).0) h.mode ∙ ap (λ (r : Reading). (respond at.mode at.directory r).0) e
 
+-- and whether it is refused
+refused-owed : (old : State) (c : Command) (asked : Reading) → Asked c ≡ asked → (at : Place) → IsAt old at → is_refusal (step old.mode at.directory c).0 ≡ refuses at.mode at.directory asked
+refused-owed old c asked e at h = ap (λ (n : Mode). is_refusal (step n at.directory c).0) h.mode ∙ ap (refuses at.mode at.directory) e
+
 -- ---- what is asked is responded to
 
-module _ {A E : Type 0} {took took' : Took} {result : Result A E} {asked : Reading} where
-  -- a call that writes what its command answers
-  told : (old : State) (c : Command) → Asked c ≡ asked → WritesFor took took' result (StandsFor old.cut.bytes) (λ d. answer_text (step old.mode d c).0)
-      → WritesFor took took' result (IsAt old) (λ (at : Place). (respond at.mode at.directory asked).0)
-  told old c e w = record { writes = λ at h. subst (Writes took took' result) (asked-owed old c asked e at h) (w.writes at.directory h.denotes); counted = w.counted }
-
-  pub responds-read : (s : State) (c : Command) → is_changing c ≡ false → Asked c ≡ asked → WritesFor took took' result (StandsFor s.cut.bytes) (λ d. answer_text (step s.mode d c).0) → Responds s s took took' result asked
-  responds-read s c r e w = record { leads = answered s c asked r e; writes = told s c e w }
-
-  pub responds-popped : {old new : State} (key : Key) → Asked (Pop key) ≡ asked → Executes old new (Pop key) → WritesFor took took' result (StandsFor old.cut.bytes) (λ d. answer_text (step old.mode d (Pop key)).0)
+module _ {E : Type 0} {took took' : Took} {result : Result Answered E} {asked : Reading} where
+  -- a call that answers what its command does
+  responds : {old new : State} (c : Command) → Asked c ≡ asked → ((at : Place) → IsAt old at → IsAt new (place_after at asked)) → AnswersFor took took' result (StandsFor old.cut.bytes) (λ d. (step old.mode d c).0)
       → Responds old new took took' result asked
-  responds-popped {old} {new} key e done w = record { leads = popped old new key asked e done; writes = told old (Pop key) e w }
+  responds {old} c e leads w = record {
+    leads = leads;
+    writes = record { writes = λ at h. subst (Writes took took' result) (asked-owed old c asked e at h) (w.writes.writes at.directory h.denotes); counted = w.writes.counted };
+    tells = λ at h. subst (Tells result) (refused-owed old c asked e at h) (w.tells at.directory h.denotes);
+  }
+
+  pub responds-read : (s : State) (c : Command) → is_changing c ≡ false → Asked c ≡ asked → AnswersFor took took' result (StandsFor s.cut.bytes) (λ d. (step s.mode d c).0) → Responds s s took took' result asked
+  responds-read s c r e w = responds c e (answered s c asked r e) w
+
+  pub responds-popped : {old new : State} (key : Key) → Asked (Pop key) ≡ asked → Executes old new (Pop key) → AnswersFor took took' result (StandsFor old.cut.bytes) (λ d. (step old.mode d (Pop key)).0)
+      → Responds old new took took' result asked
+  responds-popped {old} {new} key e done w = responds (Pop key) e (popped old new key asked e done) w
 
   -- a number
-  pub responds-number : (s : State) (c : Command) {n : ℕ} → is_changing c ≡ false → Asked c ≡ asked → IsReply s c (Number n) → Writes took took' result (answer_text (Number n)) → Responds s s took took' result asked
-  responds-number s c {n} r e is w =
-      responds-read s c r e (writes_owed w (λ d st. ap answer_text (is.answers d st)))
+  pub responds-number : (s : State) (c : Command) {n : ℕ} → is_changing c ≡ false → Asked c ≡ asked → IsReply s c (Number n) → Writes took took' result (answer_text (Number n)) → Tells result false → Responds s s took took' result asked
+  responds-number s c {n} r e is w t =
+      responds-read s c r e (answers-owed w t is.answers)
 
   -- a reply, which is written of what is there then
-  pub responds-replied : {old new : State} {c : Command} {reply : Reply} → Asked c ≡ asked → Replies old new c reply → WritesFor took took' result (StandsFor new.cut.bytes) (λ d. answer_text (answer_seen d reply))
+  pub responds-replied : {old new : State} {c : Command} {reply : Reply} → Asked c ≡ asked → Replies old new c reply → AnswersFor took took' result (StandsFor new.cut.bytes) (λ d. answer_seen d reply)
       → Responds old new took took' result asked
-  responds-replied {old} {new} {c} {reply} e done w = record {
-    leads = executed old new c reply asked e done;
-    writes = told old c e (record {
-      writes = λ d st. subst (Writes took took' result) (ap answer_text (done.answers d st)) (w.writes (step old.mode d c).1 (done.denotes d st));
-      counted = w.counted;
-    });
-  }
+  responds-replied {old} {new} {c} {reply} e done w = responds c e (executed old new c reply asked e done) (answers-before {said = λ d. answer_seen d reply} (λ d. (step old.mode d c).1) w done.denotes done.answers)
 
 pub no_element : (c : CodeCommand) → ((key : CodeKey) (i : ℕ) → c ≡ CodeGet key i → ⊥) → ((key : CodeKey) → c ≡ CodePop key → ⊥) → has_element (command_of c) ≡ false
 no_element (CodeGet key i) m n = absurd (m key i refl)

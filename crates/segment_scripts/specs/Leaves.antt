@@ -71,21 +71,21 @@ Leaves respond start script out (Ok u) Stands = RunsWhole respond start script o
 Leaves respond start script out (Err fault) Stands = LeavesFault respond start script out fault Stands
 
 -- by how much a run raises the count of failed reads, and of failed writes
-abbrev pub failed_reads : Result (Unit {0}) RunFault → ℕ
+abbrev pub failed_reads : {A : Type 0} → Result A RunFault → ℕ
 failed_reads (Err ReadFault) = 1
 failed_reads (Err WriteFault) = 0
 failed_reads (Err ScriptTooLong) = 0
-failed_reads (Ok u) = 0
+failed_reads (Ok x) = 0
 
-abbrev pub failed_writes : Result (Unit {0}) RunFault → ℕ
+abbrev pub failed_writes : {A : Type 0} → Result A RunFault → ℕ
 failed_writes (Err ReadFault) = 0
 failed_writes (Err WriteFault) = 1
 failed_writes (Err ScriptTooLong) = 0
-failed_writes (Ok u) = 0
+failed_writes (Ok x) = 0
 
 -- what a run did with its devices, wherever it began: the script was read no further than one byte behind its limit,
 -- and asked no more behind its end; and each failure is the one that the run answers
-pub record UsesDevices (given given' : Gave) (taken taken' : Took) (result : Result (Unit {0}) RunFault) : Type 0 where
+pub record UsesDevices {A : Type 0} (given given' : Gave) (taken taken' : Took) (result : Result A RunFault) : Type 0 where
   pub reads : Reads given given' (failed_reads result)
   pub reads_no_further : length given'.bytes ≤ length given.bytes + script_limit + 1
   pub ends : EndsAtMostOnce given given'

@@ -1,9 +1,11 @@
 pub mod Answer
 pub mod Writing
+pub mod Refusing
 pub mod Run
 pub mod ZeroGaps
 pub mod Lines
 pub mod Leaves
+pub mod Stopping
 pub mod Behind
 pub mod Segments
 pub mod Replies

@@ -63,6 +63,17 @@ is_at line found rows at = (line ≡ at.line) × (found ≡ at.found) × (rows �
 abbrev pub tells : Place → LineError → List ℕ → List ℕ × Place
 tells at e line = (finding_text at.rows at.line e (without_return line), record at { found = true })
 
+-- the reading is no command
+abbrev pub is_missed : Reading → Bool
+is_missed Nothing = false
+is_missed (Asked c) = false
+is_missed UnknownCommand = true
+is_missed LineTooLong = true
+is_missed BadSyntax = true
+
+abbrev pub misses_line : List ℕ → Bool
+misses_line line = is_missed (reading (whole current) line)
+
 abbrev pub respond : Place → List ℕ → Reading → List ℕ × Place
 respond at line Nothing = ([], at)
 respond at line (Asked c) = ([], at)

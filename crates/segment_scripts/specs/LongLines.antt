@@ -7,8 +7,9 @@ use Rattle.seg_types.specs.Commands.{Reading, LineTooLong}
 use Rattle.raw_region.specs.Format.{current}
 use Rattle.segment_lang.specs.Language.{Language, whole}
 use Rattle.segment_lang.specs.Reading.{reading, without_return}
+use Rattle.segment_scripts.specs.Refusing.{refuses}
 use Rattle.segment_scripts.specs.Run.{respond}
-use Rattle.segment_scripts.specs.Segments.{Place, place_after, answer_line}
+use Rattle.segment_scripts.specs.Segments.{Place, place_after, answer_line, refuses_line}
 
 returned-long : (line : List ℕ) (b : Bool) → 4097 < length line → 4096 < length (cond b (take (length line - 1) line) line)
 returned-long line true h = let long = length-take-le (length line - 1) line (omega arith) in omega arith
@@ -27,3 +28,6 @@ reading-long language line h =
 
 pub answer_line-long : (at : Place) (line : List ℕ) → 4097 < length line → answer_line at line ≡ answer_line at (take 4098 line)
 answer_line-long at line h = ap (λ (r : Reading). ((respond at.mode at.directory r).0, place_after at r)) (reading-long (whole current) line h)
+
+pub refuses_line-long : (at : Place) (line : List ℕ) → 4097 < length line → refuses_line at line ≡ refuses_line at (take 4098 line)
+refuses_line-long at line h = ap (refuses at.mode at.directory) (reading-long (whole current) line h)

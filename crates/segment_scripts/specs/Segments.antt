@@ -10,6 +10,8 @@ use Rattle.segment_manager.specs.Directory.{Directory}
 use Rattle.segment_manager.specs.State.{State, StandsFor}
 use Rattle.segment_manager.specs.Calls.{HasZeroGaps}
 use Rattle.segment_scripts.specs.Answer.{line}
+use Rattle.segment_scripts.specs.declared.answered.Answered.{Answered}
+use Rattle.segment_scripts.specs.Refusing.{Tells, refuses}
 use Rattle.segment_scripts.specs.Run.{respond}
 use Rattle.segment_scripts.specs.Writing.{WritesFor}
 use Rattle.segment_scripts.specs.ZeroGaps.{zeros_after}
@@ -38,7 +40,13 @@ place_after at asked = record {
 abbrev pub answer_line : Place → List ℕ → List ℕ × Place
 answer_line at line = let asked = reading (whole current) line in ((respond at.mode at.directory asked).0, place_after at asked)
 
--- wherever it stands, what it is asked leads where it is to lead, and what is owed there is written
-pub record Responds {A E : Type 0} (old new : State) (took took' : Took) (result : Result A E) (asked : Reading) : Type 0 where
+-- whether a line is refused at a place
+abbrev pub refuses_line : Place → List ℕ → Bool
+refuses_line at line = refuses at.mode at.directory (reading (whole current) line)
+
+-- wherever it stands, what it is asked leads where it is to lead, what is owed there is written, and it is told whether
+-- it is refused
+pub record Responds {E : Type 0} (old new : State) (took took' : Took) (result : Result Answered E) (asked : Reading) : Type 0 where
   pub leads : (at : Place) → IsAt old at → IsAt new (place_after at asked)
   pub writes : WritesFor took took' result (IsAt old) (λ at. (respond at.mode at.directory asked).0)
+  pub tells : (at : Place) → IsAt old at → Tells result (refuses at.mode at.directory asked)

@@ -1,8 +1,10 @@
 //! Scripts: each line is read, executed on a segment or another machine, and answered.
 #![tactic(auto)]
 
+mod answered;
 mod changing;
 mod constructing;
+mod ends;
 mod faults;
 mod followers;
 mod language;
@@ -23,9 +25,11 @@ mod showing_maps;
 mod telling;
 mod text_rows;
 
+pub use answered::Answered;
+pub use ends::{End, Until};
 pub use faults::RunFault;
 pub use followers::{Follower, Nobody};
 pub use language::{CommandRow, command_rows, put_language};
 pub use linting::Lint;
 pub use machine::{Machine, Scratch};
-pub use scripts::{run, run_followed};
+pub use scripts::{run, run_followed, run_until};

@@ -2,9 +2,10 @@
 ghost use Rattle.std.specs.Prelude.{◌≡◌, ◌≤◌, ◌-◌, ◌^◌, ◌<◌, ◌+◌, length};
 ghost use Rattle.raw_region.specs.Device.{Writes};
 ghost use Rattle.segment_scripts.specs.CommandRows.{usage_of};
-ghost use Rattle.segment_scripts.specs.LintLaws.{lint_line-long};
-ghost use Rattle.segment_scripts.specs.Linting.{Place, behind, column_of, expected, finding_text, first_word, is_at, lint_line, same, start};
+ghost use Rattle.segment_scripts.specs.LintLaws.{lint_line-long, misses_line-long};
+ghost use Rattle.segment_scripts.specs.Linting.{Place, behind, column_of, expected, finding_text, first_word, is_at, lint_line, misses_line, same, start};
 
+use crate::answered::Answered;
 use crate::language::CommandRow;
 use crate::machine::{Machine, Scratch};
 use raw_region::{DeviceFault, Sink};
@@ -46,6 +47,8 @@ impl<'a> Machine for Lint<'a> {
 
     ghost respond = { λ at line. lint_line at line };
 
+    ghost refuses = { λ at line. misses_line line };
+
     ghost stands = { λ lint at. is_at lint.line lint.has_found lint.rows.now at };
 
     fn answer<W: Sink>(
@@ -53,19 +56,22 @@ impl<'a> Machine for Lint<'a> {
         scratch: &mut Scratch,
         line: &[u8],
         out: &mut W,
-    ) -> Result<(), DeviceFault> {
+    ) -> Result<Answered, DeviceFault> {
         self.line = self.line.saturating_add(1);
         match parse_line(line, &mut scratch.name) {
             Reading::Wrong(error) => {
                 self.has_found = true;
-                put_finding(self.rows, self.line, error, without_return(line), out)
+                let told = put_finding(self.rows, self.line, error, without_return(line), out);
+                Answered::Refused.once(told)
             }
-            Reading::Asked(_) => Ok(()),
-            Reading::Nothing => Ok(()),
+            Reading::Asked(_) => Ok(Answered::Done),
+            Reading::Nothing => Ok(Answered::Done),
         }
     }
 
     ghost long_lines = { lint_line-long };
+
+    ghost long_refusals = { λ at line. misses_line-long line };
 }
 
 /// Writes what is wrong with a line.

@@ -1,7 +1,9 @@
 //! What stands between a script and whatever answers its lines.
-ghost use Rattle.std.specs.Prelude.{◌≡◌, ◌-◌, ◌^◌, ◌<◌, ℕ, List, length, take};
+ghost use Rattle.std.specs.Prelude.{◌≡◌, ◌-◌, ◌^◌, ◌<◌, ℕ, Bool, List, length, take};
+ghost use Rattle.segment_scripts.specs.Refusing.{Tells};
 ghost use Rattle.segment_scripts.specs.Writing.{WritesFor};
 
+use crate::answered::Answered;
 use crate::rows::Rows;
 use crate::text_rows::TextRow;
 use raw_region::{DeviceFault, Sink};
@@ -42,24 +44,32 @@ pub trait Machine {
     // What a line, without its end, prints from a place, and where it leads.
     ghost respond: { Place → List ℕ → List ℕ × Place };
 
+    // Whether a line, without its end, is refused at a place.
+    ghost refuses: { Place → List ℕ → Bool };
+
     // The places that a machine may stand for.
     ghost stands: { Self → Place → Type 0 };
 
-    /// Executes the line, which has no line end, and writes its answer. A fault leaves the line
-    /// executed, and a proper prefix of its answer written.
+    /// Executes the line, which has no line end, writes its answer, and tells whether it was refused. A fault leaves
+    /// the line executed, and a proper prefix of its answer written.
     fn answer<W: Sink>(
         &mut self,
         scratch: &mut Scratch,
         line: &[u8],
         out: &mut W,
-    ) -> Result<(), DeviceFault>
+    ) -> Result<Answered, DeviceFault>
         requires { (W.history out.old).failures < 2 ^ 64 - 1 }
         ensures leads { (place : Place) → stands self.old place
             → stands self.new (respond place line.now).1 }
         ensures writes { WritesFor (W.history out.old) (W.history out.new) result (stands self.old)
-            (λ place. (respond place line.now).0) };
+            (λ place. (respond place line.now).0) }
+        ensures tells { (place : Place) → stands self.old place → Tells result (refuses place line.now) };
 
     // Of a line of more than 4097 bytes the first 4098 decide.
     ghost long_lines: { (place : Place) (line : List ℕ) → 4097 < length line
         → respond place line ≡ respond place (take 4098 line) };
+
+    // Also for whether it is refused.
+    ghost long_refusals: { (place : Place) (line : List ℕ) → 4097 < length line
+        → refuses place line ≡ refuses place (take 4098 line) };
 }

@@ -7,10 +7,10 @@ ghost use Rattle.seg_types.specs.Names.{ByHandle};
 ghost use Rattle.segment_manager.specs.objects.Located.{IsObject};
 ghost use Rattle.segment_manager.specs.State.{IsStepOfKind, StandsFor, scalar_answer};
 ghost use Rattle.segment_manager.specs.Step.{step};
-ghost use Rattle.segment_scripts.specs.Answer.{answer_text};
 ghost use Rattle.segment_scripts.specs.Changes.{Executes, IsChangeable};
-ghost use Rattle.segment_scripts.specs.Writing.{WritesFor};
+ghost use Rattle.segment_scripts.specs.Refusing.{AnswersFor};
 
+use crate::answered::Answered;
 use crate::changing::object_to_change;
 use crate::printing::{put_answer, put_refusal_line};
 use crate::replies::element;
@@ -23,11 +23,11 @@ use segment_manager::{Object, Segment};
 /// is open for reading, and else `NotFound` where no object has the key, `WrongKind` where it is no vector,
 /// `OutOfRange` where it is empty. A fault leaves the element taken out, and a proper prefix of it written.
 #[inline(never)]
-pub fn pop<W: Sink>(segment: &mut Segment, key: &Key, out: &mut W) -> Result<(), DeviceFault>
+pub fn pop<W: Sink>(segment: &mut Segment, key: &Key, out: &mut W) -> Result<Answered, DeviceFault>
     requires { (W.history out.old).failures < 2 ^ 64 - 1 }
     ensures executed { Executes segment.old segment.new (Pop (key_seen key.now)) }
-    ensures writes { WritesFor (W.history out.old) (W.history out.new) result (StandsFor segment.old.cut.bytes)
-        (λ d. answer_text (step segment.old.mode d (Pop (key_seen key.now))).0) }
+    ensures answers { AnswersFor (W.history out.old) (W.history out.new) result (StandsFor segment.old.cut.bytes)
+        (λ d. (step segment.old.mode d (Pop (key_seen key.now))).0) }
 {
     match object_to_change(segment, key) {
         Err(why) => put_refusal_line(out, why),
@@ -44,13 +44,17 @@ pub fn pop<W: Sink>(segment: &mut Segment, key: &Key, out: &mut W) -> Result<(),
 
 /// Writes the last text of the vector of strings of a key, which the segment lends, and takes it out then, also where
 /// writing it failed.
-fn pop_text<W: Sink>(segment: &mut Segment, object: Object, out: &mut W) -> Result<(), DeviceFault>
+fn pop_text<W: Sink>(
+    segment: &mut Segment,
+    object: Object,
+    out: &mut W,
+) -> Result<Answered, DeviceFault>
     requires object { IsObject object segment.old }
     requires writer { (W.history out.old).failures < 2 ^ 64 - 1 }
     requires of_kind { IsChangeable segment.old (ByHandle object.handle) StringsKind }
     ensures executed { Executes segment.old segment.new (Pop (ByHandle object.handle)) }
-    ensures writes { WritesFor (W.history out.old) (W.history out.new) result (StandsFor segment.old.cut.bytes)
-        (λ d. answer_text (step segment.old.mode d (Pop (ByHandle object.handle))).0) }
+    ensures answers { AnswersFor (W.history out.old) (W.history out.new) result (StandsFor segment.old.cut.bytes)
+        (λ d. (step segment.old.mode d (Pop (ByHandle object.handle))).0) }
 {
     let last = length_of(segment, object).saturating_sub(1);
     let written = put_text_at(segment, object, last, out);

@@ -1,13 +1,16 @@
 //! The running of a script: read in pieces, parted into lines, each line answered at its end.
-ghost use Rattle.std.specs.Prelude.{◌≡◌, ◌+◌, ◌-◌, ◌^◌, ◌<◌, ℕ, List, [], ◌++◌, take, OnOk, OnErr, IfErr};
+ghost use Rattle.std.specs.Prelude.{◌≡◌, ◌+◌, ◌-◌, ◌^◌, ◌<◌, ℕ, List, [], ◌++◌, take, OnErr, IfOk, IfErr};
 ghost use Rattle.memchr.specs.Find.{IsFirstByte, is_byte};
 ghost use Rattle.raw_region.specs.Answers.{failures_in};
 ghost use Rattle.raw_region.specs.Device.{given_since, taken_since, Grows};
-ghost use Rattle.segment_scripts.specs.Run.{lines};
-ghost use Rattle.segment_scripts.specs.Leaves.{Leaves, LeavesFault, UsesDevices};
+ghost use Rattle.segment_scripts.specs.Leaves.{Leaves, UsesDevices};
+ghost use Rattle.segment_scripts.specs.Refusing.{Tells};
+ghost use Rattle.segment_scripts.specs.Stopping.{FailsOnTheWay, LeavesUntil, stops_at};
 ghost use Rattle.segment_scripts.specs.Writing.{WritesFor};
-ghost use Rattle.segment_scripts.specs.Behind.{IsBehind, IsStoppedIn, IsAtEnd, IsStoppedAtLast, HasAnswered};
+ghost use Rattle.segment_scripts.specs.Behind.{FailsIn, IsOn, IsStoppedAtLast, LeavesEnded, LeavesLast, LeavesPiece};
 
+use crate::answered::Answered;
+use crate::ends::{End, Until};
 use crate::faults::RunFault;
 use crate::followers::{Follower, Nobody};
 use crate::machine::{Machine, Room, Scratch};
@@ -36,12 +39,13 @@ fn answer_next<M: Machine, W: Sink, F: Follower<W>>(
     line: &[u8],
     out: &mut W,
     follower: &mut F,
-) -> Result<(), DeviceFault>
+) -> Result<Answered, DeviceFault>
     requires { (W.history out.old).failures < 2 ^ 64 - 1 }
     ensures leads { (place : M.Place) → M.stands machine.old place
         → M.stands machine.new (M.respond place line.now).1 }
     ensures writes { WritesFor (W.history out.old) (W.history out.new) result (M.stands machine.old)
         (λ place. (M.respond place line.now).0) }
+    ensures tells { (place : M.Place) → M.stands machine.old place → Tells result (M.refuses place line.now) }
 {
     follower.before_line(out);
     machine.answer(scratch, line, out)
@@ -55,12 +59,14 @@ fn answer_ended<M: Machine, W: Sink, F: Follower<W>>(
     end: &[u8],
     out: &mut W,
     follower: &mut F,
-) -> Result<(), DeviceFault>
+) -> Result<Answered, DeviceFault>
     requires { (W.history out.old).failures < 2 ^ 64 - 1 }
     ensures leads { (place : M.Place) → M.stands machine.old place
         → M.stands machine.new (M.respond place (take 4098 (line.old ++ end.now))).1 }
     ensures writes { WritesFor (W.history out.old) (W.history out.new) result (M.stands machine.old)
         (λ place. (M.respond place (take 4098 (line.old ++ end.now))).0) }
+    ensures tells { (place : M.Place) → M.stands machine.old place
+        → Tells result (M.refuses place (take 4098 (line.old ++ end.now))) }
     ensures cleared { line.new ≡ [] }
 {
     if line.is_empty() {
@@ -73,7 +79,7 @@ fn answer_ended<M: Machine, W: Sink, F: Follower<W>>(
 }
 
 /// Executes the lines that end in the piece, the first of which may have begun before it, and keeps
-/// the line that is still open behind it.
+/// the line that is still open behind it. It goes no further than the line that ends the run.
 fn feed<M: Machine, W: Sink, F: Follower<W>>(
     machine: &mut M,
     scratch: &mut Scratch,
@@ -81,28 +87,34 @@ fn feed<M: Machine, W: Sink, F: Follower<W>>(
     piece: &[u8],
     out: &mut W,
     follower: &mut F,
-) -> Result<(), DeviceFault>
+    until: Until,
+) -> Result<End, DeviceFault>
     requires { (W.history out.old).failures < 2 ^ 64 - 1 }
-    ensures ok { OnOk result ((start : M.Place) (before read : List ℕ)
-        → IsBehind M.respond start before read (M.stands machine.old) line.old (W.history out.old).bytes
-        → IsBehind M.respond start before (read ++ piece.now) (M.stands machine.new) line.new
-        (W.history out.new).bytes) }
+    ensures ok { IfOk result (λ end. (start : M.Place) (before read : List ℕ)
+        → IsOn M.respond (stops_at until M.refuses) start before read (M.stands machine.old) line.old
+        (W.history out.old).bytes
+        → LeavesPiece M.respond (stops_at until M.refuses) start before read piece.now (M.stands machine.new) line.new
+        (W.history out.new).bytes end) }
     ensures err { OnErr result ((start : M.Place) (before read : List ℕ)
-        → IsBehind M.respond start before read (M.stands machine.old) line.old (W.history out.old).bytes
-        → IsStoppedIn M.respond start before read piece.now (M.stands machine.new)
+        → IsOn M.respond (stops_at until M.refuses) start before read (M.stands machine.old) line.old
+        (W.history out.old).bytes
+        → FailsIn M.respond (stops_at until M.refuses) start before read piece.now (M.stands machine.new)
         (W.history out.new).bytes) }
     ensures counted { (W.history out.new).failures ≡ (W.history out.old).failures + failures_in result }
 {
     let mut rest = piece;
     'lines: while let Some(len) = line_end(rest) {
-        answer_ended(machine, scratch, line, &rest[..len], out, follower)?;
+        let answered = answer_ended(machine, scratch, line, &rest[..len], out, follower)?;
+        if until.is_stop(answered) {
+            return Ok(End::Refused);
+        }
         rest = &rest[len + 1..];
     }
     line.extend(rest);
-    Ok(())
+    Ok(End::Whole)
 }
 
-/// Reads the script in pieces, and executes the lines that end in it.
+/// Reads the script in pieces, and executes the lines that end in it, as far as the one that ends the run.
 fn read_lines<M: Machine, S: Source, W: Sink, F: Follower<W>>(
     machine: &mut M,
     scratch: &mut Scratch,
@@ -110,19 +122,21 @@ fn read_lines<M: Machine, S: Source, W: Sink, F: Follower<W>>(
     line: &mut OpenLine,
     out: &mut W,
     follower: &mut F,
-) -> Result<(), RunFault>
+    until: Until,
+) -> Result<End, RunFault>
     requires reader { (S.history script.old).failures < 2 ^ 64 - 1 }
     requires writer { (W.history out.old).failures < 2 ^ 64 - 1 }
     requires fresh { line.old ≡ [] }
-    ensures end { OnOk result ((start : M.Place) → M.stands machine.old start
-        → IsAtEnd M.respond start (W.history out.old).bytes
+    ensures end { IfOk result (λ end. (start : M.Place) → M.stands machine.old start
+        → LeavesEnded M.respond (stops_at until M.refuses) start (W.history out.old).bytes
         (given_since (S.history script.old) (S.history script.new))
-        (M.stands machine.new) line.new (W.history out.new).bytes) }
+        (M.stands machine.new) line.new (W.history out.new).bytes
+        (taken_since (W.history out.old) (W.history out.new)) end) }
     ensures fault { IfErr result (λ fault. (start : M.Place) → M.stands machine.old start
-        → LeavesFault M.respond start
+        → FailsOnTheWay M.respond (stops_at until M.refuses) start
         (given_since (S.history script.old) (S.history script.new))
         (taken_since (W.history out.old) (W.history out.new))
-        fault (M.stands machine.new)) }
+        (M.stands machine.new) fault) }
     ensures out_grows { OnErr result ((start : M.Place) → M.stands machine.old start
         → Grows (W.history out.old).bytes (W.history out.new).bytes) }
     ensures devices { UsesDevices (S.history script.old) (S.history script.new)
@@ -139,11 +153,20 @@ fn read_lines<M: Machine, S: Source, W: Sink, F: Follower<W>>(
             Err(_) => return Err(RunFault::ReadFault),
         };
         if count == 0 {
-            return Ok(());
+            return Ok(End::Whole);
         }
         let within = count.min(left);
-        match feed(machine, scratch, line, &room[..within], out, follower) {
-            Ok(()) => {}
+        match feed(
+            machine,
+            scratch,
+            line,
+            &room[..within],
+            out,
+            follower,
+            until,
+        ) {
+            Ok(End::Whole) => {}
+            Ok(End::Refused) => return Ok(End::Refused),
             Err(_) => return Err(RunFault::WriteFault),
         }
         if left < count {
@@ -160,29 +183,78 @@ fn answer_last<M: Machine, W: Sink, F: Follower<W>>(
     line: &OpenLine,
     out: &mut W,
     follower: &mut F,
-) -> Result<(), DeviceFault>
+    until: Until,
+) -> Result<End, DeviceFault>
     requires { (W.history out.old).failures < 2 ^ 64 - 1 }
-    ensures ok { OnOk result ((start : M.Place) (before read : List ℕ)
-        → IsBehind M.respond start before read (M.stands machine.old) line.now (W.history out.old).bytes
-        → HasAnswered M.respond start before (lines read) (M.stands machine.new)
-        (W.history out.new).bytes) }
+    ensures ok { IfOk result (λ end. (start : M.Place) (before read : List ℕ)
+        → IsOn M.respond (stops_at until M.refuses) start before read (M.stands machine.old) line.now
+        (W.history out.old).bytes
+        → LeavesLast M.respond (stops_at until M.refuses) start before read (M.stands machine.new)
+        (W.history out.new).bytes end) }
     ensures err { OnErr result ((start : M.Place) (before read : List ℕ)
-        → IsBehind M.respond start before read (M.stands machine.old) line.now (W.history out.old).bytes
+        → IsOn M.respond (stops_at until M.refuses) start before read (M.stands machine.old) line.now
+        (W.history out.old).bytes
         → IsStoppedAtLast M.respond start before read (M.stands machine.new) (W.history out.new).bytes) }
     ensures counted { (W.history out.new).failures ≡ (W.history out.old).failures + failures_in result }
 {
     let last = line.as_slice();
     if !last.is_empty() {
-        answer_next(machine, scratch, last, out, follower)?;
+        let answered = answer_next(machine, scratch, last, out, follower)?;
+        if until.is_stop(answered) {
+            return Ok(End::Refused);
+        }
     }
-    Ok(())
+    Ok(End::Whole)
 }
 
 /// Executes the script line by line from where the machine stands, and writes the answers. A line
 /// ends at a byte 10; the last one needs no end. It takes no memory. The follower is asked before
-/// each read of the script, and before each line.
+/// each read of the script, and before each line. Until a refusal, the first line that the machine
+/// refuses is the last: it is answered, and no line behind it is executed, nor more of the script read.
 ///
 /// A fault leaves the machine where the lines that were executed lead.
+pub fn run_until<M: Machine, S: Source, W: Sink, F: Follower<W>>(
+    machine: &mut M,
+    script: &mut S,
+    out: &mut W,
+    follower: &mut F,
+    until: Until,
+) -> Result<End, RunFault>
+    requires reader { (S.history script.old).failures < 2 ^ 64 - 1 }
+    requires writer { (W.history out.old).failures < 2 ^ 64 - 1 }
+    ensures leaves { (place : M.Place) → M.stands machine.old place
+        → LeavesUntil M.respond (stops_at until M.refuses) place
+        (given_since (S.history script.old) (S.history script.new))
+        (taken_since (W.history out.old) (W.history out.new))
+        (M.stands machine.new) result }
+    ensures out_grows { (place : M.Place) → M.stands machine.old place
+        → Grows (W.history out.old).bytes (W.history out.new).bytes }
+    ensures devices { UsesDevices (S.history script.old) (S.history script.new)
+        (W.history out.old) (W.history out.new) result }
+{
+    let mut scratch = Scratch {
+        name: Text::new(),
+        room: Room::new(),
+    };
+    let mut line = OpenLine::new();
+    match read_lines(
+        machine,
+        &mut scratch,
+        script,
+        &mut line,
+        out,
+        follower,
+        until,
+    )? {
+        End::Refused => Ok(End::Refused),
+        End::Whole => match answer_last(machine, &mut scratch, &line, out, follower, until) {
+            Ok(end) => Ok(end),
+            Err(_) => Err(RunFault::WriteFault),
+        },
+    }
+}
+
+/// Executes the script to its end, whatever its lines are answered, as [`run_until`] does.
 pub fn run_followed<M: Machine, S: Source, W: Sink, F: Follower<W>>(
     machine: &mut M,
     script: &mut S,
@@ -201,15 +273,9 @@ pub fn run_followed<M: Machine, S: Source, W: Sink, F: Follower<W>>(
     ensures devices { UsesDevices (S.history script.old) (S.history script.new)
         (W.history out.old) (W.history out.new) result }
 {
-    let mut scratch = Scratch {
-        name: Text::new(),
-        room: Room::new(),
-    };
-    let mut line = OpenLine::new();
-    read_lines(machine, &mut scratch, script, &mut line, out, follower)?;
-    match answer_last(machine, &mut scratch, &line, out, follower) {
-        Ok(()) => Ok(()),
-        Err(_) => Err(RunFault::WriteFault),
+    match run_until(machine, script, out, follower, Until::End) {
+        Ok(_) => Ok(()),
+        Err(fault) => Err(fault),
     }
 }
 

@@ -1,14 +1,16 @@
 //! A segment as a machine that answers lines: each line is read, executed, and answered.
-ghost use Rattle.std.specs.Prelude.{◌≡◌, ◌-◌, ◌^◌, ◌<◌};
+ghost use Rattle.std.specs.Prelude.{◌≡◌, ◌-◌, ◌^◌, ◌<◌, true};
 ghost use Rattle.raw_region.specs.Device.{Writes};
 ghost use Rattle.seg_types.specs.Commands.{Asked, Command as AskedCommand};
 ghost use Rattle.segment_lang.specs.Seen.{reading_by};
 ghost use Rattle.segment_lang.specs.declared.forms.CommandForm.TheVariants as form;
+ghost use Rattle.segment_scripts.specs.Refusing.{Tells};
 ghost use Rattle.segment_scripts.specs.Replies.{IsMeant};
 ghost use Rattle.segment_scripts.specs.Run.{error_line};
-ghost use Rattle.segment_scripts.specs.Segments.{IsAt, Place, Responds, answer_line};
-ghost use Rattle.segment_scripts.specs.LongLines.{answer_line-long};
+ghost use Rattle.segment_scripts.specs.Segments.{IsAt, Place, Responds, answer_line, refuses_line};
+ghost use Rattle.segment_scripts.specs.LongLines.{answer_line-long, refuses_line-long};
 
+use crate::answered::Answered;
 use crate::changing::push;
 use crate::machine::{Machine, Scratch};
 use crate::pairs::put;
@@ -28,6 +30,8 @@ impl Machine for Segment {
 
     ghost respond = { λ at line. answer_line at line };
 
+    ghost refuses = { λ at line. refuses_line at line };
+
     ghost stands = { λ segment at. IsAt segment at };
 
     fn answer<W: Sink>(
@@ -35,9 +39,9 @@ impl Machine for Segment {
         scratch: &mut Scratch,
         line: &[u8],
         out: &mut W,
-    ) -> Result<(), DeviceFault> {
+    ) -> Result<Answered, DeviceFault> {
         match lead_of(line) {
-            Lead::Nothing => Ok(()),
+            Lead::Nothing => Ok(Answered::Done),
             Lead::Form(form, rest) => match form {
                 CommandForm::Size => answer_size(self, rest, out),
                 CommandForm::Get => answer_get(self, rest, scratch, out),
@@ -50,26 +54,33 @@ impl Machine for Segment {
     }
 
     ghost long_lines = { answer_line-long };
+
+    ghost long_refusals = { refuses_line-long };
 }
 
 /// Writes why a line is no command.
 #[inline(never)]
-fn put_wrong<W: Sink>(error: LineError, out: &mut W) -> Result<(), DeviceFault>
+fn put_wrong<W: Sink>(error: LineError, out: &mut W) -> Result<Answered, DeviceFault>
     requires { (W.history out.old).failures < 2 ^ 64 - 1 }
-    ensures { Writes (W.history out.old) (W.history out.new) result (error_line error) }
+    ensures writes { Writes (W.history out.old) (W.history out.new) result (error_line error) }
+    ensures tells { Tells result true }
 {
-    put_pieces(out, &[Piece::LineError(error), Piece::Bytes(b"\n")])
+    Answered::Refused.once(put_pieces(out, &[Piece::LineError(error), Piece::Bytes(b"\n")]))
 }
 
 /// Answers `size`, with what stands behind it.
-fn answer_size<W: Sink>(segment: &Segment, rest: &[u8], out: &mut W) -> Result<(), DeviceFault>
+fn answer_size<W: Sink>(
+    segment: &Segment,
+    rest: &[u8],
+    out: &mut W,
+) -> Result<Answered, DeviceFault>
     requires { (W.history out.old).failures < 2 ^ 64 - 1 }
     ensures { Responds segment.now segment.now (W.history out.old) (W.history out.new) result (reading_by form.Size rest.now) }
 {
     if !is_alone(rest) {
         return put_wrong(LineError::BadSyntax, out);
     }
-    put_number_line(out, b"", segment.size())
+    Answered::Done.once(put_number_line(out, b"", segment.size()))
 }
 
 /// Answers `get`, with what stands behind it.
@@ -79,7 +90,7 @@ fn answer_get<W: Sink>(
     rest: &[u8],
     scratch: &mut Scratch,
     out: &mut W,
-) -> Result<(), DeviceFault>
+) -> Result<Answered, DeviceFault>
     requires { (W.history out.old).failures < 2 ^ 64 - 1 }
     ensures { Responds segment.now segment.now (W.history out.old) (W.history out.new) result (reading_by form.Get rest.now) }
 {
@@ -96,7 +107,7 @@ fn answer_push<W: Sink>(
     rest: &[u8],
     scratch: &mut Scratch,
     out: &mut W,
-) -> Result<(), DeviceFault>
+) -> Result<Answered, DeviceFault>
     requires room { (W.history out.old).failures < 2 ^ 64 - 1 }
     requires meant { (c : AskedCommand) → Asked c ≡ reading_by form.Push rest.now → IsMeant c }
     ensures { Responds segment.old segment.new (W.history out.old) (W.history out.new) result (reading_by form.Push rest.now) }
@@ -117,7 +128,7 @@ fn answer_put<W: Sink>(
     rest: &[u8],
     scratch: &mut Scratch,
     out: &mut W,
-) -> Result<(), DeviceFault>
+) -> Result<Answered, DeviceFault>
     requires { (W.history out.old).failures < 2 ^ 64 - 1 }
     ensures { Responds segment.old segment.new (W.history out.old) (W.history out.new) result (reading_by form.Put rest.now) }
 {
@@ -138,7 +149,7 @@ fn answer_form<W: Sink>(
     rest: &[u8],
     scratch: &mut Scratch,
     out: &mut W,
-) -> Result<(), DeviceFault>
+) -> Result<Answered, DeviceFault>
     requires room { (W.history out.old).failures < 2 ^ 64 - 1 }
     requires meant { (c : AskedCommand) → Asked c ≡ reading_by form rest.now → IsMeant c }
     ensures { Responds segment.old segment.new (W.history out.old) (W.history out.new) result (reading_by form rest.now) }

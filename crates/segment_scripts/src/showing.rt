@@ -9,13 +9,14 @@ ghost use Rattle.segment_manager.specs.Calls.{HasScalars};
 ghost use Rattle.segment_manager.specs.objects.Located.{IsObject};
 ghost use Rattle.segment_manager.specs.State.{Answers, StandsFor};
 ghost use Rattle.segment_manager.specs.Step.{step};
-ghost use Rattle.segment_scripts.specs.Answer.{answer_text};
 ghost use Rattle.segment_scripts.specs.Parts.{element_part, parts_until};
+ghost use Rattle.segment_scripts.specs.Refusing.{AnswersFor};
 ghost use Rattle.segment_scripts.specs.Replies.{shown_at, text_at};
 ghost use Rattle.segment_scripts.specs.Shown.{counted_text, elements_text, front_text, length_in, string_line};
 ghost use Rattle.segment_scripts.specs.Shown.{texts_line, texts_text, value_line};
 ghost use Rattle.segment_scripts.specs.Writing.{WritesFor};
 
+use crate::answered::Answered;
 use crate::printing::{put_answer, put_refusal_line};
 use crate::replies::element;
 use crate::showing_maps::put_map_line;
@@ -26,20 +27,33 @@ use segment_manager::{Object, Segment, locate};
 
 /// Writes the kind and the value of the object of a key, or that there is none.
 #[inline(never)]
-pub fn put_shown<W: Sink>(segment: &Segment, key: &Key, out: &mut W) -> Result<(), DeviceFault>
+pub fn put_shown<W: Sink>(
+    segment: &Segment,
+    key: &Key,
+    out: &mut W,
+) -> Result<Answered, DeviceFault>
     requires { (W.history out.old).failures < 2 ^ 64 - 1 }
-    ensures { WritesFor (W.history out.old) (W.history out.new) result (StandsFor segment.now.cut.bytes)
-        (λ d. answer_text (shown_at d (key_seen key.now))) }
+    ensures { AnswersFor (W.history out.old) (W.history out.new) result (StandsFor segment.now.cut.bytes)
+        (λ d. shown_at d (key_seen key.now)) }
 {
     match locate(segment, key) {
         Ok(object) => match object.kind {
-            Kind::Scalar(_) => put_value_line(segment, object, u64::from(object.count), out),
-            Kind::Vector(_) => put_value_line(segment, object, length_of(segment, object), out),
-            Kind::String => put_string_line(segment, object, out),
-            Kind::Strings => put_texts_line(segment, object, length_of(segment, object), out),
+            Kind::Scalar(_) => {
+                let count = u64::from(object.count);
+                Answered::Done.once(put_value_line(segment, object, count, out))
+            }
+            Kind::Vector(_) => {
+                let len = length_of(segment, object);
+                Answered::Done.once(put_value_line(segment, object, len, out))
+            }
+            Kind::String => Answered::Done.once(put_string_line(segment, object, out)),
+            Kind::Strings => {
+                let count = length_of(segment, object);
+                Answered::Done.once(put_texts_line(segment, object, count, out))
+            }
             Kind::Map(keys, values) => {
                 let count = length_of(segment, object);
-                put_map_line(segment, object, keys, values, count, out)
+                Answered::Done.once(put_map_line(segment, object, keys, values, count, out))
             }
         },
         Err(why) => put_refusal_line(out, why),
@@ -229,10 +243,10 @@ pub fn put_got<W: Sink>(
     key: &Key,
     index: u64,
     out: &mut W,
-) -> Result<(), DeviceFault>
+) -> Result<Answered, DeviceFault>
     requires { (W.history out.old).failures < 2 ^ 64 - 1 }
-    ensures { WritesFor (W.history out.old) (W.history out.new) result (StandsFor segment.now.cut.bytes)
-        (λ d. answer_text (step segment.now.mode d (Get (key_seen key.now) index)).0) }
+    ensures { AnswersFor (W.history out.old) (W.history out.new) result (StandsFor segment.now.cut.bytes)
+        (λ d. (step segment.now.mode d (Get (key_seen key.now) index)).0) }
 {
     match locate(segment, key) {
         Ok(object) => match object.kind {
@@ -249,14 +263,16 @@ pub fn put_text_at<W: Sink>(
     object: Object,
     index: u64,
     out: &mut W,
-) -> Result<(), DeviceFault>
+) -> Result<Answered, DeviceFault>
     requires writer { (W.history out.old).failures < 2 ^ 64 - 1 }
     requires object { IsObject object segment.now }
-    ensures { WritesFor (W.history out.old) (W.history out.new) result (StandsFor segment.now.cut.bytes)
-        (λ d. answer_text (text_at d (ByHandle object.handle) index)) }
+    ensures { AnswersFor (W.history out.old) (W.history out.new) result (StandsFor segment.now.cut.bytes)
+        (λ d. text_at d (ByHandle object.handle) index) }
 {
     match segment.texts_get(&object, index) {
-        Ok(text) => put_pieces(out, &[Piece::Text(text), Piece::Bytes(b"\n")]),
+        Ok(text) => {
+            Answered::Done.once(put_pieces(out, &[Piece::Text(text), Piece::Bytes(b"\n")]))
+        }
         Err(why) => put_refusal_line(out, why),
     }
 }

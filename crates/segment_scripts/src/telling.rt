@@ -11,10 +11,12 @@ ghost use Rattle.segment_manager.specs.objects.Located.{IsObject};
 ghost use Rattle.segment_manager.specs.State.{StandsFor};
 ghost use Rattle.segment_scripts.specs.Answer.{answer_text, class_words, entry_words, line};
 ghost use Rattle.segment_scripts.specs.Parts.{said_words};
+ghost use Rattle.segment_scripts.specs.Refusing.{AnswersFor};
 ghost use Rattle.segment_scripts.specs.Replies.{told_at};
 ghost use Rattle.segment_scripts.specs.Shown.{behind_text, class_text, number_words};
 ghost use Rattle.segment_scripts.specs.Writing.{WritesFor};
 
+use crate::answered::Answered;
 use crate::printing::put_refusal_line;
 use raw_region::{DeviceFault, Sink};
 use seg_types::{Class, Key, Kind};
@@ -24,10 +26,10 @@ use segment_manager::{Instance, Object, Segment, locate};
 
 /// Writes what the object of a key says of itself, or that there is none.
 #[inline(never)]
-pub fn put_told<W: Sink>(segment: &Segment, key: &Key, out: &mut W) -> Result<(), DeviceFault>
+pub fn put_told<W: Sink>(segment: &Segment, key: &Key, out: &mut W) -> Result<Answered, DeviceFault>
     requires { (W.history out.old).failures < 2 ^ 64 - 1 }
-    ensures { WritesFor (W.history out.old) (W.history out.new) result (StandsFor segment.now.cut.bytes)
-        (λ d. answer_text (told_at d (key_seen key.now))) }
+    ensures { AnswersFor (W.history out.old) (W.history out.new) result (StandsFor segment.now.cut.bytes)
+        (λ d. told_at d (key_seen key.now)) }
 {
     match locate(segment, key) {
         Ok(object) => put_object(segment, object, out),
@@ -36,19 +38,23 @@ pub fn put_told<W: Sink>(segment: &Segment, key: &Key, out: &mut W) -> Result<()
 }
 
 /// Writes what an object says of itself.
-fn put_object<W: Sink>(segment: &Segment, object: Object, out: &mut W) -> Result<(), DeviceFault>
+fn put_object<W: Sink>(
+    segment: &Segment,
+    object: Object,
+    out: &mut W,
+) -> Result<Answered, DeviceFault>
     requires writer { (W.history out.old).failures < 2 ^ 64 - 1 }
     requires object { IsObject object segment.now }
-    ensures { WritesFor (W.history out.old) (W.history out.new) result (StandsFor segment.now.cut.bytes)
-        (λ d. answer_text (told_at d (ByHandle object.handle))) }
+    ensures { AnswersFor (W.history out.old) (W.history out.new) result (StandsFor segment.now.cut.bytes)
+        (λ d. told_at d (ByHandle object.handle)) }
 {
     match segment.instance(&object) {
         Ok(said) => match segment.measure(&object) {
             Ok((len, capacity)) => match said.kind {
-                Kind::Map(_, _) => put_instance(said, Some(len), None, out),
-                _ => put_instance(said, Some(len), Some(capacity), out),
+                Kind::Map(_, _) => Answered::Done.once(put_instance(said, Some(len), None, out)),
+                _ => Answered::Done.once(put_instance(said, Some(len), Some(capacity), out)),
             },
-            Err(_) => put_instance(said, None, None, out),
+            Err(_) => Answered::Done.once(put_instance(said, None, None, out)),
         },
         Err(why) => put_refusal_line(out, why),
     }

@@ -1,7 +1,7 @@
 //! The library in one place: what a program needs that keeps typed objects under names in a file.
 //!
 //! A program opens or makes a [`SegmentFile`] over the files of the system ([`HostDisk`]), constructs and finds objects
-//! in its [`Segment`] by their names ([`named`]), and saves it. `crates/examples` has twelve programs that do so.
+//! in its [`Segment`] by their names ([`named`]), and saves it. `crates/examples` has programs that do so.
 //!
 //! Every call on a segment takes whatever the segment holds, and answers or refuses. A few ask for something else
 //! before they are called, say so under `# Conditions`, and which call does the same without:
@@ -10,7 +10,7 @@
 //! |---|---|---|
 //! | `construct`, `find_or_construct`, and those of a `ScalarValue` | a count from 1 to 1048576 | `construct_array`, `find_or_construct_array` |
 //! | what takes a [`Destination`] that says a kind | it is the kind of what is made | a [`Name`], [`UniqueInstance`], [`AnonymousInstance`] |
-//! | `create`, `relocate`, [`open`], [`verify`], [`examine`], [`open_bytes`], [`open_any`] | a base that is a multiple of 16 | |
+//! | `create`, `relocate`, [`open`], [`verify`], [`examine`], [`examine_bytes`], [`open_bytes`], [`open_any`] | a base that is a multiple of 16 | |
 //!
 //! The layers below a segment ([`Heap`], [`SegVec`], [`Window`], [`RawRegion`]) are for types of one's own, and want to
 //! be told what lies where.
@@ -26,8 +26,10 @@ pub use best_fit::{Heap, NoSpace};
 pub use block_tags::Role;
 pub use grow_shrink::{GrowError, grow, shrink_to_fit};
 pub use image_check::{
+pub use image_check::{
     ExamineError, ExamineRefused, ImageClass, MemoryFault, NoMemory, OpenError, OpenRefused,
-    Verdict, examine, open, open_any, open_bytes, verify,
+    Verdict, examine, examine_bytes, open, open_any, open_bytes, verify,
+};
 };
 pub use naming::named;
 pub use raw_region::stream::{Reading, Writing};

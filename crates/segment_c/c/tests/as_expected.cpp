@@ -290,6 +290,28 @@ void texts() {
     IS(s.find<std::string>("t") == s.find<std::string>(key::by_handle(t.handle())));
 }
 
+#ifdef __cpp_lib_format
+void formats() {
+    segment s = segment::create(65536);
+    const auto v = s.vector<i64>("v");
+    v.push_back(-42);
+    const auto t = s.string("t");
+    t.assign("abc");
+    const auto l = s.strings("l");
+    l.push_back("xy");
+    const auto m = s.map<i32, i64>("m");
+    m[1] = 7;
+    const auto b = s.vector<bool>("b");
+    b.push_back(true);
+    IS(std::format("{}|{:6}|{:x}", v[0], v[0], v.front()) == "-42|   -42|-2a");
+    IS(std::format("{}|{:>5}|{:.2}", t, t, t) == "abc|  abc|ab");
+    IS(std::format("{}{:*^6}", l[0], l.back()) == "xy**xy**");
+    IS(std::format("{}|{:d}|{:+}", b[0], b[0], m[1]) == "true|1|+7");
+    const zaluxhoni::const_string read = std::as_const(s).string("t");
+    IS(std::format("{:{}}|", read, 4) == "abc |");
+}
+#endif
+
 void algorithms() {
     segment s = segment::create(65536);
     const auto v = s.vector<i64>("v");
@@ -623,9 +645,15 @@ void the_longest_segment() {
     IS(s.size() == 1024 && s.vector<i64>("v").empty());
 }
 
+#ifdef __cpp_lib_format
+#define FORMATS formats,
+#else
+#define FORMATS
+#endif
+
 void every_case() {
     void (*const cases[])() = {an_array_that_is_made_anew, numbers_that_do_not_fit, truths, texts_that_are_stored,
-                               elements, texts, algorithms, bulk, own_types, views_without_a_copy,
+                               elements, texts, FORMATS algorithms, bulk, own_types, views_without_a_copy,
                                several_calls_as_one, const_segments, groups, segments_that_grow};
     for (void (*each)() : cases) {
         try {

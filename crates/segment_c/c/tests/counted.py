@@ -10,7 +10,7 @@ for header in headers:
     with open(header) as file:
         text += re.sub(r"/\*.*?\*/", "", file.read(), flags=re.DOTALL)
 # a call that looks for null slices is an inline function; what it calls then has the name in the library
-calls = re.findall(r"^(zx_code|void|u?int(?:32|64)_t|const char \*) ?(zx_\w+)\(([^()]*)\)"
+calls = re.findall(r"^(zx_code|void(?: \*)?|bool|u?int(?:32|64)_t|const char \*) ?(zx_\w+)\(([^()]*)\)"
                    r"(?:\s+ZX_NAMED\((\w+)\))?;", text, flags=re.MULTILINE)
 print("""#define _GNU_SOURCE
 #include "zaluxhoni_files.h"

@@ -1203,30 +1203,16 @@ static void rows_of_texts(void) {
     IS(zx_read_names(&s, 0, infos, values, read_texts, 1, 4, &read), ZX_CLOSED);
 }
 
-/* The calls for one number. */
-static void one_number(void) {
+/* What is there for Python has nothing to call here. */
+static void without_python(void) {
     zx_segment s = ZX_CLOSED_HANDLE;
-    uint64_t handle, here = zx_thread();
-    zx_place v = { &s, here, zx_name("v") }, m = { &s, 0, zx_name("m") }, elsewhere = { &s, here + 1, zx_name("v") };
+    zx_key v = zx_name("v");
+    uint8_t row[1] = { 7 };
+    uint64_t here = zx_thread();
     IS(here > 0 && here == zx_thread(), true);
-    DONE(zx_create(&s, 1024));
-    IS(made_vector(&s, v.key, zx_i64s((const int64_t *)&s, 0)), 192);
-    DONE(zx_construct_map(&s, &m.key, ZX_U8, ZX_I32, &handle));
-    DONE(zx_push_number(&v, -5));
-    DONE(zx_set_at(&v, 0, -6));
-    IS(zx_element_at(&v, 0), -6);
-    IS(zx_element_at(&v, 1), ZX_NO_NUMBER);
-    IS(zx_set_at(&v, 1, 1), ZX_OUT_OF_RANGE);
-    DONE(zx_put_at(&m, 255, -7));
-    IS(zx_put_at(&m, 256, -7), ZX_OUT_OF_RANGE);
-    IS(zx_map_at(&m, 255), -7);
-    IS(zx_map_at(&m, 254), ZX_NO_NUMBER);
-    IS(zx_element_at(&elsewhere, 0), ZX_NO_NUMBER);
-    IS(zx_push_number(&elsewhere, 0), ZX_CLOSED);
-    IS(zx_set_at(&elsewhere, 0, 0), ZX_CLOSED);
-    zx_close(&s);
-    IS(zx_put_at(&m, 1, 1), ZX_CLOSED);
-    IS(zx_map_at(&m, 1), ZX_NO_NUMBER);
+    IS(zx_python_at(&s, &v, ZX_VECTOR(ZX_I64), here, &s) == NULL, true);
+    IS(zx_python_row(&s, ZX_U8, row, 1), false);
+    IS(row[0], 7);
 }
 
 int main(int count, char **arguments) {
@@ -1260,7 +1246,7 @@ int main(int count, char **arguments) {
     files();
     rows_of_numbers();
     rows_of_texts();
-    one_number();
+    without_python();
     printf("every_call.c: %d checks, %d wrong\n", checks, wrong);
     return wrong != 0;
 }

@@ -47,7 +47,7 @@ static mode_t wanted_rights;
 static __thread const char *absent;
 /* A file, and another whose place it takes when the next one gets its name. */
 static __thread const char *const *swapped;
-/* Whether stat takes a pipe for a file, as where one is put in the place of the other meanwhile. */
+/* Whether lstat takes a pipe for a file, as where one is put in the place of the other meanwhile. */
 static bool is_blind;
 
 static const char *of_case(void) {
@@ -72,8 +72,8 @@ static bool fails(const char *name, int error) {
         return __real_##name(__VA_ARGS__); \
     }
 
+WRAPPED(int, stat, (const char *path, struct stat *found), path, found)
 WRAPPED(int, fstat, (int file, struct stat *found), file, found)
-WRAPPED(int, lstat, (const char *path, struct stat *found), path, found)
 WRAPPED(int, fstatat, (int folder, const char *path, struct stat *found, int flags), folder, path, found, flags)
 WRAPPED(int, ftruncate, (int file, off_t len), file, len)
 WRAPPED(int, fsync, (int file), file)
@@ -96,11 +96,11 @@ void *__wrap_mremap(void *at, size_t len, size_t wanted, int flags, ...) {
     return way == AT_ONCE && fails("mremap", ENOMEM) ? MAP_FAILED : __real_mremap(at, len, wanted, flags);
 }
 
-int __real_stat(const char *path, struct stat *found);
-int __wrap_stat(const char *path, struct stat *found);
-int __wrap_stat(const char *path, struct stat *found) {
-    if (way == AT_ONCE && fails("stat", EIO)) return -1;
-    int answer = __real_stat(path, found);
+int __real_lstat(const char *path, struct stat *found);
+int __wrap_lstat(const char *path, struct stat *found);
+int __wrap_lstat(const char *path, struct stat *found) {
+    if (way == AT_ONCE && fails("lstat", EIO)) return -1;
+    int answer = __real_lstat(path, found);
     if (is_blind) found->st_mode = S_IFREG | 0644;
     return answer;
 }

@@ -8,6 +8,7 @@
 #include <signal.h>
 #include <stdio.h>
 #include <stdlib.h>
+#include <sys/mman.h>
 #include <sys/resource.h>
 #include <sys/stat.h>
 #include <sys/wait.h>
@@ -284,11 +285,18 @@ static void no_image(void) {
 static void forked(void) {
     zx_file file = ZX_CLOSED_FILE;
     int status = -1;
+    zx_key key = zx_name("n");
+    zx_elements number;
     seed(5);
     DONE(zx_file_open(&file, path, WRITE, 0));
+    DONE(zx_view(&file.segment, &key, &number));
+    void *page = (void *)((uintptr_t)number.at / 4096 * 4096);
+    IS(msync(page, 4096, MS_ASYNC), 0);
     fflush(stdout);
     pid_t child = fork();
     if (child == 0) {
+        /* no page is where the file was mapped */
+        if (msync(page, 4096, MS_ASYNC) == 0 || errno != ENOMEM) _exit(2);
         int is = get(&file) == -ZX_CLOSED && set(&file, 9) == ZX_CLOSED && zx_file_save(&file) == ZX_CLOSED;
         is &= zx_file_flush(&file) == ZX_FILE_FORKED && zx_file_close(&file) == ZX_DONE;
         _exit(is ? 0 : 1);

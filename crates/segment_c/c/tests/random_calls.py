@@ -1,16 +1,22 @@
-"""random_calls.py FOLDER [SEED [STEPS]]: the same random calls to objects of a segment and to Python's own list, dict
+"""random_calls.py FOLDER [SEED [STEPS [plain]]]: the same random calls to objects of a segment and to Python's own list, dict
 and bytearray, STEPS of them for lists, as many for maps, and as many for names in a segment and in a group of it;
-answers are compared, and classes of errors; the segment is saved and opened again on the way."""
+answers are compared, and classes of errors; the segment is saved and opened again on the way. `plain` has the package
+do without what the library knows of CPython."""
 import collections.abc
 import os
 import random
 import sys
 
 import zaluxhoni
+from zaluxhoni import _library, _objects
 
 folder, seed = sys.argv[1], int(sys.argv[2]) if len(sys.argv) > 2 else 1
 steps = int(sys.argv[3]) if len(sys.argv) > 3 else 5000
 chance = random.Random(seed)
+if not _library.HAS_PYTHON:
+    sys.exit("random_calls.py: WRONG, the library knows nothing of this interpreter")
+if sys.argv[4:] == ["plain"]:
+    _library.HAS_PYTHON = _objects.HAS_PYTHON = False
 path = os.path.join(folder, "python-random.seg")
 ranges = {"bool": (False, True), "u8": (0, 255), "i32": (-2**31, 2**31 - 1), "i64": (-2**63, 2**63 - 1),
           "u64": (0, 2**64 - 1)}

@@ -55,10 +55,6 @@ class Tile(ctypes.Structure):
     _fields_ = [("offset", ctypes.c_uint64), ("len", ctypes.c_uint64), ("use", ctypes.c_uint32)]
 
 
-class Place(ctypes.Structure):
-    _fields_ = [("segment", ctypes.c_void_p), ("thread", ctypes.c_uint64), ("key", Key)]
-
-
 def _path() -> str:
     """The library that ZALUXHONI_LIBRARY names, or that beside this module or its folder, or that which the system
     finds."""
@@ -141,12 +137,13 @@ def _load() -> Any:
 
 
 def _load_quick() -> Any:
-    """The calls for one small number of zaluxhoni_rows.h. They are so short that the interpreter's lock is kept, and
-    are given the place and numbers of 32 bits as they stand: to declare what they take costs more than the call."""
-    library = ctypes.PyDLL(_path())
-    for name, answer in (("map_at", ctypes.c_int64), ("element_at", ctypes.c_int64), ("put_at", ctypes.c_uint32),
-                         ("push_number", ctypes.c_uint32), ("set_at", ctypes.c_uint32), ("thread", ctypes.c_uint64)):
-        getattr(library, "zx_" + name).restype = answer
+    """The calls of zaluxhoni_rows.h for objects of CPython's, which keep the interpreter's lock."""
+    library, pointer = ctypes.PyDLL(_path()), ctypes.POINTER
+    library.zx_thread.argtypes, library.zx_thread.restype = [], ctypes.c_uint64
+    library.zx_python_at.argtypes = [pointer(Handle), pointer(Key), ctypes.c_uint32, ctypes.c_uint64, ctypes.py_object]
+    library.zx_python_at.restype = ctypes.py_object
+    library.zx_python_row.argtypes = [ctypes.py_object, ctypes.c_uint32, ctypes.c_void_p, ctypes.c_size_t]
+    library.zx_python_row.restype = ctypes.c_bool
     return library
 
 
@@ -154,8 +151,8 @@ zx = _load()
 free = ctypes.PyDLL(None).free
 free.argtypes, free.restype = [ctypes.c_void_p], None
 quick = _load_quick()
-NO_NUMBER = -0x5A415855584F4E49
-"""What a call for one number answers where it has none."""
+HAS_PYTHON: bool = quick.zx_python_row([], U8, None, 0)
+"""Whether the library takes this interpreter's own lists and numbers."""
 NO_SPACE = 9
 
 

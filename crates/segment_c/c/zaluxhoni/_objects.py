@@ -10,26 +10,20 @@ from typing import (TYPE_CHECKING, Any, Dict, Iterable, Iterator, List, MutableM
 
 from . import _library
 from ._errors import Absent, BadCount, BadValue, Error, NoElement, NoSpace, OutOfRange, WrongKind, error_of
-from ._library import BOOL, I32, I64, NO_NUMBER, STRING, STRINGS, U8, U64, VECTOR, MAP, quick, zx
+from ._library import BOOL, HAS_PYTHON, I32, I64, STRING, STRINGS, U8, U64, VECTOR, MAP, quick, zx
 from ._values import (KINDS, SCALARS, Key, Row, Texts, decoded, encoded, from_words, is_scalar, listed,
                       natural, number_in, pairs_of, raw_key, row, scalar, unpacked, value_of, whole)
 
 if TYPE_CHECKING:
     from ._segment import Info, Segment
 
-_element_at, _map_at, _put_at, _push_number, _set_at = (
-    quick.zx_element_at, quick.zx_map_at, quick.zx_put_at, quick.zx_push_number, quick.zx_set_at)
 _reads = {BOOL: zx.zx_read_bools, U8: zx.zx_read_u8s, I32: zx.zx_read_i32s, I64: zx.zx_read_i64s, U64: zx.zx_read_u64s}
-_QUICK = (U8, I32, I64)
 _AHEAD = 4096
 _FEW = 64
-_SMALL = 2**31
 
 
-def _quick_range(code: int, is_quick: bool) -> Tuple[int, int]:
-    """The numbers that a call for one small number takes: none where the object is of another kind."""
-    own = SCALARS[code]
-    return (max(own.least, -_SMALL), min(own.most, _SMALL - 1)) if is_quick else (1, 0)
+def _no_value(*_: Any) -> None:
+    """What stands for the function of zx_python_at where the library makes none."""
 
 
 class Lease:
@@ -86,15 +80,23 @@ class Object:
 
     def __init__(self, segment: Segment, key: Key, code: int) -> None:
         self._segment, self._key, self._code, self._raw = segment, key, code, raw_key(key)
-        self._raw_ref = ctypes.byref(self._raw)
         self._lock = segment._lock
-        place = _library.Place(ctypes.addressof(segment._handle), segment._thread_number, self._raw)
-        self._place_kept, self._at = place, ctypes.byref(place)
 
     @property
     def key(self) -> Key:
         """Its key: its name, or what unique() or handle() gave."""
         return self._key
+
+    def _at(self, *place: Any) -> Any:
+        """The value at a key or an index, or puts one there, as zx_python_at says. None where the other calls say
+        why."""
+        segment = self._segment
+        at: Any = _no_value
+        if HAS_PYTHON:
+            owner = segment, self._raw
+            at = quick.zx_python_at(segment._handle, self._raw, self._code, segment._thread_number, owner)
+        self.__dict__["_at"] = at
+        return at(*place)
 
     def _call(self, call: Any, *arguments: Any) -> None:
         code = self._segment._code(call, self._raw, *arguments)
@@ -307,19 +309,13 @@ class _Scalars(_Elements):
     def __init__(self, segment: Segment, key: Key, code: int) -> None:
         super().__init__(segment, key, code)
         self._scalar_code = code if is_scalar(code) else code - VECTOR
-        is_quick = self._scalar_code in _QUICK
-        self._least, self._most = _quick_range(self._scalar_code, is_quick)
-        self._places = _SMALL if is_quick else 0
 
     def _get(self, place: int) -> int:
         return self._scalar(place)
 
     def __getitem__(self, index: Any) -> Any:
-        if type(index) is int and 0 <= index < self._places:
-            value = _element_at(self._at, index)
-            if value != NO_NUMBER:
-                return value
-        return super().__getitem__(index)
+        value = self._at(index)
+        return super().__getitem__(index) if value is None else value
 
     def _row(self, values: Any) -> Row:
         try:
@@ -376,11 +372,9 @@ class _Scalars(_Elements):
     def __setitem__(self, index: Any, value: Any) -> None:
         if isinstance(index, slice):
             return self._set_slice(index, value)
-        if type(index) is int and type(value) is int and 0 <= index < self._places \
-                and self._least <= value <= self._most:
-            self._segment._changes += 1
-            if not _set_at(self._at, index, value):
-                return
+        self._segment._changes += 1
+        if type(index) is int and index >= 0 and self._at(index, value):
+            return
         self._set(self._place(index), value)
 
 
@@ -505,10 +499,9 @@ class Vector(_Scalars, _List, MutableSequence[int]):
     def append(self, value: int) -> None:
         """Puts a value behind the last element. NoSpace, OutOfRange, WrongKind."""
         segment = self._segment
-        if type(value) is int and self._least <= value <= self._most and not segment._lent:
-            segment._changes += 1
-            if not _push_number(self._at, value):
-                return
+        segment._changes += 1
+        if not segment._lent and self._at(-1, value):
+            return
         self._change(zx.zx_push, self._number(value))
 
     def _extend(self, values: Any) -> None:
@@ -792,18 +785,13 @@ class Map(_Pairs, Object, MutableMapping[int, int]):
     def __init__(self, segment: Segment, key: Key, code: int) -> None:
         super().__init__(segment, key, code)
         self._key_code, self._value_code = code >> 8 & 255, code & 255
-        is_quick = self._key_code in _QUICK and self._value_code in _QUICK
-        self._least, self._most = _quick_range(self._key_code, is_quick)
-        self._least_value, self._most_value = _quick_range(self._value_code, is_quick)
 
     def __getitem__(self, key: int) -> int:
-        if type(key) is int and self._least <= key <= self._most:
-            number: int = _map_at(self._at, key)
-            if number != NO_NUMBER:
-                return number
-        value = self._get(key)
+        value: Optional[int] = self._at(key)
         if value is None:
-            raise Absent(f"the map {self._key!r} has no key {key!r}")
+            value = self._get(key)
+            if value is None:
+                raise Absent(f"the map {self._key!r} has no key {key!r}")
         return value
 
     def _get(self, key: Any) -> Optional[int]:
@@ -822,20 +810,14 @@ class Map(_Pairs, Object, MutableMapping[int, int]):
 
     def get(self, key: Any, default: Any = None) -> Any:
         """The value at a key, or `default`."""
-        if type(key) is int and self._least <= key <= self._most:
-            number = _map_at(self._at, key)
-            if number != NO_NUMBER:
-                return number
-        value = self._get(key)
+        value = self._at(key)
+        value = self._get(key) if value is None else value
         return default if value is None else value
 
     def __setitem__(self, key: int, value: int) -> None:
-        if type(key) is int and type(value) is int and self._least <= key <= self._most \
-                and self._least_value <= value <= self._most_value:
-            self._segment._changes += 1
-            if not _put_at(self._at, key, value):
-                return
-        self.put(key, value)
+        self._segment._changes += 1
+        if not self._at(key, value):
+            self.put(key, value)
 
     def __delitem__(self, key: int) -> None:
         if self._get(key) is None:

@@ -168,11 +168,22 @@ def row(code: int, values: Any, refused: Type[Error] = OutOfRange) -> Row:
         return Row(code, _memory_of(view), view.nbytes // own.size)
     # of other packages' arrays the values are those of Python
     plain = values if type(values) in (list, range) else listed(getattr(values, "tolist", lambda: values)())
+    memory = _spelled(own, code, plain)
+    if memory is not None:
+        return Row(code, memory, len(plain))
     packed = _packed(own, code, plain)
     if packed is None:
         packed = struct.pack(f"{len(plain)}{own.letter}", *[scalar(code, value, refused) for value in plain])
     memory = ctypes.create_string_buffer(packed, max(1, len(packed)))
     return Row(code, memory, len(plain))
+
+
+def _spelled(own: Scalar, code: int, plain: Any) -> Any:
+    """Memory with the values of a list that are of the very type of their kind, or None."""
+    if not _library.HAS_PYTHON or type(plain) is not list:
+        return None
+    memory = ctypes.create_string_buffer(max(1, len(plain) * own.size))
+    return memory if _library.quick.zx_python_row(plain, code, memory, len(plain)) else None
 
 
 def _packed(own: Scalar, code: int, plain: Any) -> Optional[bytes]:

@@ -1,7 +1,7 @@
 use Rattle.std.proofs.{Common.arith, lemmas.Result.err_from_is_err_and}
 use Rattle.raw_region.proofs.Laws.{added}
 use Rattle.segment_scripts.proofs.Laws.{none_failed, one_failed}
-use Rattle.segment_cli.proofs.Endings.{at_first, first, not_asked, not_written, stopped_by, whole_by, unbegun_session}
+use Rattle.segment_cli.proofs.Endings.{at_first, first, not_asked, not_written, served, unbegun_session}
 use Rattle.segment_cli.proofs.Endings.{stopped_session, done_session, unsaved_session}
 use Rattle.segment_cli.proofs.sessions.session.Goals as goal
 
@@ -12,39 +12,39 @@ returns-in_err-segment-clause-session g c =
     (not_asked (g.S.Source.history c.args.script.now)) (not_written (g.O.Sink.history c.args.out.now))
     (not_written (g.W.Sink.history c.args.image_out.now)))
 
-pub returns-in_err-ran-clause-session : goal.returns-in_err-ran-clause-session
-returns-in_err-ran-clause-session g c =
-    let p = err_from_is_err_and c.from_residual-in_err-ran.result c.from_residual-in_err-ran.ensures.1 in
-    rw (p.1, p.2) (stopped_session _ _ _ _ _ c.in_ok-segment.segment c.run-ran.new.machine c.in_err-ran.field-0.0
-    c.in_ok-segment.ensures.starts (stopped_by c.in_ok-segment.segment c.run-ran.new.machine _ _ _
-    c.run-ran.ensures.leaves _ c.in_err-ran.was) (not_written (g.W.Sink.history c.args.image_out.now)))
+pub returns-in_err-serve-clause-session : goal.returns-in_err-serve-clause-session
+returns-in_err-serve-clause-session g c =
+    let p = err_from_is_err_and c.from_residual-in_err-serve.result c.from_residual-in_err-serve.ensures.1 in
+    let why = c.in_err-serve.ensures.serves in
+    rw (p.1, p.2, why.why) (stopped_session _ _ _ _ _ c.in_ok-segment.segment c.serve.new.segment why.stop
+    c.in_ok-segment.ensures.starts (λ at there. (why.left at there).left)
+    (not_written (g.W.Sink.history c.args.image_out.now)))
 
-pub returns-in_err-ran-clause-out_grows : goal.returns-in_err-ran-clause-out_grows
-returns-in_err-ran-clause-out_grows g c =
+pub returns-in_err-serve-clause-out_grows : goal.returns-in_err-serve-clause-out_grows
+returns-in_err-serve-clause-out_grows g c =
     let begun = c.in_ok-segment.ensures.starts.answers in
-    c.run-ran.ensures.out_grows (first c.args.mode begun.from)
+    c.serve.ensures.out_grows (first c.args.mode begun.from)
     (at_first c.args.mode begun.from c.in_ok-segment.segment begun.mode begun.stands)
 
 pub returns-in-Ok-clause-session : goal.returns-in-Ok-clause-session
-returns-in-Ok-clause-session g c = done_session _ _ _ _ _ c.in_ok-segment.segment c.run-ran.new.machine tt
-    c.in_ok-segment.ensures.starts (whole_by c.in_ok-segment.segment c.run-ran.new.machine _ _ _
-    c.run-ran.ensures.leaves _ c.in_ok-ran.was) c.in-Ok.ensures.ok (λ writes. added _ _ _ (c.in-Ok.ensures.bytes
+returns-in-Ok-clause-session g c = done_session _ _ _ _ _ c.in_ok-segment.segment c.serve.new.segment tt
+    c.in_ok-segment.ensures.starts (served _ _ _ _ _ c.in_ok-serve.ensures.serves) c.in-Ok.ensures.ok (λ writes. added _ _ _ (c.in-Ok.ensures.bytes
     writes)) (none_failed _ _ (omega (arith, c.in-Ok.ensures.counted)))
 
 pub returns-in-Ok-clause-out_grows : goal.returns-in-Ok-clause-out_grows
 returns-in-Ok-clause-out_grows g c =
     let begun = c.in_ok-segment.ensures.starts.answers in
-    c.run-ran.ensures.out_grows (first c.args.mode begun.from)
+    c.serve.ensures.out_grows (first c.args.mode begun.from)
     (at_first c.args.mode begun.from c.in_ok-segment.segment begun.mode begun.stands)
 
 pub returns-clause-session : goal.returns-clause-session
 returns-clause-session g c =
-    unsaved_session _ _ _ _ _ c.in_ok-segment.segment c.run-ran.new.machine c.in_ok-segment.ensures.starts
-    (whole_by c.in_ok-segment.segment c.run-ran.new.machine _ _ _ c.run-ran.ensures.leaves _ c.in_ok-ran.was)
+    unsaved_session _ _ _ _ _ c.in_ok-segment.segment c.serve.new.segment c.in_ok-segment.ensures.starts
+    (served _ _ _ _ _ c.in_ok-serve.ensures.serves)
     c.in-Err.ensures.err.0 c.in-Err.ensures.err.1 (one_failed _ _ c.in-Err.ensures.counted)
 
 pub returns-clause-out_grows : goal.returns-clause-out_grows
 returns-clause-out_grows g c =
     let begun = c.in_ok-segment.ensures.starts.answers in
-    c.run-ran.ensures.out_grows (first c.args.mode begun.from)
+    c.serve.ensures.out_grows (first c.args.mode begun.from)
     (at_first c.args.mode begun.from c.in_ok-segment.segment begun.mode begun.stands)

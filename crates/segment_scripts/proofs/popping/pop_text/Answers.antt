@@ -4,9 +4,8 @@ use Rattle.seg_types.specs.Commands.{Pop}
 use Rattle.seg_types.specs.Names.{ByHandle}
 use Rattle.segment_manager.specs.State.{refusal_in}
 use Rattle.segment_manager.proofs.Laws.{of_kind-leads_on}
-use Rattle.segment_scripts.specs.Answer.{answer_text}
 use Rattle.segment_scripts.specs.Replies.{text_at}
-use Rattle.segment_scripts.proofs.Owed.{writes_same}
+use Rattle.segment_scripts.proofs.Refusals.{answers-same}
 use Rattle.segment_scripts.proofs.TextElements.{executes-leading, pop-text}
 use Rattle.segment_scripts.proofs.popping.pop_text.Goals as goal
 
@@ -17,9 +16,9 @@ returns-clause-executed g c =
     executes-leading s c.texts_pop.new.self (Pop key) c.texts_pop.result
     (of_kind-leads_on s c.texts_pop.new.self key Strings (Pop key) (refusal_in c.texts_pop.result) c.requires.of_kind.is c.texts_pop.ensures.step) c.texts_pop.ensures.refused
 
-pub returns-clause-writes : goal.returns-clause-writes
-returns-clause-writes g c =
+pub returns-clause-answers : goal.returns-clause-answers
+returns-clause-answers g c =
     let s = c.args.segment.now in
     let key = ByHandle c.args.object.handle in
-    writes_same c.put_text_at-written.ensures
-    (λ d st. ap (λ i. answer_text (text_at d key i)) c.saturating_sub-last.ensures ∙ ap answer_text (pop-text s key c.requires.of_kind.is c.length_of.result c.requires.of_kind.writing c.length_of.ensures d st))
+    answers-same c.put_text_at-written.ensures
+    (λ d st. ap (λ i. text_at d key i) c.saturating_sub-last.ensures ∙ pop-text s key c.requires.of_kind.is c.length_of.result c.requires.of_kind.writing c.length_of.ensures d st)

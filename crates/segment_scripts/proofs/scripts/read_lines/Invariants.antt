@@ -1,7 +1,8 @@
 use Rattle.std.proofs.Common.{◌≡◌, ◌+◌, length, drop}
 use Rattle.raw_region.specs.Device.{Grows}
 use Rattle.segment_scripts.specs.Lines.{script_limit}
-use Rattle.segment_scripts.specs.Behind.{IsBehind}
+use Rattle.segment_scripts.specs.Behind.{IsOn}
+use Rattle.segment_scripts.specs.Stopping.{stops_at}
 use Rattle.segment_scripts.proofs.scripts.read_lines.Given as goal
 
 abbrev pub invariant-pieces : goal.invariant-pieces
@@ -14,7 +15,7 @@ invariant-pieces g l =
       limit : length (drop (length old) new) + l.left ≡ script_limit;
       passed : length new + l.left ≡ length old + script_limit;
       behind : (start : g.M.Machine.Place) → g.M.Machine.stands l.initial.machine start
-          → IsBehind g.M.Machine.respond start (g.W.Sink.history l.initial.out).bytes (drop (length old) new) (g.M.Machine.stands l.machine) l.line (g.W.Sink.history l.out).bytes;
+          → IsOn g.M.Machine.respond (stops_at l.until g.M.Machine.refuses) start (g.W.Sink.history l.initial.out).bytes (drop (length old) new) (g.M.Machine.stands l.machine) l.line (g.W.Sink.history l.out).bytes;
       ends : (g.S.Source.history l.script).ends ≡ (g.S.Source.history l.initial.script).ends;
       reads : (g.S.Source.history l.script).failures ≡ (g.S.Source.history l.initial.script).failures;
       writes : (g.W.Sink.history l.out).failures ≡ (g.W.Sink.history l.initial.out).failures;

@@ -22,7 +22,7 @@ returns-in-Get g c =
 pub returns-in-Pop : goal.returns-in-Pop
 returns-in-Pop g c =
     responds-popped (key_seen c.in-Pop.key)
-    (ap Asked (sym (ap command_of c.in-Pop.is)) ∙ ap as_reading c.in-Some.ensures) c.pop.ensures.executed c.pop.ensures.writes
+    (ap Asked (sym (ap command_of c.in-Pop.is)) ∙ ap as_reading c.in-Some.ensures) c.pop.ensures.executed c.pop.ensures.answers
 
 pub returns-in_default : goal.returns-in_default
 returns-in_default g c =
@@ -30,4 +30,4 @@ returns-in_default g c =
 
 pub returns-in-None : goal.returns-in-None
 returns-in-None g c =
-    responds-wrong c.args.segment.now BadSyntax (ap as_reading c.in-None.ensures) c.put_wrong.ensures
+    responds-wrong c.args.segment.now BadSyntax (ap as_reading c.in-None.ensures) c.put_wrong.ensures.writes c.put_wrong.ensures.tells

@@ -15,4 +15,4 @@ returns-in-Some g c =
 
 pub returns-in-None : goal.returns-in-None
 returns-in-None g c =
-    responds-wrong c.args.segment.now BadSyntax (ap as_reading (c.in-None.ensures Get ∙ sym (of_key_number Get c.args.rest.now))) c.put_wrong.ensures
+    responds-wrong c.args.segment.now BadSyntax (ap as_reading (c.in-None.ensures Get ∙ sym (of_key_number Get c.args.rest.now))) c.put_wrong.ensures.writes c.put_wrong.ensures.tells

@@ -16,4 +16,4 @@ returns-in-Some g c =
 
 pub returns-in-None : goal.returns-in-None
 returns-in-None g c =
-    responds-wrong c.args.segment.now BadSyntax (ap as_reading (c.in-None.ensures ∙ sym (of_putting c.args.rest.now))) c.put_wrong.ensures
+    responds-wrong c.args.segment.now BadSyntax (ap as_reading (c.in-None.ensures ∙ sym (of_putting c.args.rest.now))) c.put_wrong.ensures.writes c.put_wrong.ensures.tells

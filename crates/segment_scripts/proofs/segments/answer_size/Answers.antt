@@ -3,15 +3,17 @@ use Rattle.seg_types.specs.declared.refusals.LineError.TheVariants.{BadSyntax}
 use Rattle.seg_types.specs.Commands.{Size}
 use Rattle.segment_lang.specs.Reading.{as_reading}
 use Rattle.segment_lang.proofs.Laws.{alone_at_end}
+use Rattle.segment_scripts.proofs.Refusals.{tells-once, writes-once}
 use Rattle.segment_scripts.proofs.WrongLines.{responds-wrong}
 use Rattle.segment_scripts.proofs.Zeros.{responds-number}
 use Rattle.segment_scripts.proofs.segments.answer_size.Goals as goal
 
 pub returns-then-not-is_alone : goal.returns-then-not-is_alone
 returns-then-not-is_alone g c =
-    responds-wrong c.args.segment.now BadSyntax (sym (ap as_reading (alone_at_end Size c.args.rest.now ∙ ap (λ (b : Bool). cond b (Some Size) None) (sym c.is_alone.ensures ∙ c.if-not-is_alone.true)))) c.put_wrong.ensures
+    responds-wrong c.args.segment.now BadSyntax (sym (ap as_reading (alone_at_end Size c.args.rest.now ∙ ap (λ (b : Bool). cond b (Some Size) None) (sym c.is_alone.ensures ∙ c.if-not-is_alone.true)))) c.put_wrong.ensures.writes c.put_wrong.ensures.tells
 
 pub returns : goal.returns
 returns g c =
     responds-number c.args.segment.now Size refl
-    (sym (ap as_reading (alone_at_end Size c.args.rest.now ∙ ap (λ (b : Bool). cond b (Some Size) None) (sym c.is_alone.ensures ∙ c.if-not-is_alone.false)))) c.size.ensures c.put_number_line.ensures
+    (sym (ap as_reading (alone_at_end Size c.args.rest.now ∙ ap (λ (b : Bool). cond b (Some Size) None) (sym c.is_alone.ensures ∙ c.if-not-is_alone.false)))) c.size.ensures
+    (writes-once c.once.ensures c.put_number_line.ensures) (tells-once c.once.ensures)

@@ -1,21 +1,20 @@
 use Rattle.std.proofs.Common.{ap, sym}
 use Rattle.seg_types.specs.Keys.{key_seen}
 use Rattle.segment_manager.proofs.Laws.{same-object}
-use Rattle.segment_scripts.specs.Answer.{answer_text}
 use Rattle.segment_scripts.specs.Replies.{told_of}
 use Rattle.segment_scripts.proofs.ListedObjects.{told-missing}
-use Rattle.segment_scripts.proofs.Owed.{writes_owed, writes_same}
+use Rattle.segment_scripts.proofs.Refusals.{answers-owed, answers-same}
 use Rattle.segment_scripts.proofs.telling.put_told.Goals as goal
 
 pub returns-in-Ok : goal.returns-in-Ok
 returns-in-Ok g c =
     let s = c.args.segment.now in
     let key = key_seen c.args.key.now in
-    writes_same c.put_object.ensures
-    (λ d k. ap (λ r. answer_text (told_of r)) (sym (same-object s key c.in-Ok.object c.in-Ok.ensures d k)))
+    answers-same c.put_object.ensures
+    (λ d k. ap told_of (sym (same-object s key c.in-Ok.object c.in-Ok.ensures d k)))
 
 pub returns-in-Err : goal.returns-in-Err
 returns-in-Err g c =
     let s = c.args.segment.now in
     let key = key_seen c.args.key.now in
-    writes_owed c.put_refusal_line.ensures (told-missing s key c.in-Err.why c.in-Err.ensures)
+    answers-owed c.put_refusal_line.ensures.writes c.put_refusal_line.ensures.tells (told-missing s key c.in-Err.why c.in-Err.ensures)

@@ -12,30 +12,30 @@ answer_form-requires-clause-meant g c = λ command e. asked-meant command c.args
 
 pub returns-in-Wrong : goal.returns-in-Wrong
 returns-in-Wrong g c =
-    let r = responds-wrong c.args.self.now c.in-Wrong.error c.in-Wrong.ensures c.put_wrong.ensures in
-    record { leads = r.leads; writes = r.writes }
+    let r = responds-wrong c.args.self.now c.in-Wrong.error c.in-Wrong.ensures c.put_wrong.ensures.writes c.put_wrong.ensures.tells in
+    record { leads = r.leads; writes = r.writes; tells = r.tells }
 
 pub returns-in-Size : goal.returns-in-Size
 returns-in-Size g c =
     let r = responds-form c.in-Form.rest.now c.in-Size.is c.in-Form.ensures c.answer_size.ensures in
-    record { leads = r.leads; writes = r.writes }
+    record { leads = r.leads; writes = r.writes; tells = r.tells }
 
 pub returns-in-Get : goal.returns-in-Get
 returns-in-Get g c =
     let r = responds-form c.in-Form.rest.now c.in-Get.is c.in-Form.ensures c.answer_get.ensures in
-    record { leads = r.leads; writes = r.writes }
+    record { leads = r.leads; writes = r.writes; tells = r.tells }
 
 pub returns-in-Push : goal.returns-in-Push
 returns-in-Push g c =
     let r = responds-form c.in-Form.rest.now c.in-Push.is c.in-Form.ensures c.answer_push.ensures in
-    record { leads = r.leads; writes = r.writes }
+    record { leads = r.leads; writes = r.writes; tells = r.tells }
 
 pub returns-in-Put : goal.returns-in-Put
 returns-in-Put g c =
     let r = responds-form c.in-Form.rest.now c.in-Put.is c.in-Form.ensures c.answer_put.ensures in
-    record { leads = r.leads; writes = r.writes }
+    record { leads = r.leads; writes = r.writes; tells = r.tells }
 
 pub returns-in_default : goal.returns-in_default
 returns-in_default g c =
     let r = responds-form c.in-Form.rest.now refl c.in-Form.ensures c.answer_form.ensures in
-    record { leads = r.leads; writes = r.writes }
+    record { leads = r.leads; writes = r.writes; tells = r.tells }

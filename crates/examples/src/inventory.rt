@@ -1,0 +1,173 @@
+//! An inventory: articles as records, prices in a map, names as texts, suppliers as a group. Each run sells an apple.
+//! C, C++ and Python have the same in `crates/segment_c/c/examples`: each goes on with what another has saved.
+use anyhow::Result;
+use std::alloc::Global;
+use zaluxhoni::{Disk, Segment, SegmentFile, VectorView, named};
+
+/// What is kept of an article, as the bytes of a struct of C.
+#[derive(Clone, Copy)]
+struct Article {
+    number: i32,
+    count: i32,
+    weight: f64,
+}
+
+impl Article {
+    /// So many of an article, of so many kilograms each.
+    fn new(number: i32, count: i32, weight: f64) -> Article {
+        Article {
+            number,
+            count,
+            weight,
+        }
+    }
+
+    /// The bytes of an article.
+    fn to_bytes(self) -> [u8; 16] {
+        let [a, b, c, d] = self.number.to_le_bytes();
+        let [e, f, g, h] = self.count.to_le_bytes();
+        let [i, j, k, l, m, n, o, p] = self.weight.to_le_bytes();
+        [a, b, c, d, e, f, g, h, i, j, k, l, m, n, o, p]
+    }
+
+    /// The article that bytes spell.
+    fn of_bytes(bytes: [u8; 16]) -> Article {
+        let [a, b, c, d, e, f, g, h, i, j, k, l, m, n, o, p] = bytes;
+        Article::new(
+            i32::from_le_bytes([a, b, c, d]),
+            i32::from_le_bytes([e, f, g, h]),
+            f64::from_le_bytes([i, j, k, l, m, n, o, p]),
+        )
+    }
+}
+
+/// Keeps the name of an article.
+fn note_name(alloc: Global, shop: &mut Segment, number: i32, name: &str) -> Result<()> {
+    let key = format!(in alloc; "names/{number}")?;
+    shop.construct_string(&named(key.as_str())?, name.as_bytes())?;
+    Ok(())
+}
+
+/// Puts an article behind those that a supplier sells.
+fn note_supplier(alloc: Global, shop: &mut Segment, number: i32, supplier: &str) -> Result<()> {
+    let text = format!(in alloc; "suppliers/{supplier}")?;
+    let key = named(text.as_str())?;
+    shop.find_or_construct_vec::<i32, _>(&key, &[])?;
+    Ok(shop.vec_push(&key, number)?)
+}
+
+/// Puts an article into the inventory, with its name, its price and its supplier.
+fn add(
+    alloc: Global,
+    shop: &mut Segment,
+    article: Article,
+    name: &str,
+    price: i64,
+    supplier: &str,
+) -> Result<()> {
+    VectorView::<u8>::of(shop, &named("articles")?)?.extend(&article.to_bytes())?;
+    shop.map_put(&named("prices")?, article.number, price)?;
+    note_name(alloc, shop, article.number, name)?;
+    note_supplier(alloc, shop, article.number, supplier)
+}
+
+/// Puts the first three articles into the inventory.
+fn fill(alloc: Global, shop: &mut Segment) -> Result<()> {
+    shop.construct_vec::<u8, _>(&named("articles")?, &[])?;
+    shop.construct_map::<i32, i64, _>(&named("prices")?)?;
+    shop.construct(&named("earned")?, 1, 0i64)?;
+    let (apples, pears) = (Article::new(1, 10, 0.25), Article::new(2, 4, 0.5));
+    let figs = Article::new(3, 7, 0.125);
+    add(alloc, shop, apples, "apples", 250, "north")?;
+    add(alloc, shop, pears, "pears", 320, "south")?;
+    add(alloc, shop, figs, "figs", 1999, "north")
+}
+
+/// Sells one of the first article, while there are any: its count and what was earned change.
+fn sell(shop: &mut Segment) -> Result<()> {
+    let (articles, earned) = (named("articles")?, named("earned")?);
+    let mut bytes = [0u8; 16];
+    VectorView::<u8>::of(shop, &articles)?.copy_to(&mut bytes)?;
+    let mut sold = Article::of_bytes(bytes);
+    if sold.count <= 0 {
+        return Ok(());
+    }
+    sold.count -= 1;
+    for (place, byte) in (0u64..).zip(sold.to_bytes()) {
+        shop.vec_set(&articles, place, byte)?;
+    }
+    let price: Option<i64> = shop.map_get(&named("prices")?, sold.number)?;
+    let sum: i64 = shop.get(&earned, 0)?;
+    Ok(shop.set(&earned, 0, sum.saturating_add(price.unwrap_or(0)))?)
+}
+
+/// Tells of one article.
+fn tell_of(rt: &HostRuntime, shop: &Segment, article: Article) -> Result<()> {
+    let Article {
+        number,
+        count,
+        weight,
+    } = article;
+    let called = format!(in rt.alloc(); "names/{number}")?;
+    let name = str::from_utf8(shop.string_bytes(&named(called.as_str())?)?)?;
+    let price: Option<i64> = shop.map_get(&named("prices")?, number)?;
+    let price = price.unwrap_or(0);
+    println!(rt; "{number} {name}: {count} of {weight} kg at {price}")?;
+    Ok(())
+}
+
+/// Tells of all articles.
+fn tell_of_articles(rt: &HostRuntime, shop: &Segment) -> Result<()> {
+    let articles = named("articles")?;
+    for first in (0..shop.vec_len::<u8, _>(&articles)?).step_by(16) {
+        let mut bytes = [0u8; 16];
+        for (byte, place) in bytes.iter_mut().zip(first..) {
+            *byte = shop.vec_get(&articles, place)?;
+        }
+        tell_of(rt, shop, Article::of_bytes(bytes))?;
+    }
+    Ok(())
+}
+
+/// Tells what each supplier sells.
+fn tell_of_suppliers(rt: &HostRuntime, shop: &Segment) -> Result<()> {
+    for name in shop.names_from(b"suppliers/") {
+        let name = str::from_utf8(name)?;
+        let Some(supplier) = name.strip_prefix("suppliers/") else {
+            break;
+        };
+        print!(rt; "{supplier} sells")?;
+        let seller = named(name)?;
+        for place in 0..shop.vec_len::<i32, _>(&seller)? {
+            let number: i32 = shop.vec_get(&seller, place)?;
+            print!(rt; " {number}")?;
+        }
+        println!(rt; "")?;
+    }
+    Ok(())
+}
+
+/// Tells of all articles and suppliers, and of what was earned.
+fn tell(rt: &HostRuntime, shop: &Segment) -> Result<()> {
+    tell_of_articles(rt, shop)?;
+    tell_of_suppliers(rt, shop)?;
+    let earned: i64 = shop.get(&named("earned")?, 0)?;
+    println!(rt; "earned {earned}")?;
+    Ok(())
+}
+
+/// Sells an apple of an inventory, which is filled where it is new, saves it, and tells what it has.
+fn trade(rt: &HostRuntime, disk: &mut impl Disk, file: &mut SegmentFile) -> Result<()> {
+    if file.segment.num_named() == 0 {
+        fill(rt.alloc(), &mut file.segment)?;
+    }
+    sell(&mut file.segment)?;
+    file.replace(disk)?;
+    tell(rt, &file.segment)
+}
+
+/// Opens the inventory or makes it, and sells an apple.
+pub fn keep_an_inventory(rt: &HostRuntime, disk: &mut impl Disk, path: &str) -> Result<()> {
+    let mut file = SegmentFile::open_or_create(rt.alloc(), disk, path, 65536)?;
+    trade(rt, disk, &mut file)
+}

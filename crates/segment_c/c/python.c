@@ -1,0 +1,190 @@
+/* The calls of zaluxhoni_rows.h for the package for Python. They are of CPython's stable functions, which are there
+   where Python loaded the library: elsewhere their addresses are null, and nothing here asks for them. */
+#include "zaluxhoni_rows.h"
+
+#include <stdlib.h>
+
+#define PYTHON extern __attribute__((weak))
+
+/* How CPython is told of a function (PyMethodDef). */
+struct method {
+    const char *name;
+    void *(*call)(void *self, void *const *passed, intptr_t count);
+    int flags;
+    const char *words;
+};
+
+PYTHON char PyLong_Type[], PyBool_Type[], _Py_NoneStruct[], _Py_TrueStruct[];
+PYTHON void Py_IncRef(void *object);
+PYTHON void Py_DecRef(void *object);
+PYTHON void *PyBool_FromLong(long truth);
+PYTHON void *PyLong_FromLongLong(long long number);
+PYTHON void *PyLong_FromUnsignedLongLong(unsigned long long natural);
+PYTHON long long PyLong_AsLongLongAndOverflow(void *object, int *overflow);
+PYTHON unsigned long long PyLong_AsUnsignedLongLong(void *object);
+PYTHON void *PyList_GetItem(void *list, intptr_t index);
+PYTHON void *PyErr_Occurred(void);
+PYTHON void PyErr_Clear(void);
+PYTHON void *PyErr_NoMemory(void);
+PYTHON void *PyCapsule_New(void *at, const char *name, void (*end)(void *capsule));
+PYTHON void *PyCapsule_GetPointer(void *capsule, const char *name);
+PYTHON void *PyCFunction_NewEx(struct method *method, void *self, void *module);
+
+/* ---- numbers and truths */
+
+/* Whether the type of an object, which is its second word, is this one. */
+static bool is_of(void *object, const char *type) { return ((char *const *)object)[1] == type; }
+
+/* Whether there is a CPython, and objects lie in memory so: those of one without a lock of its own do not. */
+static bool is_there(void) {
+    void *number = PyLong_FromLongLong ? PyLong_FromLongLong(7) : NULL;
+    bool is_so = number && is_of(number, PyLong_Type);
+    if (number) Py_DecRef(number);
+    return is_so;
+}
+
+static bool natural_in(void *object, zx_value *value) {
+    unsigned long long natural = PyLong_AsUnsignedLongLong(object);
+    *value = zx_u64(natural);
+    if (natural != (unsigned long long)-1 || !PyErr_Occurred()) return true;
+    PyErr_Clear();
+    return false;
+}
+
+/* The value that an object is, if it is one of the kind. */
+static bool value_in(void *object, uint32_t kind, zx_value *value) {
+    int overflow = 0;
+    if (kind == ZX_BOOL) {
+        *value = zx_bool(object == _Py_TrueStruct);
+        return is_of(object, PyBool_Type);
+    }
+    if (!is_of(object, PyLong_Type)) return false;
+    if (kind == ZX_U64) return natural_in(object, value);
+    long long number = PyLong_AsLongLongAndOverflow(object, &overflow);
+    if (kind == ZX_U8) {
+        *value = zx_u8((uint8_t)number);
+        return !overflow && 0 <= number && number <= UINT8_MAX;
+    }
+    *value = zx_number(kind, number);
+    return !overflow && (kind == ZX_I64 || (kind == ZX_I32 && INT32_MIN <= number && number <= INT32_MAX));
+}
+
+static void *object_of(const zx_value *value) {
+    switch (value->kind) {
+    case ZX_BOOL: return PyBool_FromLong((long)value->natural);
+    case ZX_I32:
+    case ZX_I64: return PyLong_FromLongLong(value->number);
+    default: return PyLong_FromUnsignedLongLong(value->natural);
+    }
+}
+
+/* A row of ZX_I64, of which programs have most: half as many instructions for an element as the one below. */
+static bool numbers_of(void *list, int64_t *row, size_t count) {
+    int overflow;
+    for (size_t i = 0; i < count; i++) {
+        void *object = PyList_GetItem(list, (intptr_t)i);
+        if (!object || !is_of(object, PyLong_Type)) return false;
+        row[i] = PyLong_AsLongLongAndOverflow(object, &overflow);
+        if (overflow) return false;
+    }
+    return true;
+}
+
+static bool values_of(void *list, uint32_t kind, void *row, size_t count) {
+    zx_value value;
+    for (size_t i = 0; i < count; i++) {
+        void *object = PyList_GetItem(list, (intptr_t)i);
+        if (!object || !value_in(object, kind, &value)) return false;
+        switch (kind) {
+        case ZX_BOOL: ((bool *)row)[i] = value.natural != 0; break;
+        case ZX_U8: ((uint8_t *)row)[i] = (uint8_t)value.natural; break;
+        case ZX_I32: ((int32_t *)row)[i] = (int32_t)value.number; break;
+        default: ((uint64_t *)row)[i] = value.natural;
+        }
+    }
+    return true;
+}
+
+bool zx_python_row(void *list, uint32_t kind, void *row, size_t count) {
+    if (!is_there()) return false;
+    bool is_row = kind == ZX_I64 ? numbers_of(list, row, count) : values_of(list, kind, row, count);
+    if (!is_row) PyErr_Clear();
+    return is_row;
+}
+
+/* ---- functions */
+
+static const char IS_PLACE[] = "zaluxhoni.place";
+
+/* What a function is over. */
+struct place {
+    zx_segment *segment;
+    uint64_t thread;
+    zx_key key;
+    uint32_t kind;
+    void *owner;
+};
+
+static void end(void *capsule) {
+    struct place *place = PyCapsule_GetPointer(capsule, IS_PLACE);
+    Py_DecRef(place->owner);
+    free(place);
+}
+
+static void *shared(char *object) {
+    Py_IncRef(object);
+    return object;
+}
+
+static void *answered(zx_code code) { return shared(code == ZX_DONE ? _Py_TrueStruct : _Py_NoneStruct); }
+
+static void *value_or_none(zx_code code, const zx_value *value) {
+    return code == ZX_DONE ? object_of(value) : shared(_Py_NoneStruct);
+}
+
+static void *at_key(const struct place *place, void *const *passed, bool is_put) {
+    zx_value key, value;
+    bool is_new;
+    if (!value_in(passed[0], place->kind >> 8 & 255, &key)) return shared(_Py_NoneStruct);
+    if (!is_put) return value_or_none(zx_map_get(place->segment, &place->key, &key, &value), &value);
+    if (!value_in(passed[1], place->kind & 255, &value)) return shared(_Py_NoneStruct);
+    return answered(zx_map_put(place->segment, &place->key, &key, &value, &is_new));
+}
+
+static void *at_index(const struct place *place, void *const *passed, bool is_put) {
+    zx_value index, value;
+    if (!value_in(passed[0], ZX_I64, &index) || index.number < (is_put ? -1 : 0)) return shared(_Py_NoneStruct);
+    uint64_t at = (uint64_t)index.number;
+    if (!is_put) return value_or_none(zx_get(place->segment, &place->key, at, &value), &value);
+    uint32_t kind = place->kind == ZX_STRING ? (uint32_t)ZX_U8 : place->kind & 255;
+    if (!value_in(passed[1], kind, &value)) return shared(_Py_NoneStruct);
+    return answered(index.number < 0 ? zx_push(place->segment, &place->key, &value)
+                                     : zx_set(place->segment, &place->key, at, &value));
+}
+
+static void *at(void *self, void *const *passed, intptr_t count) {
+    const struct place *place = PyCapsule_GetPointer(self, IS_PLACE);
+    if (!place) return NULL;
+    bool is_here = !place->thread || place->thread == zx_thread();
+    if (!is_here || count < 1 || count > 2) return shared(_Py_NoneStruct);
+    bool is_map = place->kind >= ZX_MAP(0, 0) && place->kind < ZX_STRINGS;
+    return (is_map ? at_key : at_index)(place, passed, count == 2);
+}
+
+void *zx_python_at(zx_segment *segment, const zx_key *key, uint32_t kind, uint64_t thread, void *owner) {
+    // METH_FASTCALL
+    static struct method method = { "at", at, 0x80, "A value at a key or an index; or puts one there." };
+    if (!is_there()) return NULL;
+    struct place *place = malloc(sizeof *place);
+    if (!place) return PyErr_NoMemory();
+    *place = (struct place){ segment, thread, *key, kind, owner };
+    void *capsule = PyCapsule_New(place, IS_PLACE, end);
+    if (!capsule) {
+        free(place);
+        return NULL;
+    }
+    Py_IncRef(owner);
+    void *function = PyCFunction_NewEx(&method, capsule, NULL);
+    Py_DecRef(capsule);
+    return function;
+}

@@ -1,0 +1,63 @@
+//! The names of a segment that begin with a text.
+ghost use Rattle.std.specs.Prelude.{◌≡◌, ◌-◌, ◌^◌, ◌<◌, IfOk};
+ghost use Rattle.raw_region.specs.Device.{Writes};
+ghost use Rattle.segment_report.specs.Names.{begins_with, left_behind, listed_line, name_line, names_text};
+ghost use Rattle.segment_report.specs.Telling.{Tells};
+
+use raw_region::{DeviceFault, Sink};
+use segment_lang::{Piece, put_pieces};
+use segment_manager::Segment;
+
+/// Writes the names that begin with a text, in the order of their bytes and a line each, at most so many. A name stands
+/// there as in a script.
+///
+/// It answers `DeviceFault` where the writer failed: what went out is then shorter than the text, and the text begins
+/// with it.
+pub fn put_names<W: Sink>(
+    segment: &Segment,
+    prefix: &[u8],
+    most: u64,
+    out: &mut W,
+) -> Result<(), DeviceFault>
+    requires { (W.history out.old).failures < 2 ^ 64 - 1 }
+    ensures { Tells segment.now (W.history out.old) (W.history out.new) result (names_text prefix.now most) }
+{
+    let mut left = most;
+    'names: for name in segment.names() {
+        left = put_listed(out, name, prefix, left)?;
+    }
+    Ok(())
+}
+
+/// Writes a name that begins with the text, where so many more are to be written, and answers how many more are then.
+fn put_listed<W: Sink>(
+    out: &mut W,
+    name: &[u8],
+    prefix: &[u8],
+    left: u64,
+) -> Result<u64, DeviceFault>
+    requires { (W.history out.old).failures < 2 ^ 64 - 1 }
+    ensures left { IfOk result (λ n. n ≡ left_behind prefix.now left name.now) }
+    ensures writes { Writes (W.history out.old) (W.history out.new) result (listed_line prefix.now left name.now) }
+{
+    if left == 0 || !begins_with(name, prefix) {
+        return Ok(left);
+    }
+    put_name(out, name)?;
+    Ok(left - 1)
+}
+
+/// Whether a name begins with a text.
+fn begins_with(name: &[u8], prefix: &[u8]) -> bool
+    ensures { result ≡ begins_with name.now prefix.now }
+{
+    name.starts_with(prefix)
+}
+
+/// Writes a name, and the end of its line.
+fn put_name<W: Sink>(out: &mut W, name: &[u8]) -> Result<(), DeviceFault>
+    requires { (W.history out.old).failures < 2 ^ 64 - 1 }
+    ensures { Writes (W.history out.old) (W.history out.new) result (name_line name.now) }
+{
+    put_pieces(out, &[Piece::Name(name), Piece::Bytes(b"\n")])
+}

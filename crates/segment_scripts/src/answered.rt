@@ -1,0 +1,26 @@
+//! What became of a line.
+ghost use Rattle.std.specs.Prelude.{◌≡◌};
+ghost use Rattle.segment_scripts.specs.Refusing.{once};
+
+use raw_region::DeviceFault;
+
+/// What became of a line that was answered.
+#[derive(Clone, Copy, Debug, PartialEq, Eq)]
+pub enum Answered {
+    /// It was executed, or there was nothing to do.
+    Done,
+    /// It was refused: it is no command, or what it asks for was not done.
+    Refused,
+}
+
+impl Answered {
+    /// This, once the answer was written.
+    pub(crate) fn once(self, written: Result<(), DeviceFault>) -> Result<Answered, DeviceFault>
+        ensures { result ≡ once self written }
+    {
+        match written {
+            Ok(()) => Ok(self),
+            Err(fault) => Err(fault),
+        }
+    }
+}

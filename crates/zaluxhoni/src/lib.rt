@@ -28,7 +28,7 @@ pub use grow_shrink::{GrowError, grow, shrink_to_fit};
 pub use image_check::{
 pub use image_check::{
     ExamineError, ExamineRefused, ImageClass, MemoryFault, NoMemory, OpenError, OpenRefused,
-    Verdict, examine, examine_bytes, open, open_any, open_bytes, verify,
+    Verdict, Versions, examine, examine_bytes, open, open_any, open_bytes, verify,
 };
 };
 pub use naming::named;

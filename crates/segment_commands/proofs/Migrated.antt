@@ -78,9 +78,9 @@ module _ (new : Gave) (said : ℕ) (s : Says (format_of new.bytes) new.bytes sai
   not-whole (Fault fault) t =
       let open_yet = undecided (format_of new.bytes) new.bytes said s t.few in
       elim t.how [
-        inl r ↦ as_fault fault ReadFault r.0 (refused NotRead
-        (record { failed = lt-ltb 0 new.failures r.1; open_class = λ c d. (all_decided (format_of new.bytes) new.bytes).none open_yet c (decides-class new.bytes s.long c d) }))
-      | inr m ↦ as_fault fault OutOfMemory m.0 (inl (record { unread = inr (record { sound = sound m.1; undecided = open_yet }); refused = refl }))
+        | inl r ↦ as_fault fault ReadFault r.0 (refused NotRead
+            (record { failed = lt-ltb 0 new.failures r.1; open_class = λ c d. (all_decided (format_of new.bytes) new.bytes).none open_yet c (decides-class new.bytes s.long c d) }))
+        | inr m ↦ as_fault fault OutOfMemory m.0 (inl (record { unread = inr (record { sound = sound m.1; undecided = open_yet }); refused = refl }))
       ]
 
 -- ---- behind an image for which there was no room

@@ -8,7 +8,7 @@ use Rattle.segment_manager.proofs.containers.TextsHeld.{HoldsTexts, holds-texts}
 use Rattle.segment_manager.proofs.containers.PairNumbers.{IsScalarOf, erases-numbers, puts-numbers}
 use Rattle.segment_manager.proofs.containers.MapCalls.{HoldsPairs, holds-pairs}
 use Rattle.segment_manager.proofs.containers.ToChange.{seen-found}
-use Rattle.segment_manager.proofs.{Common.Puts, Common.refl}
+use Rattle.segment_manager.proofs.{Common.Puts}
 use Rattle.segment_manager.specs.{containers.Stored.ChangesTexts, Keeping.ChangesValue, Keeping.LacksPair}
 
 -- the window is as it was, and so is the segment
@@ -86,7 +86,3 @@ map-again {k = k} {v = v} {kw = kw} kl vl s t view key p q same found new x y r 
     ∙ ap pairs_of h.known.value in
     (pair-written _ _ (pair_at int_lt h.pairs (kw x)) pair (sym (ap (λ ps. pair_at int_lt ps (kw x)) pairs) ∙ has)
     (puts-numbers kl vl s.cut new q.handle q.at x y r each h.pairs h.map)).1.change.rest)
-
--- where nothing changes
-pub same-again : (s : State) (key : Key) (k : ScalarKind) (x : ℤ) (v : ScalarKind) → ChangesValue s s key k x v
-same-again s key k x v d l p has = record { at = λ j f. refl }

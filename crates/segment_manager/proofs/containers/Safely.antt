@@ -95,9 +95,9 @@ kept-gaps {s = s} view {new} (Err e) m f g = subst (λ (u : State). KeepsGaps u.
     (subst (KeepsGaps s.cut) (sym (g e m)) (gaps-refl s.cut))
 
 -- the same blocks are in use, as the view names the segment
-pub same-live : {s t : State} (view : s ≡ t) {new : Cut} → live_of new.bytes ≡ live_of t.cut.bytes
+pub same-live : {s t : State} (view : s ≡ t) (new : Cut) → live_of new.bytes ≡ live_of t.cut.bytes
     → live_of new.bytes ≡ live_of s.cut.bytes
-same-live view e = e ∙ sym (ap (λ (u : State). live_of u.cut.bytes) view)
+same-live view new e = e ∙ sym (ap (λ (u : State). live_of u.cut.bytes) view)
 
 -- ---- the search
 

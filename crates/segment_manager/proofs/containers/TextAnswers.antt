@@ -157,12 +157,12 @@ module _ {s t : State} (view : s ≡ t) (b : IsSegment s.cut.bytes) {key : Key} 
   pub append-gaps : (more : List ℕ) (r : Result (Unit {0}) Refusal) → AppendsText s.cut new p more r
       → live_of new.bytes ≡ live_of t.cut.bytes → KeepsGaps t.cut new
   append-gaps more r a e = kept-gaps view r (a here-texts.items here-texts.table here-texts.stands)
-      (λ u g. grown-gaps g (same-live view e)) (λ e m. m.same)
+      (λ u g. grown-gaps g (same-live view new e)) (λ e m. m.same)
 
   pub assign_text-gaps : (more : List ℕ) (r : Result (Unit {0}) Refusal) → AssignsText s.cut new p more r
       → live_of new.bytes ≡ live_of t.cut.bytes → KeepsGaps t.cut new
   assign_text-gaps more r a e = kept-gaps view r (a here-texts.items here-texts.table here-texts.stands)
-      (λ u g. grown-gaps g (same-live view e)) (λ e m. m.same)
+      (λ u g. grown-gaps g (same-live view new e)) (λ e m. m.same)
 
   -- ---- the steps
 

@@ -115,18 +115,18 @@ module _ {T : Type 0} {k : ScalarKind} {w : T → ℤ} {size : ℕ} {test : T �
 
     pub push-gaps : {new : Cut} (x : T) (r : Result (Unit {0}) Refusal) → Pushes size test sp s.cut new p x r
         → live_of new.bytes ≡ live_of t.cut.bytes → KeepsGaps t.cut new
-    push-gaps x r a e = kept-gaps view r (a some.items some.table (vector b.0 some))
-        (λ u g. grown-gaps g (same-live view e)) (λ e m. m.same)
+    push-gaps {new} x r a e = kept-gaps view r (a some.items some.table (vector b.0 some))
+        (λ u g. grown-gaps g (same-live view new e)) (λ e m. m.same)
 
     pub insert-gaps : {new : Cut} (i : ℕ) (x : T) (r : Result (Unit {0}) Refusal) → InsertsInto size test sp s.cut new p
         i x r → live_of new.bytes ≡ live_of t.cut.bytes → KeepsGaps t.cut new
-    insert-gaps i x r a e = kept-gaps view r (a some.items some.table (vector b.0 some))
-        (λ u g. grown-gaps g.1 (same-live view e)) (λ e m. elim m [ inl o ↦ o.same | inr o ↦ o.1.same ])
+    insert-gaps {new} i x r a e = kept-gaps view r (a some.items some.table (vector b.0 some))
+        (λ u g. grown-gaps g.1 (same-live view new e)) (λ e m. elim m [ inl o ↦ o.same | inr o ↦ o.1.same ])
 
     pub assign-gaps : {new : Cut} (ys : List T) (r : Result (Unit {0}) Refusal) → Assigns size test sp s.cut new p ys r
         → live_of new.bytes ≡ live_of t.cut.bytes → KeepsGaps t.cut new
-    assign-gaps ys r a e = kept-gaps view r (a some.items some.table (vector b.0 some))
-        (λ u g. grown-gaps g (same-live view e)) (λ e m. m.same)
+    assign-gaps {new} ys r a e = kept-gaps view r (a some.items some.table (vector b.0 some))
+        (λ u g. grown-gaps g (same-live view new e)) (λ e m. m.same)
 
     -- ---- one value
 

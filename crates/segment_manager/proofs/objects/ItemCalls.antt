@@ -271,10 +271,10 @@ module _ (S : Type 0) {A : Type 0} (gives : S → Option A → S → Type 0) (wh
   takes-none why c writing low t = absurd t
 
 -- a shape of so many numbers
-pub begun-numbers : {a m : Cut} {key : names.Key} {k : ScalarKind} {count h at : ℕ} {entry : Option NewEntry}
+pub begun-numbers : (a m : Cut) (key : names.Key) {k : ScalarKind} {count : ℕ} (h at : ℕ) (entry : Option NewEntry)
     {shape : Shape} → shape ≡ numbers_shape k count → IsBegun a m key shape.kind shape.count shape.len h at entry
     → IsBegun a m key (Scalar k) count (size_of k * count) h at entry
-begun-numbers {a} {m} {key} {h = h} {at} {entry} same begun =
+begun-numbers a m key h at entry same begun =
     subst (λ (j : Shape). IsBegun a m key j.kind j.count j.len h at entry) same begun
 
 -- ---- the same, as the segment is named before the call, and its shape is made for it
@@ -302,7 +302,7 @@ module _ (S : Type 0) {A : Type 0} (gives : S → Option A → S → Type 0) (wh
   module _ (m : Cut) (h at : ℕ) (entry : Option NewEntry)
       (begun : IsBegun s.cut m key shape.kind shape.count shape.len h at entry) where
     pub begun-so : IsBegun s.cut m key (Scalar k) count (size_of k * count) h at entry
-    begun-so = begun-numbers same begun
+    begun-so = begun-numbers s.cut m key h at entry same begun
 
     module _ {after : S} (c : Cut) (result : Result ℕ Refusal) (done : (old : Cut) (q : names.Key)
         → IsSegment old.bytes → IsBegun old m q (Scalar k) count (size_of k * count) h at entry
@@ -354,9 +354,9 @@ module _ (S : Type 0) {A : Type 0} (gives : S → Option A → S → Type 0) (wh
       (subst (λ (q : Shape). IsNotBegun a c key q.kind q.len why) same not))
 
 -- the key of an entry suits it
-pub shaped-key : {i : Index} {e : Key} {key : names.Key} {name : List ℕ} {shape : Shape} {j k : ScalarKind} {count : ℕ}
+pub shaped-key : (i : Index) (e : Key) (key : names.Key) (name : List ℕ) {shape : Shape} {j k : ScalarKind} {count : ℕ}
     → shape ≡ numbers_shape j count → j ≡ k → IsNewKeyOf i e key name (Scalar k) → IsNewKeyOf i e key name shape.kind
-shaped-key {i} {e} {key} {name} same is new =
+shaped-key i e key name same is new =
     subst (IsNewKeyOf i e key name) (sym (ap (λ (q : Shape). q.kind) same ∙ ap Scalar is)) new
 
 -- no object has the key of an entry that is not there

@@ -48,7 +48,7 @@ begin_at-requires-clause-short g c = key-short c.args.index c.args.entry c.requi
 pub returns-in_err-begun : goal.returns-in_err-begun
 returns-in_err-begun g c = rw (exit-is c.from_residual.result _ c.from_residual.ensures.1) (λ key n.
     let k = g.T.Scalar.kind in let away = c.in-Absent.ensures.place in
-    let shaped = shaped-key c.numbers.ensures c.kind-kind.ensures n in
+    let shaped = shaped-key c.args.index c.args.entry key c.args.name.now c.numbers.ensures c.kind-kind.ensures n in
     made-items_or_none _ g.I.Iterator.next_gives g.T.Scalar.whole key k c.args.count c.args.items.now
     (Err c.in_err-begun.field-0.0) (no-objects c.args.index c.args.entry c.in-Absent.place key c.args.name.now (Scalar k)
     n away) (none-items _ g.I.Iterator.next_gives g.T.Scalar.whole key k c.args.count c.args.items.now
@@ -57,13 +57,13 @@ returns-in_err-begun g c = rw (exit-is c.from_residual.result _ c.from_residual.
 pub take_items-requires-clause-begun : goal.take_items-requires-clause-begun
 take_items-requires-clause-begun g c =
     let key = c.requires.key in
-    let shaped = shaped-key c.numbers.ensures c.kind-kind.ensures key.1 in (
+    let shaped = shaped-key c.args.index c.args.entry key.0 c.args.name.now c.numbers.ensures c.kind-kind.ensures key.1 in (
       c.args.heap.now,
       (
         c.requires.segment,
         (
           key.0,
-          begun-numbers c.numbers.ensures
+          begun-numbers c.args.heap.now c.begin_at.new.heap key.0 c.in_ok-begun.begun.handle c.in_ok-begun.begun.at c.in_ok-begun.begun.entry c.numbers.ensures
               (c.in_ok-begun.ensures key.0 c.args.entry shaped c.in-Absent.ensures.place),
         ),
       ),
@@ -74,10 +74,10 @@ returns g c = λ key n.
     let k = g.T.Scalar.kind in let away = c.in-Absent.ensures.place in let old = c.args.heap.now in
     let new = c.take_items.new.heap in let gives = g.I.Iterator.next_gives in let whole = g.T.Scalar.whole in
     let before = c.args.items.now in let after = c.take_items.new.items in let count = c.args.count in
-    let shaped = shaped-key c.numbers.ensures c.kind-kind.ensures n in
+    let shaped = shaped-key c.args.index c.args.entry key c.args.name.now c.numbers.ensures c.kind-kind.ensures n in
     let done = subst (λ (l : ScalarKind). TakesItemsIn gives whole old new key l count before after c.take_items.result)
     c.kind-kind.ensures (c.take_items.ensures old key c.requires.segment
-    (begun-numbers c.numbers.ensures (c.in_ok-begun.ensures key c.args.entry shaped away))) in
+    (begun-numbers old c.begin_at.new.heap key c.in_ok-begun.begun.handle c.in_ok-begun.begun.at c.in_ok-begun.begun.entry c.numbers.ensures (c.in_ok-begun.ensures key c.args.entry shaped away))) in
     subst (FindsOrTakesIn gives whole old new key k count before after) (sym c.counted.ensures)
     (made-items_or_none _ gives whole key k count before c.take_items.result
     (no-objects c.args.index c.args.entry c.in-Absent.place key c.args.name.now (Scalar k) n away) done)

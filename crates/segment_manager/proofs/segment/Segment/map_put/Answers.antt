@@ -3,7 +3,7 @@ use Rattle.segment_manager.proofs.Common.{exit-is, ◌≡◌, refl, sym, ap, ◌
 use Rattle.segment_manager.proofs.{containers.MapAnswers.put-there, containers.MapAnswers.some-there}
 use Rattle.segment_manager.proofs.{containers.MapCalls.finds-no_map, containers.MapCalls.put_result}
 use Rattle.segment_manager.proofs.{containers.Safely.Answered, containers.ScalarTypes.of-map}
-use Rattle.segment_manager.proofs.containers.KeptContainers.{map-again, same-again}
+use Rattle.segment_manager.proofs.containers.KeptContainers.{map-again}
 use Rattle.segment_manager.proofs.{Steps.open-writing, Steps.refuses_of_kind-read_only}
 use Rattle.segment_manager.proofs.segment.Segment.map_put.Goals as goal
 use Rattle.segment_manager.proofs.segment.Segment.map_put.{Goals.Joined-put, Goals.in-Err, Goals.in-Ok, Given.Over}
@@ -55,7 +55,7 @@ returns g c =
     }
 
 pub returns-then-is_read_only-clause-again : goal.returns-then-is_read_only-clause-again
-returns-then-is_read_only-clause-again g c = same-again _ _ _ _ _
+returns-then-is_read_only-clause-again g c = λ d l p has. record { at = λ j f. refl }
 
 pub returns-in_err-place-clause-again : goal.returns-in_err-place-clause-again
-returns-in_err-place-clause-again g c = same-again _ _ _ _ _
+returns-in_err-place-clause-again g c = λ d l p has. record { at = λ j f. refl }

@@ -118,9 +118,9 @@ module _ (old new : Cut) (says : SaysHeap old (tiles_in old)) (said : SaysTiles 
   each_gap P [] h = tt
   each_gap P (t ∷ ts) h = elim (use_cases t) [
     | unused e ↦ subst (AllByRecursion P) (sym (gaps_of-free t ts e)) (
-        h t (inl refl) (ap (λ (u : Option Role). is_free (record t { use_of = u })) e),
-        each_gap P ts (λ v i f. h v (inr i) f),
-      )
+      h t (inl refl) (ap (λ (u : Option Role). is_free (record t { use_of = u })) e),
+      each_gap P ts (λ v i f. h v (inr i) f),
+    )
     | used role e ↦ subst (AllByRecursion P) (sym (gaps_of-used t ts role e)) (each_gap P ts (λ v i f. h v (inr i) f))
   ]
 

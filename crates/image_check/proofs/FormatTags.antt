@@ -90,7 +90,7 @@ plain-has_tags f m size =
     ∙ shuffle-merged (are_tags (suc f) m 128 0 (tiles_of m size) (size - 16)) (list_all is_plain (tiles_of m size)) (is_merged (tiles_of m size))
 
 -- from format 1 on there is no difference
-later-has_tags : (format : ℕ) (m : Memory) (size : ℕ) → 0 < format → has_tags format m size ≡ has_tags current m size
+pub later-has_tags : (format : ℕ) (m : Memory) (size : ℕ) → 0 < format → has_tags format m size ≡ has_tags current m size
 unfolding current
 later-has_tags zero m size l = absurd (omega arith)
 later-has_tags (suc f) m size l = ap (λ x. x && is_merged (tiles_of m size)) (later-tags f 1 m 128 0 (tiles_of m size) (size - 16))

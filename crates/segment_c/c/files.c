@@ -4,7 +4,6 @@
 
 #include <errno.h>
 #include <fcntl.h>
-#include <inttypes.h>
 #include <limits.h>
 #include <pthread.h>
 #include <stdio.h>
@@ -293,7 +292,9 @@ static int make(int folder, const char *name, const struct image *image, const s
 static void spare_name(char spare[40], const char *name) {
     uint64_t hash = 0xcbf29ce484222325;
     for (; *name; name++) hash = (hash ^ (unsigned char)*name) * 0x100000001b3;
-    snprintf(spare, 40, ".zaluxhoni-%016" PRIx64, hash);
+    memcpy(spare, ".zaluxhoni-", 11);
+    for (int i = 0; i < 16; i++) spare[11 + i] = "0123456789abcdef"[hash >> (60 - 4 * i) & 15];
+    spare[27] = 0;
 }
 
 /* ---- what exists at a path */

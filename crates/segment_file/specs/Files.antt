@@ -127,4 +127,3 @@ pub record WritesImage {D E : Type 0} (step : D → Event → D → Type 0) (old
   pub asked : After step old (writes how path written) new
   pub fate : MatchResult result (λ u. written ≡ whole how image) (λ e. IsUnwritten how image written)
   pub accepted : IsMade written → (d : Directory) → StandsFor image d → IsSaved image d
-

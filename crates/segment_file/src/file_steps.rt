@@ -73,10 +73,7 @@ pub(crate) fn read_segment<D: Disk>(
     let Ok(opened) = disk.open(path) else {
         return Err(FileError::ReadFault);
     };
-    let Opened {
-        mut reader,
-        len,
-    } = opened;
+    let Opened { mut reader, len } = opened;
     let read = open_in(alloc, mode, &mut reader, room_needed(len, 0));
     disk.close(reader);
     read
@@ -93,10 +90,7 @@ pub(crate) fn read_any_segment<D: Disk>(
     let Ok(opened) = disk.open(path) else {
         return Err(FileError::ReadFault);
     };
-    let Opened {
-        mut reader,
-        len,
-    } = opened;
+    let Opened { mut reader, len } = opened;
     let read = open_any_in(alloc, &mut reader, room_needed(len, 0));
     disk.close(reader);
     read
@@ -109,10 +103,7 @@ pub(crate) fn verify_file<D: Disk>(alloc: Global, disk: &mut D, path: &str) -> R
     let Ok(opened) = disk.open(path) else {
         return Err(FileError::ReadFault);
     };
-    let Opened {
-        mut reader,
-        len,
-    } = opened;
+    let Opened { mut reader, len } = opened;
     let verified = verify_in(alloc, &mut reader, room_needed(len, 0));
     disk.close(reader);
     verified

@@ -1325,6 +1325,69 @@ def files_that_fail():
     os.unlink(path_of("link"))
 
 
+def what_is_read_again():
+    """An object that is read again and again is the one that has the name now."""
+    s = zaluxhoni.create(4096)
+    s["v"], s["m"], s["other"] = [1, 2], {1: 2, -1: 1}, [9]
+    v, m, text = s["v"], s["m"], s.string("text")
+    text.assign("abc")
+    reads = (lambda: v[0], 1), (lambda: v[1], 2), (lambda: m[1], 2), (lambda: m.get(-1), 1), (lambda: text[0], 97)
+    for _ in range(4):
+        for read, wanted in reads:
+            same(read(), wanted)
+    s.destroy("v")
+    for _ in range(3):
+        raises(zaluxhoni.NotFound, lambda: v[0])
+    s.construct("i64", "taken", 7)
+    s["v"] = [3]
+    for _ in range(3):
+        same(v[0], 3)
+        raises(zaluxhoni.OutOfRange, lambda: v[1])
+    s.destroy("v")
+    s.construct("vec<bool>", "v", [True])
+    for _ in range(3):
+        same(v[0], True)
+        raises(zaluxhoni.WrongKind, v.append, 1)
+    s.destroy("m")
+    s.construct("map<u8,u64>", "m", {1: 2**64 - 1})
+    for _ in range(3):
+        same(m[1], 2**64 - 1)
+        raises(zaluxhoni.Absent, lambda: m[2])
+    try:
+        with s.transaction():
+            s.destroy("m")
+            s["m"] = {1: 5}
+            for _ in range(3):
+                same(m[1], 5)
+            raise KeyError
+    except KeyError:
+        pass
+    for _ in range(3):
+        same(m[1], 2**64 - 1)
+    for key in (True, 1.0, "1", None, 2**70, -2**70, b"1"):
+        same(m.get(key, "none"), "none")
+    w = s.vector("w", "i64")
+    for value in (True, 1.5, "1", None):
+        raises(zaluxhoni.WrongKind, w.append, value)
+        raises(zaluxhoni.WrongKind, w.extend, [1, value])
+    for value in (2**63, -2**63 - 1, 2**70):
+        raises(zaluxhoni.OutOfRange, w.append, value)
+        raises(zaluxhoni.OutOfRange, w.extend, [1, value])
+    same(len(w), 0)
+    s.discard()
+    for _ in range(3):
+        raises(zaluxhoni.Closed, lambda: m[1])
+    # what is lent to a function of Python's goes with it
+    s, counts = zaluxhoni.create(1024), []
+    s["v"] = [1]
+    for _ in range(3):
+        for _ in range(100):
+            s["v"][0]
+        gc.collect()
+        counts.append((sys.getrefcount(s), sys.getrefcount(None) // 10000))
+    same(counts[1], counts[2])
+
+
 def what_is_not_closed():
     path = new("dropped")
     with warnings.catch_warnings(record=True) as caught:
@@ -1347,7 +1410,8 @@ for case in (an_anonymous_object, names, index_and_object_do_not_both_fit, array
              copies, a_list_as_list_is_one, threads_that_follow_each_other, one_segment_of_many_threads, groups,
              transactions,
              records, views, size_and_region, calls_of_c, what_is_refused, one_thread, files, files_that_are_mapped,
-             what_is_refused_by_name, a_process_that_forks, a_relative_path, files_that_fail, what_is_not_closed):
+             what_is_refused_by_name, a_process_that_forks, a_relative_path, files_that_fail, what_is_read_again,
+             what_is_not_closed):
     try:
         case()
     except Exception as error:

@@ -21,7 +21,8 @@ import time
 import file_driver
 import zaluxhoni
 
-WAIT = 20
+# how long whoever is not killed may take to save: where a number of kills is wanted, other programs may have the machine
+WAIT = 20 if float(sys.argv[3]) else 600
 
 
 class Saver:

@@ -21,11 +21,13 @@ pub returns-then-not-tags-clause-most : goal.returns-then-not-tags-clause-most
 returns-then-not-tags-clause-most c = tags-raised c.args.window.now.bytes _ c.check_counted-tags.result.tags _ c.check_counted-tags.ensures.few c.check_counted-tags.ensures.visits
 
 pub check_gaps-requires : goal.check_gaps-requires
-check_gaps-requires c = checked-tiles c.args.format c.args.window.now (record {
-  front = c.requires;
-  reserved = c.in_default.ensures;
-  tags = sym c.check_counted-tags.ensures.good ∙ not-false c.check_counted-tags.result.are_good c.if-not-tags.false;
-})
+check_gaps-requires c = record {
+  tiles = checked-tiles c.args.format c.args.window.now (record {
+    front = c.requires;
+    reserved = c.in_default.ensures;
+    tags = sym c.check_counted-tags.ensures.good ∙ not-false c.check_counted-tags.result.are_good c.if-not-tags.false;
+  });
+}
 
 pub returns-in_default-check_gaps-clause-finds : goal.returns-in_default-check_gaps-clause-finds
 returns-in_default-check_gaps-clause-finds c =

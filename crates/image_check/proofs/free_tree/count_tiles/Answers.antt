@@ -7,12 +7,12 @@ use Rattle.image_check.proofs.WalkedTiles.{at-meets, tags-IsTiled, walk-end, wal
 use Rattle.image_check.proofs.free_tree.count_tiles.Goals as goal
 
 pub first-tile-requires : goal.first-tile-requires
-first-tile-requires c = tags-IsTiled c.args.window.now c.requires.size c.requires.tags
+first-tile-requires c = tags-IsTiled c.args.window.now c.requires.tiles.size c.requires.tiles.tags
 
 pub tiles-init : goal.tiles-init
 tiles-init c =
     let w = c.args.window.now in
-    walk-start w _ c.first-tile.result (tags-IsTiled w c.requires.size c.requires.tags) c.first-tile.ensures
+    walk-start w _ c.first-tile.result (tags-IsTiled w c.requires.tiles.size c.requires.tiles.tags) c.first-tile.ensures
     (c.new-counts.ensures, within-none tag_rates _)
 
 pub add-requires-clause-free : goal.add-requires-clause-free
@@ -20,14 +20,14 @@ add-requires-clause-free c =
     let w = c.args.window.now in
     let a = read-at w _ c.tiles.tile c.in-Some.unread c.read-one.result c.tiles.invariant c.in-Some.is
     c.read-one.ensures.tile in
-    (counted-few w _ c.read-one.result c.tiles.counts c.requires.size a a.kept.0).0
+    (counted-few w _ c.read-one.result c.tiles.counts c.requires.tiles.size a a.kept.0).0
 
 pub add-requires-clause-used : goal.add-requires-clause-used
 add-requires-clause-used c =
     let w = c.args.window.now in
     let a = read-at w _ c.tiles.tile c.in-Some.unread c.read-one.result c.tiles.invariant c.in-Some.is
     c.read-one.ensures.tile in
-    (counted-few w _ c.read-one.result c.tiles.counts c.requires.size a a.kept.0).1
+    (counted-few w _ c.read-one.result c.tiles.counts c.requires.tiles.size a a.kept.0).1
 
 pub next-tile-requires : goal.next-tile-requires
 next-tile-requires c =

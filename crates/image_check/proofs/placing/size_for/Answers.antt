@@ -6,12 +6,12 @@ use Rattle.image_check.proofs.placing.size_for.Goals as goal
 pub returns-in-Err-2-clause-fits : goal.returns-in-Err-2-clause-fits
 returns-in-Err-2-clause-fits c =
     let long = c.if-image-lt-LEAST.false in
-    misfit-front (format_in c.args.versions c.args.image.now) c.args.image.now c.args.base (length c.args.region.now) c.in-Err.verdict.class (sym c.in-Err.ensures.says) (omega arith)
+    misfit-front (format_in c.args.versions c.args.image.now) c.args.image.now c.args.base (length c.args.region.now) c.in-Err.field-0.class (sym c.in-Err.ensures.says) (omega arith)
 
 pub returns-in-Err-2-clause-shown : goal.returns-in-Err-2-clause-shown
 returns-in-Err-2-clause-shown c =
     let front = c.if-image-lt-FRONT.false in
-    front-place (format_in c.args.versions c.args.image.now) c.args.image.now c.in-Err.verdict.class c.in-Err.verdict.place (omega arith) c.in-Err.ensures.shown
+    front-place (format_in c.args.versions c.args.image.now) c.args.image.now c.in-Err.field-0.class c.in-Err.field-0.place (omega arith) c.in-Err.ensures.shown
 
 pub returns-in-Ok-2-clause-fits : goal.returns-in-Ok-2-clause-fits
 returns-in-Ok-2-clause-fits c =

@@ -24,6 +24,7 @@ returns-in-Ok g c =
 pub returns-in-Err : goal.returns-in-Err
 returns-in-Err g c =
     let old = g.S.Source.history c.args.reader.now.inner in
-    let new = g.S.Source.history c.read_on.new.reader.inner in
-    (begun-behind ReadOnly old new c.requires.small.0 c.read_on.ensures.grows c.in-Err.unfit c.in-Err.ensures.reads,
-    told-behind ReadOnly old new c.requires.small.0 c.read_on.ensures.grows c.in-Err.unfit c.in-Err.ensures.reads)
+    let new = g.S.Source.history c.read_on.new.reader.inner in (
+      begun-behind ReadOnly old new c.requires.small.0 c.read_on.ensures.grows c.in-Err.unfit c.in-Err.ensures.reads,
+      told-behind ReadOnly old new c.requires.small.0 c.read_on.ensures.grows c.in-Err.unfit c.in-Err.ensures.reads,
+    )

@@ -1,7 +1,8 @@
-//! A segment that grows, in a larger region where its own has no room, and the regions that files and larger segments are
+//! A segment that grows, in a larger region if its own has no room; copies of segments, and the regions that images are
 //! read into.
 ghost use Rattle.std.specs.Prelude.{◌≡◌, ◌≤◌, ◌+◌, length, min, IfErr, IfOk, MatchResult};
-ghost use Rattle.raw_region.specs.{Memory.zeros, Refusals.refusal_of, Regions.IsCapacity};
+ghost use Rattle.raw_region.specs.Memory.{SamePlace, cut_at, zeros};
+ghost use Rattle.raw_region.specs.{Refusals.refusal_of, Regions.IsCapacity};
 ghost use Rattle.segment_manager.specs.State.{IsSegment};
 ghost use Rattle.grow_shrink.specs.LargerRegion.{CopiesWithRoom, GrowsOrMoves, GrowsOrMovesOk, IsShortOfRoom, region_len};
 
@@ -72,7 +73,7 @@ pub fn grow_or_move(alloc: Global, segment: &mut Segment, extra: u64) -> Result<
 }
 
 /// Returns the number of bytes of a segment, which denote a directory.
-fn size_of(segment: &Segment) -> u64
+pub fn size_of(segment: &Segment) -> u64
     ensures size { result ≡ length segment.now.cut.bytes }
     ensures denotes { IsSegment segment.now.cut.bytes }
 {
@@ -129,8 +130,22 @@ fn copy_with_room(alloc: Global, segment: &Segment, bytes: u64) -> Result<Segmen
     ensures refused { IfErr result (λ refusal. refusal ≡ refusal_of (region_len bytes)) }
 {
     let region = region_for(alloc, bytes)?;
+    Ok(copy_into(segment, region))
+}
+
+/// Copies a segment to the front of a region, open as it is. No other byte of the region changes.
+///
+/// # Conditions
+///
+/// The region has room for the segment.
+pub fn copy_into(segment: &Segment, region: RawRegion) -> Segment
+    requires { length segment.now.cut.bytes ≤ length region }
+    ensures bytes { result.cut.bytes ≡ segment.now.cut.bytes }
+    ensures mode { result.mode ≡ segment.now.mode }
+    ensures place { SamePlace (cut_at region 0 (length segment.now.cut.bytes)) result.cut }
+{
     let image = segment.as_bytes();
     let mut window = Window::new(region, 0, image.len() as u64);
     window.write(0, image);
-    Ok(adopt(window, segment.mode()))
+    adopt(window, segment.mode())
 }

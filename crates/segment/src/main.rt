@@ -4,14 +4,15 @@
 ghost use Rattle.std.specs.Prelude.{◌≡◌, ⊤};
 ghost use Rattle.segment_disk.specs.Events.{nothing_taken};
 
-use raw_region::{DeviceFault, Source};
 use raw_region::stream::{ReadOnce, Reading, Writing};
+use raw_region::{DeviceFault, Source};
 use segment_cli::SessionFault;
 use segment_commands::{
     ProgramFault, check, create, draw, draw_page, dump, dump_capacities, dump_json, explain, grow,
-    lint, load, migrate, names, print, print_language, report, report_file, run_strict, shrink, stat,
+    lint, load, load_over, migrate, names, print, print_language, report, report_file, run_strict,
+    shrink, stat,
 };
-use segment_disk::{Disk, HostDisk, Numbered, Outlet, Output, StopsAtError, Trouble};
+use segment_disk::{Disk, HostDisk, Numbered, Opened, Outlet, Output, StopsAtError, Trouble};
 use segment_invocation::{
     Invocation, InvocationFault, Keeping, ModeName, Running, Saving, Script, VERSION, invocation,
     is_verbose, script_text,
@@ -95,17 +96,19 @@ fn check_all<W: Write>(
     is_quiet: bool,
     is_verbose: bool,
     out: &mut Outlet<W>,
-) -> Result<u8, ProgramFault> {
+) -> Result<u8, ProgramFault>
+    requires { out.old.history ≡ nothing_taken }
+{
     let mut worst = 0;
-    for file in files {
+    'files: for file in files {
         let front = Piece::Text(file.as_bytes());
         match check(rt.alloc(), disk, file, &mut Outlet::new(io::sink())) {
             Ok(()) if is_quiet => {}
             Ok(()) => {
                 let line = [front, Piece::Bytes(b": ok\n")];
-                if put_pieces(out, &line).is_err() {
+                let Ok(()) = put_pieces(out, &line) else {
                     return Err(WRITE_FAULT);
-                }
+                };
             }
             Err(fault) => {
                 let _ = put_pieces(
@@ -165,12 +168,20 @@ fn command<W: Write + Drop>(
     let answer = match asked {
         Invocation::Create(file, size) => create(alloc, disk, file, *size),
         Invocation::Run(file, mode, size) => {
-            let run = Run { file, mode: *mode, size: *size };
+            let run = Run {
+                file,
+                mode: *mode,
+                size: *size,
+            };
             answer(rt, disk, scripts, run, &Running::PLAIN, out)?;
             return Ok(0);
         }
         Invocation::RunWith(file, mode, size, how) => {
-            let run = Run { file, mode: *mode, size: *size };
+            let run = Run {
+                file,
+                mode: *mode,
+                size: *size,
+            };
             answer(rt, disk, scripts, run, how, out)?;
             return Ok(0);
         }
@@ -198,11 +209,21 @@ fn command<W: Write + Drop>(
         Invocation::DumpCapacities(file) => dump_capacities(alloc, disk, file, &mut out),
         Invocation::DumpJson(file) => dump_json(alloc, disk, file, &mut out),
         Invocation::Names(file, prefix, most) => {
-            names(alloc, disk, file, prefix, most.unwrap_or(u64::MAX), &mut out)
+            names(
+                alloc,
+                disk,
+                file,
+                prefix,
+                most.unwrap_or(u64::MAX),
+                &mut out,
+            )
         }
         Invocation::Load(file, size, keeping) => {
             let mut text = Reading::new(rt.reader());
-            load(alloc, disk, file, *size, keeping.saving, &mut text)
+            match keeping.saving {
+                Saving::InPlace => load(alloc, disk, file, *size, &mut text),
+                Saving::Replacing => load_over(alloc, disk, file, *size, &mut text),
+            }
         }
         Invocation::Lint => lint(command_rows(), &mut Reading::new(rt.reader()), &mut out),
         Invocation::Language => print_language(&mut out, command_rows()),
@@ -260,7 +281,8 @@ fn answer<O: Output + Drop>(
             let Ok(opened) = scripts.open(path) else {
                 return Err(ProgramFault::Session(SessionFault::ReadFault));
             };
-            let mut script = opened.reader;
+            let Opened { reader, len: _ } = opened;
+            let mut script = reader;
             answer_script(rt, disk, run, how, &mut script, out)
         }
         Script::Lines(lines) => {

@@ -425,6 +425,13 @@ static zx_code hold(zx_file *file, const char *path, uint32_t mode, bool is_mapp
 
 /* ---- a file opened */
 
+/* The code of bytes that an opening answered by this one, and where they show it. What says more bytes than there are is
+   refused by its class. */
+static zx_code explained(zx_file *file, zx_code code, const uint8_t *image, size_t len) {
+    if (code != ZX_SHORT_REGION && code < ZX_TRUNCATED) return code;
+    return zx_explain(image, len, &file->place);
+}
+
 /* Opens the segment of the file's bytes. */
 static zx_code read_segment(zx_file *file, int from, uint32_t how) {
     struct stat found;
@@ -439,8 +446,7 @@ static zx_code read_segment(zx_file *file, int from, uint32_t how) {
     } else {
         uint64_t capacity = len < 16 ? 16 : ((uint64_t)len + 15) / 16 * 16;
         code = zx_open(&file->segment, image.bytes, (size_t)len, capacity, how);
-        // the image says more bytes than there are: its class is the answer
-        if (code == ZX_SHORT_REGION) code = zx_check(image.bytes, (size_t)len);
+        code = explained(file, code, image.bytes, (size_t)len);
     }
     free(image.bytes);
     return code;
@@ -451,9 +457,7 @@ static zx_code attach(zx_file *file, struct zx_held_file *held, uint64_t size, u
     zx_memory memory = { held->at, held->len };
     madvise(held->at, held->len, MADV_DONTFORK);
     zx_code code = zx_attach(&file->segment, &memory, size, how);
-    // the image says more bytes than there are: its class is the answer
-    if (code == ZX_SHORT_REGION) code = zx_check(held->at, size);
-    return code;
+    return explained(file, code, held->at, size);
 }
 
 /* Gives the file blocks up to a length, so that no page that is written finds the disk full. */

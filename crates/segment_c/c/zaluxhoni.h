@@ -289,6 +289,10 @@ static inline zx_code zx_open(zx_segment *segment, const uint8_t *image, size_t 
    for as many bytes as the first of them say, and none where there are fewer. */
 static inline zx_code zx_check(const uint8_t *image, size_t len) ZX_NAMED(zx_check_or_null);
 
+/* The same, and where they show that they are none: with ZX_TRUNCATED to ZX_ORPHAN_BLOCK `place` is the offset of a byte
+   that shows the class, as docs/C.md lists them. With any other code it stays. */
+static inline zx_code zx_explain(const uint8_t *image, size_t len, uint64_t *place) ZX_NAMED(zx_explain_or_null);
+
 /* Copies the image to the front of the buffer: as many bytes as zx_size says. ZX_CLOSED, ZX_SHORT_BUFFER. */
 static inline zx_code zx_save(zx_segment *segment, uint8_t *image, size_t room) ZX_NAMED(zx_save_or_null);
 
@@ -522,6 +526,11 @@ zx_code zx_check_proved(const uint8_t *image, size_t len) ZX_NAMED(zx_check);
 static inline zx_code zx_check(const uint8_t *image, size_t len) {
     if (!image) return ZX_NULL_SLICE;
     return zx_check_proved(image, len);
+}
+zx_code zx_explain_proved(const uint8_t *image, size_t len, uint64_t *place) ZX_NAMED(zx_explain);
+static inline zx_code zx_explain(const uint8_t *image, size_t len, uint64_t *place) {
+    if (!image) return ZX_NULL_SLICE;
+    return zx_explain_proved(image, len, place);
 }
 zx_code zx_save_proved(zx_segment *segment, uint8_t *image, size_t room) ZX_NAMED(zx_save);
 static inline zx_code zx_save(zx_segment *segment, uint8_t *image, size_t room) {

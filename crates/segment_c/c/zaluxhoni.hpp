@@ -95,15 +95,20 @@ using too_large = error_of<ZX_TOO_LARGE>;
 /// The segment has no file, which `save_file()` wants.
 using no_file = error_of<ZX_FILE_NONE>;
 
-/// Bytes that are no image of a segment; `number()` is that of the class in docs/FORMAT.md, from 1 to 12.
+/// Bytes that are no image of a segment; `number()` is that of the class in docs/FORMAT.md, from 1 to 12, and `place()`
+/// the offset of a byte that shows it, as `zx_explain` says.
 class bad_image : public error {
   public:
-    using error::error;
+    explicit bad_image(zx_code code, std::uint64_t place = 0) : error(code), place_(place) {}
     int number() const noexcept { return static_cast<int>(code()) - 100; }
+    std::uint64_t place() const noexcept { return place_; }
+
+  private:
+    std::uint64_t place_;
 };
 
-/// Throws the error of a code.
-[[noreturn]] inline void throw_code(zx_code code) {
+/// Throws the error of a code; where that is a class of images, with the place that shows it.
+[[noreturn]] inline void throw_code(zx_code code, std::uint64_t place = 0) {
     switch (code) {
     case ZX_READ_ONLY: throw read_only();
     case ZX_EXISTS: throw exists();
@@ -128,7 +133,7 @@ class bad_image : public error {
     case ZX_TOO_LARGE: throw too_large();
     case ZX_FILE_NONE: throw no_file();
     default:
-        if (ZX_TRUNCATED <= code && code <= ZX_ORPHAN_BLOCK) throw bad_image(code);
+        if (ZX_TRUNCATED <= code && code <= ZX_ORPHAN_BLOCK) throw bad_image(code, place);
         throw error(code);
     }
 }
@@ -160,7 +165,8 @@ using file_unsynced = file_error_of<ZX_FILE_UNSYNCED>;
 using file_forked = file_error_of<ZX_FILE_FORKED>;
 
 /// Throws the error of a code that a call for a file answered.
-[[noreturn]] inline void throw_file_code(zx_code code, int error, const std::string &path) {
+[[noreturn]] inline void throw_file_code(zx_code code, const zx_file &file, const std::string &path) {
+    const int error = file.error;
     switch (code) {
     case ZX_FILE_IN_USE: throw file_in_use(error, path);
     case ZX_FILE_EXISTS: throw file_exists(error, path);
@@ -170,7 +176,7 @@ using file_forked = file_error_of<ZX_FILE_FORKED>;
     case ZX_FILE_FORKED: throw file_forked(error, path);
     default:
         if (ZX_FILE_IN_USE <= code && code <= ZX_FILE_FORKED) throw file_error(code, error, path);
-        throw_code(code);
+        throw_code(code, file.place);
     }
 }
 
@@ -596,7 +602,7 @@ struct state {
     zx_segment *raw() noexcept { return &file.segment; }
     /// Throws where the code is not ZX_DONE, as `file_error` where it is one of the file's.
     void check(zx_code code) const {
-        if (code != ZX_DONE) throw_file_code(code, file.error, path);
+        if (code != ZX_DONE) throw_file_code(code, file, path);
     }
 
     /// A call that may need space: where there is none, and the segment grows by itself, it is made longer.
@@ -1074,9 +1080,11 @@ class segment {
         const std::uint64_t least = image.size() < 16 ? 16 : (image.size() + 15) / 16 * 16;
         zx_code code = zx_open(made.raw(), image.data(), image.size(), capacity != 0 ? capacity : least,
                                static_cast<std::uint32_t>(how));
-        // the image says more bytes than there are: that class is the answer
-        if (code == ZX_SHORT_REGION && capacity == 0) code = zx_check(image.data(), image.size());
-        check_code(code);
+        std::uint64_t place = 0;
+        // an image that says more bytes than there are is refused by that class
+        if (code >= ZX_TRUNCATED || (code == ZX_SHORT_REGION && capacity == 0))
+            code = zx_explain(image.data(), image.size(), &place);
+        if (code != ZX_DONE) throw_code(code, place);
         return made;
     }
 
@@ -1138,7 +1146,7 @@ class segment {
     /// Puts the image into the file of a path, which is created if it does not exist; its own file is saved as above.
     void save_file(const std::string &path) const {
         const zx_code code = zx_file_save_as(&state().file, whole(path).c_str(), ZX_OPEN_OR_CREATE);
-        if (code != ZX_DONE) throw_file_code(code, state().file.error, path);
+        if (code != ZX_DONE) throw_file_code(code, state().file, path);
     }
 
     /// Makes the segment longer by `extra` bytes: a multiple of 16, at least 32.

@@ -61,13 +61,14 @@ typedef struct {
     zx_segment segment;        /* closed, or what the calls of zaluxhoni.h take */
     int32_t error;             /* an errno of the last call of this header, or 0 */
     struct zx_held_file *held; /* the file that is open for writing, or null */
+    uint64_t place;            /* with ZX_TRUNCATED to ZX_ORPHAN_BLOCK what zx_explain says of the file's bytes */
 } zx_file;
 
 /* None, as with ZX_CLOSED_HANDLE. */
 #ifdef __cplusplus
 #define ZX_CLOSED_FILE (zx_file{})
 #else
-#define ZX_CLOSED_FILE ((zx_file){ { 0, 0, false, false }, 0, 0 })
+#define ZX_CLOSED_FILE ((zx_file){ { 0, 0, false, false }, 0, 0, 0 })
 #endif
 
 /* Opens a segment's file, or creates one with an empty segment of `size` bytes, which stands under the name at once.

@@ -8,11 +8,15 @@ use Rattle.image_check.specs.declared.classes.ImageClass.{ImageClass}
 use Rattle.image_check.specs.declared.classes.ImageClass.TheVariants.{Truncated, BadMagic, UnsupportedVersion, BadSize, BadReserved, BadTag, BadFreeTree, BadIndex, BadObject, SharedBlock, BadContainer, OrphanBlock}
 use Rattle.image_check.specs.declared.errors.OpenError.{OpenError}
 use Rattle.image_check.specs.declared.errors.OpenError.TheVariants.{Image, RegionTooSmall, ReadFault}
+use Rattle.image_check.specs.declared.errors.ExamineError.{ExamineError}
+use Rattle.image_check.specs.declared.errors.ExamineError.TheVariants.{Image as Examined, RegionTooSmall as TooSmall, ReadFault as Fault}
+use Rattle.image_check.specs.declared.verdict.Verdict.{Verdict}
+use Rattle.image_check.specs.Causes.{IsShown, error_for}
 use Rattle.image_check.specs.EarlyTests.{has_front, has_magic, has_version, size_word}
 use Rattle.image_check.specs.Classes.{class_of, holds, number_of}
 use Rattle.image_check.specs.Opening.{IsTooSmallFor}
 use Rattle.image_check.specs.OpeningBytes.{IsWhyNotOf, as_given}
-use Rattle.segment_c.specs.Opening.{IsNoImage, IsTooLong, IsWhyNotOpened, size_said}
+use Rattle.segment_c.specs.Opening.{IsExplained, IsNoImage, IsTooLong, IsWhyNotOpened, size_said}
 
 -- ---- the size
 
@@ -66,12 +70,35 @@ module _ (image : List ℕ) (capacity : ℕ) where
     no_fault e = subst (IsWhyNotOf current image 0 capacity) e why
 
   -- a region with room for what they say
-  pub no_image : (code : ℕ) → min (size_said image) 1073741824 ≤ capacity → IsWhyNotOpened image capacity code → IsNoImage image code
-  no_image code room told = elim told.why [ inl e ↦ inl e | inr r ↦ elim r [ inl p ↦ absurd (has_room p.1) | inr k ↦ inr k ] ]
-    where
-      has_room : IsTooLong image capacity → ⊥
-      has_room t =
-          let size = said_front image t.read t.front in
-          let most = legal_most (size_word image) (and_parts (has_magic image && has_version current image) (is_legal_size (size_word image)) t.front).1 in
-          let long = t.long in
-          omega (arith, room, size, most, long)
+  has_room : min (size_said image) 1073741824 ≤ capacity → IsTooSmallFor current (as_given image) 0 capacity → ⊥
+  has_room room t =
+      let size = said_front image t.read t.front in
+      let most = legal_most (size_word image) (and_parts (has_magic image && has_version current image) (is_legal_size (size_word image)) t.front).1 in
+      let small = t.small in
+      omega (arith, room, size, most, small)
+
+-- ---- with a place
+
+-- a place is left out
+pub without_place : (image : List ℕ) (code old new : ℕ) → IsExplained image code old new → IsNoImage image code
+without_place image code old new (inl e) = inl e.0
+without_place image code old new (inr e) = inr (e.0, e.1.0, e.1.1.0)
+
+module _ (image : List ℕ) (capacity : ℕ) (cause : ExamineError)
+    (why : IsWhyNotOf current image 0 capacity (error_for cause)) where
+  pub explained : (v : Verdict) (code old : ℕ) → cause ≡ Examined v → IsShown current image cause
+      → code ≡ 100 + number_of v.class → IsExplained image code old v.place
+  explained v code old e shown n = inr (
+    v.class,
+    n,
+    subst (λ (c : ExamineError).
+        IsWhyNotOf current image 0 capacity (error_for c)) e why,
+    subst (IsShown current image) e shown,
+  )
+
+  pub not_small : min (size_said image) 1073741824 ≤ capacity → cause ≡ TooSmall → ⊥
+  not_small room e = has_room image capacity room
+      (subst (λ (c : ExamineError). IsWhyNotOf current image 0 capacity (error_for c)) e why)
+
+  pub not_faulty : cause ≡ Fault → ⊥
+  not_faulty e = subst (λ (c : ExamineError). IsWhyNotOf current image 0 capacity (error_for c)) e why

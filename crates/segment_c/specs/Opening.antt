@@ -7,6 +7,7 @@ use Rattle.segment_manager.specs.State.{IsSegment, State}
 use Rattle.image_check.specs.declared.classes.ImageClass.{ImageClass}
 use Rattle.image_check.specs.Classes.{class_of, number_of}
 use Rattle.image_check.specs.EarlyTests.{has_front, size_word}
+use Rattle.image_check.specs.Verdicts.{Shows}
 
 -- a region has a multiple of 16 bytes, from 16 to 2 ^ 40
 abbrev pub capacity_wrong : ℕ → ℕ
@@ -38,6 +39,12 @@ pub record IsWhyNotOpened (image : List ℕ) (capacity code : ℕ) : Type 0 wher
 -- why the bytes are no image: there was no memory to look, or a class of them
 abbrev pub IsNoImage : List ℕ → ℕ → Type 0
 IsNoImage image code = (code ≡ 26) ⊎ IsClassCode image code
+
+-- The same with a place: where a class says why, it is a byte that shows that the class holds, and else it stays.
+abbrev pub IsExplained : List ℕ → ℕ → ℕ → ℕ → Type 0
+IsExplained image code old new =
+    ((code ≡ 26) × (new ≡ old))
+    ⊎ ((c : ImageClass) × (code ≡ 100 + number_of c) × (class_of current image ≡ Some c) × Shows current image c new)
 
 -- the size that the first bytes say, or 0
 abbrev pub size_said : List ℕ → ℕ

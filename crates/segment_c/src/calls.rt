@@ -7,7 +7,7 @@ ghost use Rattle.segment_c.specs.Calls.{IsRefused};
 ghost use Rattle.segment_c.specs.Passed.{entry_of, entry_wrong, key_of, key_wrong, literal_in, new_of, new_wrong};
 ghost use Rattle.segment_c.specs.Passed.{or_else, row_wrong, scalar_kind_in, value_wrong};
 ghost use Rattle.segment_manager.specs.objects.NewObjects.{IsOfKind};
-ghost use Rattle.segment_values.specs.Literals.{literal_seen};
+ghost use Rattle.seg_types.specs.Written.{literal_seen};
 
 use crate::handle::{Handle, take};
 use crate::keys::ObjectKey;

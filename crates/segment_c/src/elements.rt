@@ -1,7 +1,8 @@
 //! Elements of objects of scalars, of vectors and of strings.
 ghost use Rattle.std.specs.Prelude.{◌≡◌, ◌≤◌, OnErr};
 ghost use Rattle.seg_types.specs.Commands.{Erase, Get, Insert, Pop, Push, Set};
-ghost use Rattle.seg_types.specs.Keys.{key_seen};
+ghost use Rattle.seg_types.specs.{Keys.key_seen, Written.literal_seen};
+ghost use Rattle.seg_types.specs.Values.{kind_of_scalar};
 ghost use Rattle.seg_types.specs.declared.kinds.Kind.TheVariants.{Strings as StringsKind, Vector as VectorOf};
 ghost use Rattle.segment_c.specs.Calls.{Owes};
 ghost use Rattle.segment_c.specs.Codes.{answer_for};
@@ -10,9 +11,10 @@ ghost use Rattle.segment_c.specs.Reads.{vector_kind, vector_kind_at};
 ghost use Rattle.segment_c.specs.Marked.{IsMarked};
 ghost use Rattle.segment_manager.specs.Answers.{Done, refusal_of};
 ghost use Rattle.segment_manager.specs.Calls.{scalar_reply};
-ghost use Rattle.segment_manager.specs.State.{Answers, IsStep, IsStepOfKind, Moves, scalar_answer};
+ghost use Rattle.segment_manager.specs.State.{Answers, IsStep, IsStepOfKind, Moves, done_answer, scalar_answer};
 ghost use Rattle.segment_manager.specs.Step.{step_of_kind};
 ghost use Rattle.segment_manager.specs.containers.TextLists.{LeadsOnOfKind};
+ghost use Rattle.segment_values.specs.Changes.{command_at};
 
 use crate::calls::{enter, enter_with, passed};
 use crate::changes::{Change, make_change};
@@ -20,8 +22,9 @@ use crate::codes::{done, element, element_taken};
 use crate::handle::Handle;
 use crate::keys::ObjectKey;
 use crate::values::Value;
-use seg_types::{Key, Kind, Refusal, ScalarKind, ScalarValue, by_kind};
+use seg_types::{Key, Kind, Refusal, ScalarKind, ScalarValue, by_kind, by_value};
 use segment_manager::{Segment, locate};
+use segment_values::Spot;
 use std::alloc::Global;
 
 /// The element at `index` in the object of a key: of scalars, of a vector of scalars, or of a string, which has bytes.
@@ -58,7 +61,7 @@ pub extern "C" fn zx_set(
     ensures marks { IsMarked result h.old.marks h.new.marks }
 {
     let (which, new, mut segment) = passed!(enter_with(alloc, h, key, value));
-    let answer = segment_values::set(&mut segment, &which, index, new);
+    let answer = segment_values::set(&mut segment, &which, index, &new, &mut ());
     done(answer, h, segment)
 }
 
@@ -71,7 +74,27 @@ pub extern "C" fn zx_push(alloc: Global, h: &mut Handle, key: &ObjectKey<'_>, va
     ensures marks { IsMarked result h.old.marks h.new.marks }
 {
     let (which, new, mut segment) = passed!(enter_with(alloc, h, key, value));
-    done(segment_values::push(&mut segment, &which, new), h, segment)
+    done(push(&mut segment, &which, new), h, segment)
+}
+
+/// The same of a segment. Where the vector is of the value's own kind, it is looked up once.
+fn push(segment: &mut Segment, key: &Key, value: ScalarValue) -> Result<(), Refusal>
+    ensures step { IsStep segment.old segment.new (Push (key_seen key.now) (literal_seen value)) (done_answer result) }
+    ensures refused { OnErr result (segment.new ≡ segment.old) }
+{
+    match push_of_kind(segment, key, value) {
+        Err(Refusal::WrongKind) => add(segment, key, Spot::End, value),
+        pushed => pushed,
+    }
+}
+
+/// The same of a vector of the value's own kind.
+fn push_of_kind(segment: &mut Segment, key: &Key, value: ScalarValue) -> Result<(), Refusal>
+    ensures step { IsStepOfKind segment.old segment.new (key_seen key.now) (VectorOf (kind_of_scalar value))
+        (Push (key_seen key.now) (literal_seen value)) (done_answer result) }
+    ensures refused { OnErr result (segment.new ≡ segment.old) }
+{
+    by_value!(value, it => segment.vec_push(key, it))
 }
 
 /// Puts a value where `index` others stand before it in the vector of a key.
@@ -89,8 +112,19 @@ pub extern "C" fn zx_insert(
     ensures marks { IsMarked result h.old.marks h.new.marks }
 {
     let (which, new, mut segment) = passed!(enter_with(alloc, h, key, value));
-    let answer = segment_values::insert(&mut segment, &which, index, new);
-    done(answer, h, segment)
+    done(
+        add(&mut segment, &which, Spot::Before(index), new),
+        h,
+        segment,
+    )
+}
+
+/// Puts a value into the vector of a key, where the spot says.
+fn add(segment: &mut Segment, key: &Key, spot: Spot, value: ScalarValue) -> Result<(), Refusal>
+    ensures step { IsStep segment.old segment.new (command_at spot (key_seen key.now) (literal_seen value)) (done_answer result) }
+    ensures refused { OnErr result (segment.new ≡ segment.old) }
+{
+    segment_values::add(segment, key, spot, &value, &mut ())
 }
 
 /// Leaves out the element at `index` in the vector of a key, of scalars or of strings.

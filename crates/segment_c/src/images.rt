@@ -1,6 +1,6 @@
 //! Segments made, opened, looked at, saved and closed.
 ghost use Rattle.std.specs.Prelude.{◌≡◌, ◌≢◌, ◌≤◌, ◌⊎◌, ◌↔◌, ◌+◌, IfErr, IfOk, IsTrue, MatchOption, MatchResult, false};
-ghost use Rattle.std.specs.Prelude.{length};
+ghost use Rattle.std.specs.Prelude.{length, min};
 ghost use Rattle.std.specs.declared.option.Option.TheVariants.{None, Some};
 ghost use Rattle.block_tags.specs.Format.{is_legal_size};
 ghost use Rattle.image_check.specs.Classes.{number_of};
@@ -11,7 +11,7 @@ ghost use Rattle.segment_c.specs.Calls.{IsStopped, Opened, Owes};
 ghost use Rattle.segment_c.specs.Codes.{answer_for};
 ghost use Rattle.segment_c.specs.Images.{Saves, mode_code, mode_of, mode_wrong};
 ghost use Rattle.segment_c.specs.Marked.{IsPlaced, placed};
-ghost use Rattle.segment_c.specs.Opening.{IsImageOpened, IsNoImage, IsWhyNotOpened, capacity_wrong, size_said};
+ghost use Rattle.segment_c.specs.Opening.{IsExplained, IsImageOpened, IsNoImage, IsWhyNotOpened, capacity_wrong, size_said};
 ghost use Rattle.segment_c.specs.Passed.{or_else};
 ghost use Rattle.segment_manager.specs.Answers.{Number};
 ghost use Rattle.segment_manager.specs.Calls.{IsCreated};
@@ -22,9 +22,10 @@ ghost use Rattle.segment_manager.specs.declared.modes.Mode.TheVariants.{Write};
 use crate::calls::passed;
 use crate::codes::{BAD_IMAGE, BAD_MODE, BAD_SIZE, DONE, NO_MEMORY, SHORT_BUFFER, SHORT_REGION};
 use crate::handle::{Handle, Holder, put, put_new, take};
-use crate::resizing::{capacity_for, is_capacity};
+use crate::resizing::is_capacity;
 use block_tags::is_legal_size;
-use image_check::{FRONT, ImageClass, OpenError, open_bytes, size_in};
+use grow_shrink::region_for;
+use image_check::{ExamineError, FRONT, ImageClass, OpenError, examine_bytes, open_bytes, size_in};
 use raw_region::{RawRegion, Steps};
 use segment_manager::{Mode, Segment};
 use std::alloc::Global;
@@ -201,28 +202,56 @@ pub extern "C" fn zx_check(alloc: Global, image: &[u8]) -> u32
     ensures holds { result ≡ 0 → IsSegment image.now }
     ensures why { 1 ≤ result → IsNoImage image.now result }
 {
-    match checked(alloc, image) {
-        Ok(_) => DONE,
-        Err(code) => code,
+    examine(alloc, image, &mut 0)
+}
+
+/// The same; where a class says why they are none, `place` is the byte that shows it.
+#[unsafe(no_mangle)]
+pub extern "C" fn zx_explain(alloc: Global, image: &[u8], place: &mut u64) -> u32
+    ensures holds { result ≡ 0 → IsSegment image.now }
+    ensures why { 1 ≤ result → IsExplained image.now result place.old place.new }
+    ensures kept { result ≡ 0 → place.new ≡ place.old }
+{
+    examine(alloc, image, place)
+}
+
+/// The same, in a region for as many bytes as the first of them say. None is made where there are fewer.
+fn examine(alloc: Global, image: &[u8], place: &mut u64) -> u32
+    ensures holds { result ≡ 0 → IsSegment image.now }
+    ensures why { 1 ≤ result → IsExplained image.now result place.old place.new }
+    ensures kept { result ≡ 0 → place.new ≡ place.old }
+{
+    let size = size_said(image);
+    let len = image.len() as u64;
+    if len < size {
+        *place = len;
+        return class_code(ImageClass::Truncated);
+    }
+    match region_for(alloc, size) {
+        Ok(region) => examine_in(alloc, image, region, place),
+        Err(_) => NO_MEMORY,
     }
 }
 
-/// The segment whose image the bytes are, in a region for as many bytes as they say. None is made where they are fewer.
-///
-/// # Errors
-///
-/// The code.
-fn checked(alloc: Global, image: &[u8]) -> Result<Segment, u32>
-    ensures { MatchResult result (λ s. IsSegment image.now) (λ code. (1 ≤ code) × IsNoImage image.now code) }
+/// The same in a region that has room for the size that the bytes say.
+fn examine_in(alloc: Global, image: &[u8], region: RawRegion, place: &mut u64) -> u32
+    requires { min (size_said image.now) 1073741824 ≤ length region }
+    ensures holds { result ≡ 0 → IsSegment image.now }
+    ensures why { 1 ≤ result → IsExplained image.now result place.old place.new }
+    ensures kept { result ≡ 0 → place.new ≡ place.old }
 {
-    let size = size_said(image);
-    if (image.len() as u64) < size {
-        return Err(class_code(ImageClass::Truncated));
+    match examine_bytes(alloc, image, region, 0, &mut Steps::new()) {
+        Ok(_) => DONE,
+        Err(refused) => match refused.cause {
+            ExamineError::Image(verdict) => {
+                *place = verdict.place;
+                class_code(verdict.class)
+            }
+            ExamineError::OutOfMemory(_) => NO_MEMORY,
+            ExamineError::RegionTooSmall => unreachable!(),
+            ExamineError::ReadFault => unreachable!(),
+        },
     }
-    let Ok(region) = RawRegion::new(alloc, capacity_for(size)) else {
-        return Err(NO_MEMORY);
-    };
-    open_in(alloc, image, region, Mode::ReadOnly)
 }
 
 /// The size that the first bytes say, or 0 where they say none.

@@ -1,7 +1,7 @@
 //! Maps: values at keys, and neighbours.
 ghost use Rattle.std.specs.Prelude.{◌≡◌, ◌≤◌, Some};
 ghost use Rattle.seg_types.specs.Commands.{Lookup, Put, Remove};
-ghost use Rattle.seg_types.specs.Keys.{key_seen};
+ghost use Rattle.seg_types.specs.{Keys.key_seen, Written.literal_seen};
 ghost use Rattle.segment_c.specs.Calls.{IsAsked, Owes, Reads};
 ghost use Rattle.segment_c.specs.Codes.{answer_for};
 ghost use Rattle.segment_c.specs.Passed.{element_in, key_of, key_wrong, literal_in, or_else, value_wrong};
@@ -12,17 +12,15 @@ ghost use Rattle.segment_manager.specs.Directory.{Directory};
 ghost use Rattle.segment_manager.specs.Keeping.{KeepsWhere};
 ghost use Rattle.segment_manager.specs.State.{IsReply, IsStep, StandsFor};
 ghost use Rattle.segment_values.specs.Absent.{LacksLiteral};
-ghost use Rattle.segment_values.specs.Literals.{literal_seen};
 
 use crate::calls::{enter, enter_pair, enter_with, passed};
 use crate::codes::{ABSENT, DONE, NOT_FOUND, WRONG_KIND, code_of, truth, value_found};
 use crate::handle::{Handle, put};
 use crate::keys::ObjectKey;
 use crate::values::Value;
-use seg_types::{Key, Kind, ScalarValue};
+use seg_types::{Key, Kind, ScalarValue, Written};
 use segment_manager::conditioned::{first_pair, next_pair};
 use segment_manager::{Segment, locate};
-use segment_values::value_as;
 use std::alloc::Global;
 
 /// The value at a key of the map of a key.
@@ -41,7 +39,7 @@ pub extern "C" fn zx_map_get(
     ensures marks { h.new.marks ≡ h.old.marks }
 {
     let (which, wanted, segment) = passed!(enter_with(alloc, h, key, at));
-    let answer = segment_values::look_up(&segment, &which, wanted);
+    let answer = segment_values::look_up(&segment, &which, &wanted);
     value_found(answer, value, h, segment)
 }
 
@@ -62,7 +60,7 @@ pub extern "C" fn zx_map_put(
     ensures marks { IsMarked result h.old.marks h.new.marks }
 {
     let (which, new_key, new_value, mut segment) = passed!(enter_pair(alloc, h, key, at, value));
-    let answer = segment_values::put_pair(&mut segment, &which, new_key, new_value);
+    let answer = segment_values::put_pair(&mut segment, &which, &new_key, &new_value);
     truth(answer, is_new, h, segment)
 }
 
@@ -84,7 +82,7 @@ pub extern "C" fn zx_map_erase(
     ensures marks { IsMarked result h.old.marks h.new.marks }
 {
     let (which, gone, mut segment) = passed!(enter_with(alloc, h, key, at));
-    let answer = segment_values::erase_pair(&mut segment, &which, gone);
+    let answer = segment_values::erase_pair(&mut segment, &which, &gone);
     truth(answer, was_there, h, segment)
 }
 
@@ -149,7 +147,7 @@ fn next(segment: &Segment, key: &Key, after: ScalarValue, at: &mut Value, value:
     match locate(segment, key) {
         Err(_) => NOT_FOUND,
         Ok(object) => match object.kind {
-            Kind::Map(keys, values) => match value_as(keys, after) {
+            Kind::Map(keys, values) => match after.value_of(keys) {
                 Err(why) => code_of(why),
                 Ok(below) => pair_out(next_pair(segment, key, below, values), at, value),
             },

@@ -1,5 +1,5 @@
 //! Segments that become longer or shorter, and that move into other regions.
-ghost use Rattle.std.specs.Prelude.{◌≡◌, ◌<◌, ◌≤◌, ◌⊎◌, IfOk, Some, false, if◌then◌else◌, length, min, true};
+ghost use Rattle.std.specs.Prelude.{◌≡◌, ◌<◌, ◌≤◌, ◌⊎◌, Some, false, if◌then◌else◌, length, true};
 ghost use Rattle.std.specs.declared.option.Option.TheVariants.{Some as Held};
 ghost use Rattle.grow_shrink.specs.Resized.{growth_refusal, room_of, shrink_refusal};
 ghost use Rattle.raw_region.specs.Regions.{IsCapacity};
@@ -10,15 +10,14 @@ ghost use Rattle.segment_c.specs.Resizing.{IsMoved, size_code};
 ghost use Rattle.segment_c.specs.Marked.{IsMarked};
 ghost use Rattle.segment_manager.specs.Directory.{Directory};
 ghost use Rattle.segment_manager.specs.blocks.Resized.{Resizes, grown, shrunk};
-ghost use Rattle.segment_manager.specs.State.{IsSegment, StandsFor, State};
+ghost use Rattle.segment_manager.specs.State.{StandsFor, State};
 
 use crate::calls::passed;
 use crate::codes::{BAD_GROWTH, BAD_SIZE, DONE, NO_MEMORY, READ_ONLY, SHORT_REGION, TOO_LARGE};
 use crate::handle::{Handle, put_changed, take};
-use grow_shrink::{GrowError, GrowOrMoveError, grow_or_move};
-use raw_region::{OutOfMemory, RawRegion, Window};
+use grow_shrink::{GrowError, GrowOrMoveError, copy_into, grow_or_move};
+use raw_region::RawRegion;
 use segment_manager::Segment;
-use segment_manager::conditioned::adopt;
 use std::alloc::Global;
 
 /// The most bytes of a region.
@@ -104,32 +103,13 @@ fn relocate(alloc: Global, segment: &mut Segment, capacity: u64) -> u32
     if capacity < segment.as_bytes().len() as u64 {
         return SHORT_REGION;
     }
-    let Ok(copy) = copied(alloc, segment, capacity) else {
+    let Ok(region) = RawRegion::new(alloc, capacity) else {
         return NO_MEMORY;
     };
+    let copy = copy_into(segment, region);
     *segment = copy;
     DONE
 }
-
-/// The same segment at the front of a region of its own of `capacity` bytes, which has room for it.
-pub fn copied(alloc: Global, segment: &Segment, capacity: u64) -> Result<Segment, OutOfMemory>
-    requires capacity { IsCapacity capacity }
-    requires room { length segment.now.cut.bytes ≤ capacity }
-    ensures moved { IfOk result (λ copy. IsMoved segment.now copy capacity) }
-    ensures room { IfOk result (λ copy. capacity ≤ room_of copy.cut) }
-{
-    let region = RawRegion::new(alloc, capacity)?;
-    let image = segment.as_bytes();
-    let mut window = Window::new(region, 0, image.len() as u64);
-    window.write(0, image);
-    Ok(adopt(window, segment.mode()))
-}
-
-/// The most bytes that a segment has.
-const LARGEST: u64 = 1073741824;
-
-/// The fewest bytes of a segment with a block.
-const SMALLEST: u64 = 176;
 
 /// Makes the segment longer by `extra` bytes, which are free, in a larger region where its own has no room. One in memory
 /// that C lent stays there, with the code 27 where that has no room.
@@ -184,20 +164,4 @@ fn grow_here(segment: &mut Segment, extra: u64) -> u32
         Ok(()) => DONE,
         Err(why) => code_of_growth(why),
     }
-}
-
-/// The number of bytes of a segment, which denote a directory.
-pub fn size_of(segment: &Segment) -> u64
-    ensures size { result ≡ length segment.now.cut.bytes }
-    ensures denotes { IsSegment segment.now.cut.bytes }
-{
-    segment.as_bytes().len() as u64
-}
-
-/// The capacity of a region for a segment of so many bytes: a multiple of 16 from 176 to 1073741824.
-pub fn capacity_for(bytes: u64) -> u64
-    ensures capacity { IsCapacity result }
-    ensures room { min bytes 1073741824 ≤ result }
-{
-    bytes.clamp(SMALLEST, LARGEST).div_ceil(16) * 16
 }

@@ -13,7 +13,7 @@ use crate::calls::passed;
 use crate::codes::{DONE, NO_MEMORY, READ_ONLY, SHORT_REGION};
 use crate::handle::{Handle, put, put_changed, put_new, take};
 use crate::images::boxed_or_not;
-use crate::resizing::{capacity_for, copied, size_of};
+use grow_shrink::{copy_into, region_for, size_of};
 use raw_region::Window;
 use segment_manager::conditioned::adopt;
 use segment_manager::{Mode, Segment};
@@ -50,8 +50,8 @@ fn copy_of(alloc: Global, segment: &Segment) -> Result<Box<Segment>, u32>
     if is_read_only(segment) {
         return Err(READ_ONLY);
     }
-    match copied(alloc, segment, capacity_for(size_of(segment))) {
-        Ok(copy) => boxed_or_not(alloc, copy),
+    match region_for(alloc, size_of(segment)) {
+        Ok(region) => boxed_or_not(alloc, copy_into(segment, region)),
         Err(_) => Err(NO_MEMORY),
     }
 }

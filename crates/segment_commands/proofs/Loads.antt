@@ -26,31 +26,31 @@ legal-most : (n : ℕ) → is_legal_size n ≡ true → n ≤ 1073741824
 legal-most n e = grind (arith, nat_tests)
 
 -- a room for texts that is too small is told as want of memory
-long-alone : (cause : LoadError) → cause_but_bad cause ≡ Some load.LongText → load_fault cause ≡ Session OutOfMemory
-long-alone (load.BadDump bad) e = absurd (cc)
-long-alone load.BadSize e = absurd (cc)
-long-alone load.RegionTooSmall e = absurd (cc)
-long-alone load.NoSpace e = absurd (cc)
-long-alone load.LongText e = refl
+long-alone : (needed : ℕ) (cause : LoadError) → cause_but_bad cause ≡ Some load.LongText → load_fault needed cause ≡ Session OutOfMemory
+long-alone needed (load.BadDump bad) e = absurd (cc)
+long-alone needed load.BadSize e = absurd (cc)
+long-alone needed load.RegionTooSmall e = absurd (cc)
+long-alone needed load.NoSpace e = absurd (cc)
+long-alone needed load.LongText e = refl
 
-refused-by : (cause : LoadError) (legal short full long : Bool) → legal ≡ true → (short ≡ true → ⊥) → (full ≡ true → ⊥)
+refused-by : (needed : ℕ) (cause : LoadError) (legal short full long : Bool) → legal ≡ true → (short ≡ true → ⊥) → (full ≡ true → ⊥)
     → cause_but_bad cause ≡ (if not legal then Some load.BadSize else if short then Some load.RegionTooSmall else if full then Some load.NoSpace else if long then Some load.LongText else None)
     → ((if not legal then Some load.BadSize else if short then Some load.RegionTooSmall else if full then Some load.NoSpace else if long then Some load.LongText else None) ≡ None → ⊥)
-    → load_fault cause ≡ Session OutOfMemory
-refused-by cause false short full long l s f e n = absurd (false≢true l)
-refused-by cause true true full long l s f e n = absurd (s refl)
-refused-by cause true false true long l s f e n = absurd (f refl)
-refused-by cause true false false true l s f e n = long-alone cause e
-refused-by cause true false false false l s f e n = absurd (n refl)
+    → load_fault needed cause ≡ Session OutOfMemory
+refused-by needed cause false short full long l s f e n = absurd (false≢true l)
+refused-by needed cause true true full long l s f e n = absurd (s refl)
+refused-by needed cause true false true long l s f e n = absurd (f refl)
+refused-by needed cause true false false true l s f e n = long-alone needed cause e
+refused-by needed cause true false false false l s f e n = absurd (n refl)
 
 -- where a dump fits, and the region has room for the size that is wanted, only memory is lacking
-pub refused-fits : (text : List ℕ) (capacity : ℕ) (size : Option ℕ) (room wanted : ℕ) (refused : LoadRefused) → min wanted 1073741824 ≤ capacity → IsWanted text size wanted
-    → IsExact (without_notes text) capacity 0 size room (cause_but_bad refused.cause) → Succeeds (without_notes text) capacity 0 size room (Err refused) → IsFitting text size → load_fault refused.cause ≡ Session OutOfMemory
-refused-fits text capacity size room wanted refused roomy w exact succeeds f =
+pub refused-fits : (needed : ℕ) (text : List ℕ) (capacity : ℕ) (size : Option ℕ) (room wanted : ℕ) (refused : LoadRefused) → min wanted 1073741824 ≤ capacity → IsWanted text size wanted
+    → IsExact (without_notes text) capacity 0 size room (cause_but_bad refused.cause) → Succeeds (without_notes text) capacity 0 size room (Err refused) → IsFitting text size → load_fault needed refused.cause ≡ Session OutOfMemory
+refused-fits needed text capacity size room wanted refused roomy w exact succeeds f =
     let asked = asked_of size f.said in
     let needs = items_needs (portable f.directory) in
     let same : wanted ≡ asked = w f.said (portable f.directory) f.small f.dump in
-    refused-by refused.cause (is_legal_size asked) (nat_lt capacity (0 + asked)) (nat_lt asked needs.room) (nat_lt room needs.longest) f.legal
+    refused-by needed refused.cause (is_legal_size asked) (nat_lt capacity (0 + asked)) (nat_lt asked needs.room) (nat_lt room needs.longest) f.legal
     (λ e. omega (arith, ltb-true capacity (0 + asked) e, roomy, same, legal-most asked f.legal)) (λ e. omega (arith, ltb-true asked needs.room e, f.room))
     (exact.exact f.bytes f.directory f.said f.stands f.small f.dump) (λ e. succeeds.succeeds f.bytes f.directory f.said f.stands f.small f.dump e)
 

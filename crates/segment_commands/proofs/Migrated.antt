@@ -1,5 +1,5 @@
 -- An image of any of the three formats for which there is no room, and that is read on: why no segment is made of it.
-use Rattle.std.proofs.Common.{◌≡◌, ℕ, ◌++◌, inl, inr, List, length, false, Result, Ok, Err, refl, sym, ap, subst, ◌∙◌, arith}
+use Rattle.std.proofs.Common.{◌≡◌, ◌<◌, ◌≤◌, ℕ, ◌++◌, inl, inr, List, length, false, Result, Ok, Err, refl, sym, ap, subst, ◌∙◌, arith}
 use Rattle.std.proofs.lemmas.Bool.{lt-ltb}
 use Rattle.raw_region.specs.Device.{Gave, Given, Grows, given_since}
 use Rattle.raw_region.specs.Memory.{zeros}

@@ -1,6 +1,7 @@
 -- An image that says more bytes than its file was told to have, and is read on: how a session begins with it, and what is
 -- told of it.
 use Rattle.std.proofs.Common.{◌≡◌, ◌<◌, ◌≤◌, ℕ, inl, inr, List, length, Some, None, false, true, Result, Ok, Err, refl, sym, ap, subst, ◌∙◌, arith}
+use Rattle.std.specs.Prelude.{MatchResult}
 use Rattle.std.proofs.lemmas.Bool.{lt-ltb}
 use Rattle.raw_region.specs.Device.{Gave, Given, Grows, given_since}
 use Rattle.raw_region.specs.Format.{current}
@@ -45,11 +46,11 @@ module _ (old new : Gave) (front : List ℕ) (said : ℕ) (f : IsFrontOf old fro
   old-says : Says (format_of old.bytes) old.bytes said
   old-says = subst (λ (b : List ℕ). Says (format_of b) b said) (sym f.up_to.bytes_are) (let long = f.long in front-says (format_of front) front said (omega (arith, long)) e)
 
-  pub new-says : Says (format_of new.bytes) new.bytes said
+  new-says : Says (format_of new.bytes) new.bytes said
   new-says = subst (λ (format : ℕ). Says format new.bytes said) (sym (format-grown old.bytes new.bytes grows old-says.long))
       (says-grown old.bytes new.bytes grows old-says.long (format_of old.bytes) said old-says)
 
-  pub text-of : (text : List ℕ) → IsWhole said new text → IsTextOf new text
+  text-of : (text : List ℕ) → IsWhole said new text → IsTextOf new text
   text-of text w =
       let says : Says (format_of text) text said = subst (λ (b : List ℕ). Says (format_of b) b said) w.up_to.bytes_are new-says in
       record {
@@ -57,8 +58,13 @@ module _ (old new : Gave) (front : List ℕ) (said : ℕ) (f : IsFrontOf old fro
         says = subst (λ (n : ℕ). Says (format_of text) text n) (sym w.long) says;
       }
 
-  pub misread : (unfit : Unfit) → IsWhyNotWhole said new unfit → IsMisread new unfit
+  misread : (unfit : Unfit) → IsWhyNotWhole said new unfit → IsMisread new unfit
   misread unfit why = record { said = said; says = new-says; why = why }
+
+  pub read-as : {A : Type 0} (items : A → List ℕ) (result : Result A Unfit) → MatchResult result (λ text. IsWhole said new (items text)) (IsWhyNotWhole said new)
+      → MatchResult result (λ text. IsTextOf new (items text)) (IsWhyNoText old new)
+  read-as items (Ok text) w = text-of (items text) w
+  read-as items (Err unfit) why = inl (misread unfit why)
 
 -- ---- why there is no text, by the current format
 
@@ -87,10 +93,7 @@ module _ (new : Gave) (said : ℕ) (s : Says current new.bytes said) where
     subst (λ (c : ImageClass). class_of current new.bytes ≡ Some c) (sym t.0) (ends-early current new.bytes said s t.2.short),
     subst (λ (c : ImageClass). Shows current new.bytes c v.place) (sym t.0) t.1,
   )
-  told-whole (Fault fault) t = elim t.how [
-    inl r ↦ subst IsNoClass (sym r.0) no-read-class
-  | inr m ↦ subst IsNoClass (sym m.0) no-memory-class
-  ]
+  told-whole (Fault fault) t = elim t.how [ inl r ↦ subst IsNoClass (sym r.0) no-read-class | inr m ↦ subst IsNoClass (sym m.0) no-memory-class ]
 
   module _ (mode : Mode) where
     started : (fault : SessionFault) → IsWhyNotBegun OfImage image 0 said fault → BeginsIn OfImage mode image (Err fault)
@@ -117,9 +120,9 @@ module _ (new : Gave) (said : ℕ) (s : Says current new.bytes said) where
     begun-whole (Fault fault) t =
         let open_yet = undecided current new.bytes said s t.few in
         elim t.how [
-          inl r ↦ as_fault fault ReadFault r.0 (started ReadFault
-          (refl, record { failed = lt-ltb 0 new.failures r.1; open_class = (all_decided current new.bytes).none open_yet }))
-        | inr m ↦ as_fault fault OutOfMemory m.0 (inl (record { unread = inr (record { sound = sound m.1; undecided = open_yet }); refused = refl }))
+          | inl r ↦ as_fault fault ReadFault r.0 (started ReadFault
+              (refl, record { failed = lt-ltb 0 new.failures r.1; open_class = (all_decided current new.bytes).none open_yet }))
+          | inr m ↦ as_fault fault OutOfMemory m.0 (inl (record { unread = inr (record { sound = sound m.1; undecided = open_yet }); refused = refl }))
         ]
 
 -- ---- behind an image for which there was no room

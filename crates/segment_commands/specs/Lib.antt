@@ -12,4 +12,5 @@ pub mod Linting
 pub mod Reporting
 pub mod Explaining
 pub mod Loading
+pub mod LoadOver
 pub mod Reports

@@ -4,6 +4,7 @@ use Rattle.raw_region.specs.Device.{Gave, Given, given_since}
 use Rattle.block_tags.specs.Format.{is_legal_size}
 use Rattle.segment_manager.specs.Directory.{Directory}
 use Rattle.segment_manager.specs.State.{State, StandsFor}
+use Rattle.segment_dump.specs.Counting.{AreCountable}
 use Rattle.segment_dump.specs.Items.{Items, portable}
 use Rattle.segment_dump.specs.Loading.{IsLoaded, IsWhyNot, asked_of}
 use Rattle.segment_dump.specs.Need.{items_needs}
@@ -52,12 +53,16 @@ IsWhyUnread given ScriptTooLong = IsTooLong given
 -- ---- a segment that is made of it, but for the notes at its end
 
 -- why a load is refused, as the program answers it; the room for a text is memory
-abbrev pub load_fault : LoadError → ProgramFault
-load_fault (load.BadDump bad) = BadDump bad
-load_fault load.BadSize = Session BadSize
-load_fault load.RegionTooSmall = Session RegionTooSmall
-load_fault load.NoSpace = NoSpace
-load_fault load.LongText = Session OutOfMemory
+abbrev pub load_fault : ℕ → LoadError → ProgramFault
+load_fault needed (load.BadDump bad) = BadDump bad
+load_fault needed load.BadSize = Session BadSize
+load_fault needed load.RegionTooSmall = Session RegionTooSmall
+load_fault needed load.NoSpace = NoSpace needed
+load_fault needed load.LongText = Session OutOfMemory
+
+-- whatever objects the text is the dump of, they need so many bytes
+pub record NeedsRoom (text : List ℕ) (needed : ℕ) : Type 0 where
+  pub needs : (n : ℕ) (items : Items) → n < 2 ^ 64 → AreCountable items → without_notes text ≡ dump_text n items → needed ≡ (items_needs items).room
 
 -- the region has room for a segment of the size that was asked for
 abbrev pub HasRoomFor : Option ℕ → List ℕ → Type 0
@@ -72,7 +77,9 @@ pub record IsLoadRefused (text : List ℕ) (size : Option ℕ) (fault : ProgramF
   pub wide : min (length text) 1073741824 ≤ room
   pub cause : LoadError
   pub why : IsWhyNot (without_notes text) region 0 size room cause
-  pub fault_is : fault ≡ load_fault cause
+  pub needed : ℕ
+  pub needs : NeedsRoom text needed
+  pub fault_is : fault ≡ load_fault needed cause
 
 -- the text is the dump of the segment, or there is none: for a reason of the load, or since memory was refused
 abbrev pub LoadsSegment : List ℕ → Option ℕ → Result State ProgramFault → Type 0

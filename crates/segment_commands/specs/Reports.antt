@@ -70,6 +70,9 @@ dump_words dump.Unlike = codes "not as a dump has it"
 abbrev pub bad_dump_line : Bad → List ℕ
 bad_dump_line bad = codes "segment: dump refused: line " ++ (decimal bad.line ++ (codes ", column " ++ (decimal bad.column ++ (codes ": " ++ (dump_words bad.cause ++ (codes "\n" ++ []))))))
 
+abbrev pub no_space_line : ℕ → List ℕ
+no_space_line needed = codes "segment: no space: the objects need " ++ (decimal needed ++ (codes " bytes\n" ++ []))
+
 -- a wrong command line has been told of by whoever read it
 abbrev pub fault_text : ProgramFault → List ℕ
 fault_text Usage = []
@@ -79,7 +82,7 @@ fault_text Stopped = line (codes "stopped at an error, and nothing is saved")
 fault_text Misspelled = line (codes "some lines are no commands")
 fault_text (Growth e) = line (codes "growth refused: " ++ growth_name e)
 fault_text (BadDump bad) = bad_dump_line bad
-fault_text NoSpace = line (codes "no space")
+fault_text (NoSpace needed) = no_space_line needed
 fault_text (Session f) = line (session_words f)
 
 -- the line has no number in it
@@ -91,7 +94,7 @@ HasFixedLine Stopped = ⊤
 HasFixedLine Misspelled = ⊤
 HasFixedLine (Growth e) = ⊤
 HasFixedLine (BadDump bad) = ⊥
-HasFixedLine NoSpace = ⊤
+HasFixedLine (NoSpace needed) = ⊥
 HasFixedLine (Session f) = ⊤
 
 -- what a second line says of the file of a path, which stands there as a text of the language
@@ -125,7 +128,7 @@ status_of Stopped = 1
 status_of Misspelled = 1
 status_of (Growth e) = 1
 status_of (BadDump bad) = 1
-status_of NoSpace = 1
+status_of (NoSpace needed) = 1
 status_of (Session f) = session_status f
 
 -- ---- what goes out

@@ -2,7 +2,7 @@
 ghost use Rattle.std.specs.Prelude.{◌≡◌, ◌^◌, ◌-◌, ◌<◌, ℕ, true, false, Some};
 ghost use Rattle.block_tags.specs.Format.{is_legal_size};
 ghost use Rattle.segment_dump.specs.Loading.{IsAsked};
-ghost use Rattle.segment_commands.specs.Loading.{IsFitting, IsLoad, IsMadeIfGiven, IsSizeFit, IsWanted, LoadsDump, LoadsSegment, LoadsWhatFits, load_fault};
+ghost use Rattle.segment_commands.specs.Loading.{IsFitting, IsLoad, IsMadeIfGiven, IsSizeFit, IsWanted, LoadsDump, LoadsSegment, LoadsWhatFits, NeedsRoom, load_fault};
 
 use crate::creating::WRITE_FAULT;
 use crate::gathering::read_text;
@@ -12,7 +12,7 @@ use grow_shrink::region_for;
 use raw_region::Source;
 use segment_cli::SessionFault;
 use segment_disk::{Disk, Making, Presence};
-use segment_dump::{LoadError, said_size};
+use segment_dump::{LoadError, count_dump, said_size, without_notes};
 use segment_file::write_image;
 use segment_manager::Segment;
 use std::alloc::Global;
@@ -31,16 +31,26 @@ fn wanted_size(text: &[u8], size: Option<u64>) -> u64
     }
 }
 
-/// Why a load is refused, as the program answers it.
-fn fault_of(error: LoadError) -> ProgramFault
-    ensures { result ≡ load_fault error }
+/// Why a load is refused, as the program answers it, of a dump whose objects need so many bytes.
+fn fault_of(error: LoadError, needed: u64) -> ProgramFault
+    ensures { result ≡ load_fault needed error }
 {
     match error {
         LoadError::BadDump(bad) => ProgramFault::BadDump(bad),
         LoadError::BadSize => ProgramFault::Session(SessionFault::BadSize),
         LoadError::RegionTooSmall => ProgramFault::Session(SessionFault::RegionTooSmall),
-        LoadError::NoSpace => ProgramFault::NoSpace,
+        LoadError::NoSpace => ProgramFault::NoSpace(needed),
         LoadError::LongText => OUT_OF_MEMORY,
+    }
+}
+
+/// How many bytes a segment has at the least that has the objects of a dump.
+fn needed_by(text: &[u8]) -> u64
+    ensures { NeedsRoom text.now result }
+{
+    match count_dump(without_notes(text)) {
+        Ok(count) => count.needs.room,
+        Err(_) => 0,
     }
 }
 
@@ -58,7 +68,7 @@ fn segment_of(alloc: Global, text: &[u8], size: Option<u64>) -> Result<Segment, 
     let capacity = room.capacity();
     match segment_dump::load(text, room.bytes_mut(0, capacity), region, 0, size) {
         Ok(segment) => Ok(segment),
-        Err(refused) => Err(fault_of(refused.cause)),
+        Err(refused) => Err(fault_of(refused.cause, needed_by(text))),
     }
 }
 
@@ -74,7 +84,7 @@ fn is_unfit(size: Option<u64>) -> bool
 }
 
 /// A segment of the dump that a reader gives. A size that no segment has is refused before the dump is read.
-fn load_dump<S: Source>(
+pub(crate) fn load_dump<S: Source>(
     alloc: Global,
     size: Option<u64>,
     script: &mut S,
@@ -99,7 +109,7 @@ fn load_dump<S: Source>(
 ///
 /// `Exists` where something is there under the path. `BadSize` where no segment has the size. `ReadFault` where the
 /// dump can't be read, and `ScriptTooLong` where it has more than 17179869184 bytes. `BadDump` where it is no dump,
-/// with the place, and `NoSpace` where its objects do not fit the size. `OutOfMemory`. No file is made then.
+/// with the place, and `NoSpace` where its objects do not fit the size, with what they need. `OutOfMemory`. No file is made then.
 /// `WriteFault` where the file can't be made, takes not the whole image, or need not last.
 pub fn load<D: Disk, S: Source>(
     alloc: Global,

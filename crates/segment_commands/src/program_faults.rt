@@ -31,9 +31,9 @@ pub enum ProgramFault {
     /// A text is no dump.
     #[error("dump refused: {0}")]
     BadDump(BadDump),
-    /// The objects of a dump do not fit the size.
-    #[error("no space")]
-    NoSpace,
+    /// The objects of a dump do not fit the size: they need so many bytes.
+    #[error("no space: the objects need {0} bytes")]
+    NoSpace(u64),
     /// A session fails.
     #[error("{0}")]
     Session(SessionFault),

@@ -1,7 +1,7 @@
 //! What the program says of a fault, and the status that it ends with.
 ghost use Rattle.std.specs.Prelude.{◌≡◌, ◌++◌, ◌-◌, ◌^◌, ◌<◌, codes};
 ghost use Rattle.raw_region.specs.Device.{Writes};
-ghost use Rattle.segment_commands.specs.Reports.{HasFixedLine, Puts, bad_dump_line, dump_words, fault_text, growth_name, line, session_status, session_words, status_of, trouble_text, trouble_words};
+ghost use Rattle.segment_commands.specs.Reports.{HasFixedLine, Puts, bad_dump_line, dump_words, fault_text, growth_name, line, no_space_line, session_status, session_words, status_of, trouble_text, trouble_words};
 ghost use Rattle.segment_cli.specs.declared.faults.SessionFault.TheVariants.{Image};
 
 use crate::program_faults::ProgramFault;
@@ -59,17 +59,16 @@ fn session_line(fault: SessionFault) -> &'static [u8]
     }
 }
 
-/// The line of a fault; a wrong command line has none. That of a dump that is refused is put by its parts.
+/// The line of a fault; a wrong command line has none. Those of a dump that is refused are put by their parts.
 fn fault_line(fault: ProgramFault) -> &'static [u8]
     ensures { HasFixedLine fault → result.now ≡ fault_text fault }
 {
     match fault {
-        ProgramFault::Usage | ProgramFault::BadDump(_) => b"",
+        ProgramFault::Usage | ProgramFault::BadDump(_) | ProgramFault::NoSpace(_) => b"",
         ProgramFault::Exists => b"segment: file exists\n",
         ProgramFault::InUse => b"segment: file in use\n",
         ProgramFault::Stopped => b"segment: stopped at an error, and nothing is saved\n",
         ProgramFault::Misspelled => b"segment: some lines are no commands\n",
-        ProgramFault::NoSpace => b"segment: no space\n",
         ProgramFault::Growth(error) => growth_line(error),
         ProgramFault::Session(fault) => session_line(fault),
     }
@@ -112,6 +111,21 @@ fn put_bad_dump<S: Sink>(bad: BadDump, err: &mut S) -> Result<(), DeviceFault>
     )
 }
 
+/// Writes the line of a dump whose objects do not fit the size.
+fn put_no_space<S: Sink>(needed: u64, err: &mut S) -> Result<(), DeviceFault>
+    requires { (S.history err.old).failures < 2 ^ 64 - 1 }
+    ensures { Writes (S.history err.old) (S.history err.new) result (no_space_line needed) }
+{
+    put_pieces(
+        err,
+        &[
+            Piece::Bytes(b"segment: no space: the objects need "),
+            Piece::Number(needed),
+            Piece::Bytes(b" bytes\n"),
+        ],
+    )
+}
+
 /// Writes the line of a fault.
 fn put_fault<S: Sink>(fault: ProgramFault, err: &mut S) -> Result<(), DeviceFault>
     requires { (S.history err.old).failures < 2 ^ 64 - 1 }
@@ -119,6 +133,7 @@ fn put_fault<S: Sink>(fault: ProgramFault, err: &mut S) -> Result<(), DeviceFaul
 {
     match fault {
         ProgramFault::BadDump(bad) => put_bad_dump(bad, err),
+        ProgramFault::NoSpace(needed) => put_no_space(needed, err),
         _ => write_all(err, fault_line(fault)),
     }
 }
@@ -141,7 +156,7 @@ fn status_of(fault: ProgramFault) -> u8
 {
     match fault {
         ProgramFault::Growth(_) | ProgramFault::Stopped | ProgramFault::Misspelled => 1,
-        ProgramFault::BadDump(_) | ProgramFault::NoSpace => 1,
+        ProgramFault::BadDump(_) | ProgramFault::NoSpace(_) => 1,
         ProgramFault::Usage => 2,
         ProgramFault::Exists | ProgramFault::InUse => 3,
         ProgramFault::Session(fault) => session_status(fault),

@@ -142,7 +142,15 @@ pub fn grow<D: Disk, O: Output>(
         (λ held done. IsResize D.step held done path.now (making_of saving) O.history O.flushes out.old out.new
         (λ s d. growth_refusal s.mode d.size extra (room_of s.cut)) (λ d. grown d extra) result) result }
 {
-    resize_file(alloc, disk, path, Resize::Grow(extra), making_for(saving), extra, out)
+    resize_file(
+        alloc,
+        disk,
+        path,
+        Resize::Grow(extra),
+        making_for(saving),
+        extra,
+        out,
+    )
 }
 
 /// Makes the segment in a file as small as its last block lets it be, says its size, and then writes its image to the
@@ -163,5 +171,13 @@ pub fn shrink<D: Disk, O: Output>(
         (λ held done. IsResize D.step held done path.now (making_of saving) O.history O.flushes out.old out.new
         (λ s d. shrink_refusal s.mode) (λ d. shrunk d) result) result }
 {
-    resize_file(alloc, disk, path, Resize::Shrink, making_for(saving), 0, out)
+    resize_file(
+        alloc,
+        disk,
+        path,
+        Resize::Shrink,
+        making_for(saving),
+        0,
+        out,
+    )
 }

@@ -18,9 +18,10 @@ use std::rt::Files;
 use std::thread::sleep;
 use std::time::{Clock, Duration};
 
-/// How long a disk waits before it asks again for the right to write a file, and how often it asks in a second.
-const PAUSE: Duration = Duration::from_millis(50);
+/// After how many milliseconds a disk asks again for the right to write a file.
+const PAUSE: u64 = 50;
 
+/// How often it asks in a second.
 const TRIES: u64 = 20;
 
 /// The files of the system. A file is written through before it is closed, where it is one that can be.
@@ -155,7 +156,7 @@ impl<'a, R: Files<File = File> + AllocGlobal + Clock> Disk for HostDisk<'a, R> {
             if found.is_ok() {
                 break;
             }
-            sleep(self.files, PAUSE);
+            sleep(self.files, Duration::from_millis(PAUSE));
             found = lock(self.files, path);
         }
         let lock = found?;

@@ -1,5 +1,5 @@
 -- The command lines that are always understood.
-use Rattle.std.proofs.Common.{◌≡◌, refl, sym, subst, ap, ap₂, ◌∙◌, ℕ, ◌==◌, ◌&&◌, Bool, true, false, not, List, [], ◌∷◌, ◌++◌, Option, Some, None, codes, arith, inl, inr, drop, tt}
+use Rattle.std.proofs.Common.{◌≡◌, refl, sym, subst, ap, ap₂, ◌∙◌, ℕ, ◌==◌, ◌&&◌, Bool, true, false, not, List, [], ◌∷◌, ◌++◌, Option, Some, None, codes, arith, inl, inr, drop}
 use Rattle.std.specs.List.{list_all}
 use Rattle.std.specs.Prelude.{◌⊎◌, is_some, if◌then◌else◌, IsTrue, nat_le, option_map, option_and_then}
 use Rattle.std.proofs.lemmas.Bool.{and_parts}
@@ -245,10 +245,10 @@ abbrev app : App
 app = built command_line
 
 -- a walk that stopped takes all words
-stopped-passes : (s : Shape) (names : Names) (w : Walk) (name : Text) (seen words : List Text) → walk_passes s names (record w { stopped = Some (name, seen) }) words ≡ true
+stopped-passes : (s : Shape) (known : Names) (w : Walk) (name : Text) (seen words : List Text) → walk_passes s known (record w { stopped = Some (name, seen) }) words ≡ true
 unfolding walk_passes walked
-stopped-passes s names w name seen [] = refl
-stopped-passes s names w name seen (x ∷ xs) = stopped-passes s names w name (seen ++ x ∷ []) xs
+stopped-passes s known w name seen [] = refl
+stopped-passes s known w name seen (x ∷ xs) = stopped-passes s known w name (seen ++ x ∷ []) xs
 
 abbrev at_run : List Text → Walk
 at_run words = record (walk_from nothing_held) { stopped = Some (codes "run", words) }

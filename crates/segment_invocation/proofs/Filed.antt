@@ -1,10 +1,14 @@
 -- What is asked for by the name of a command, by its file and without one.
-use Rattle.std.proofs.Common.{◌≡◌, ap, Bool, true, false, List, Option, Some, None, codes, refl}
+use Rattle.std.proofs.Common.{◌≡◌, ◌∙◌, ap, Bool, true, false, List, [], Option, Some, None, codes, refl}
+use Rattle.std.specs.Prelude.{option_map, unwrap_or}
 use Rattle.std.specs.Prelude.{if◌then◌else◌}
 use Rattle.std.specs.Str.{bytes_eq}
 use Rattle.std.proofs.lemmas.Slice.Eq.{bytes_eq-Decides}
-use Rattle.clap.specs.Walk.{Row, Text, first_of}
-use Rattle.segment_invocation.specs.Invocations.{Asked, language, lint, asked_in}
+use Rattle.clap.specs.Matches.{matched_of, raw_values}
+use Rattle.clap.specs.Walk.{Row, Text, first_of, rows_of}
+use Rattle.clap.specs.declared.parser.matches.Found.{Found}
+use Rattle.clap.proofs.WalkLemmas.{raw_values-rows}
+use Rattle.segment_invocation.specs.Invocations.{Asked, language, lint, asked_in, list_of}
 
 module _ (name : Text) (rows : List Row) where
   pub lint_asked : bytes_eq name (codes "lint") ≡ true → asked_in name rows ≡ Some lint
@@ -16,6 +20,15 @@ module _ (name : Text) (rows : List Row) where
 neither : (b : Bool) (x y : Option Asked) → x ≡ None → y ≡ None → (if b then x else y) ≡ None
 neither true x y h k = h
 neither false x y h k = k
+
+-- ---- the values of a word that may stand there more than once
+
+module _ (f : Found) (id : Text) where
+  pub values_listed : (v : List Text) → Some v ≡ option_map raw_values (matched_of f id) → v ≡ list_of id (rows_of f)
+  values_listed v e = ap (λ o. unwrap_or o []) (e ∙ raw_values-rows f id)
+
+  pub none_listed : None ≡ option_map raw_values (matched_of f id) → [] ≡ list_of id (rows_of f)
+  none_listed e = ap (λ o. unwrap_or o []) (e ∙ raw_values-rows f id)
 
 -- every other command wants a file
 pub without_file : (name : Text) (rows : List Row) → bytes_eq name (codes "lint") ≡ false → bytes_eq name (codes "language") ≡ false

@@ -355,6 +355,7 @@ both-steps f m d q r =
     (option-steps run_leaf one.held idle 2 (codes "--size") (codes "size") d r refl refl refl)
 
 pub run-file : (f : Text) (saving : Saving) (strict numbered : Bool) → IsPlain f → IsAsk run_leaf run_words (f ∷ flag_words saving strict numbered) (said f None None saving strict numbered)
+unfolding walk_passes
 run-file f saving strict numbered p = run-behind f [] (after_file run_leaf f) (said f None None) saving strict numbered p
     (record { walk = refl; passes = refl }) (file-flagged f saving strict numbered)
 

@@ -25,7 +25,7 @@ use Rattle.segment_invocation.specs.declared.invocations.Invocation.TheVariants.
 use Rattle.segment_invocation.specs.declared.usage.InvocationFault.{InvocationFault}
 use Rattle.segment_invocation.specs.declared.usage.UsageError.{UsageError}
 use Rattle.segment_invocation.specs.declared.usage.UsageError.TheVariants.{Words, Command as NoCommand, File, Number}
-use Rattle.segment_invocation.specs.declared.usage.UsageError.TheVariants.{Mode, Size}
+use Rattle.segment_invocation.specs.declared.usage.UsageError.TheVariants.{Mode, Size, Script, Files}
 use Rattle.segment_invocation.specs.declared.usage.InvocationFault.TheVariants.{OutOfMemory, Usage}
 use Rattle.segment_invocation.proofs.CommandLines.{IsUnderstood, WantsVersion, free, simple as plain}
 
@@ -112,6 +112,8 @@ wrong_if words f n File e = (f, n, e)
 wrong_if words f n Number e = (f, n, e)
 wrong_if words f n (Mode nearest) e = (f, n, e)
 wrong_if words f n Size e = (f, n, e)
+wrong_if words f n Script e = (f, n, e)
+wrong_if words f n Files e = (f, n, e)
 
 pub read_wrong : (words : List Text) → fault_of command_line words ≡ [] → (found : Option (Text × List Row))
     → subcommand_of command_line words ≡ found → asked_of found ≡ None

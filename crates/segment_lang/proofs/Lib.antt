@@ -1,3 +1,4 @@
+mod WrittenValues
 mod TextItems
 mod Decimals
 mod LongLines

@@ -1,6 +1,6 @@
 -- What the types of the code stand for.
 use Rattle.std.specs.Prelude.{ℕ, ◌+◌, ◌*◌, ◌%◌, List, [], ◌∷◌, Option, option_and_then, option_map, map, find}
-use Rattle.std.specs.Prelude.{replicate}
+use Rattle.std.specs.Prelude.{◌≤◌, length, replicate, ⊤}
 use Rattle.raw_region.specs.Format.{current}
 use Rattle.seg_types.specs.Commands as asked
 use Rattle.seg_types.specs.Keys.{index_key_seen, key_seen, new_key_seen}
@@ -49,6 +49,11 @@ abbrev pub literal_of : Literal → asked.Literal
 literal_of (Whole z) = asked.Whole z
 literal_of (Truth b) = asked.Truth b
 literal_of (Quoted t) = asked.Quoted t
+
+-- a text of it has room where a line keeps one
+abbrev pub HasRoom : asked.Literal → Type 0
+HasRoom (asked.Quoted bs) = length bs ≤ 4096
+HasRoom l = ⊤
 
 -- a value as the code has it
 abbrev pub literal_held : asked.Literal → Literal

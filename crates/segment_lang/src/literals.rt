@@ -1,16 +1,15 @@
 //! Values as a line writes them.
 
 ghost use Rattle.std.specs.Prelude.{◌≡◌, option_map};
-ghost use Rattle.std.specs.Result.{result_ok};
-ghost use Rattle.seg_types.specs.Commands.{Whole, Truth, value_of_literal};
-ghost use Rattle.seg_types.specs.{Literals.IsValueOf, Values.scalar_of as scalar_in};
+ghost use Rattle.seg_types.specs.Values.{scalar_of as scalar_in};
 ghost use Rattle.segment_lang.specs.Words.{Bare, is, literal_of_word};
 ghost use Rattle.segment_lang.specs.Reading.{quoted_of, value_for};
-ghost use Rattle.segment_lang.specs.Seen.{literal_of, word_of};
+ghost use Rattle.segment_lang.specs.Seen.{HasRoom, literal_of, word_of};
 
+use crate::buffer::Text;
 use crate::numbers::{WholeNumber, whole_of};
 use crate::words::{Quoted, Word};
-use seg_types::{Refusal, ScalarKind, ScalarValue};
+use seg_types::{Refusal, ScalarKind, ScalarValue, Written, truth_as, whole_as};
 
 /// A value as a line writes it.
 #[derive(Drop)]
@@ -63,54 +62,33 @@ pub fn quoted_of(word: Word<'_>) -> Option<Quoted<'_>>
     }
 }
 
-/// The value of the kind that a whole number is. `bool` has none.
-fn whole_scalar(kind: ScalarKind, number: WholeNumber) -> Option<ScalarValue>
-    ensures { result ≡ option_map (scalar_in kind) (result_ok (value_of_literal kind (Whole number))) }
-{
-    match kind {
-        ScalarKind::Bool => None,
-        _ => ScalarValue::of_number(kind, number.get()),
-    }
-}
+impl Written for Literal<'_> {
+    type Room = Text;
 
-/// The value of the kind that `true` or `false` is: `bool` alone has one.
-fn truth_scalar(kind: ScalarKind, truth: bool) -> Option<ScalarValue>
-    ensures { result ≡ option_map (scalar_in kind) (result_ok (value_of_literal kind (Truth truth))) }
-{
-    match kind {
-        ScalarKind::Bool => Some(ScalarValue::Bool(truth)),
-        _ => None,
+    ghost literal = { literal_of };
+
+    ghost fits = { λ l. HasRoom (literal_of l) };
+
+    fn value_of(&self, kind: ScalarKind) -> Result<ScalarValue, Refusal> {
+        match self {
+            Literal::Whole(number) => whole_as(kind, number.get()),
+            Literal::Truth(truth) => truth_as(kind, *truth),
+            Literal::Quoted(_) => Err(Refusal::WrongKind),
+        }
+    }
+
+    fn text<'r>(&'r self, room: &'r mut Text) -> Option<&'r [u8]> {
+        match self {
+            Literal::Quoted(text) => Some(text.bytes(room)),
+            _ => None,
+        }
     }
 }
 
 /// The value of the kind that a word spells.
+#[tactic(auto, using(crate::proofs::WrittenValues::ok_value))]
 pub fn scalar_of(kind: ScalarKind, word: Word<'_>) -> Option<ScalarValue>
     ensures { result ≡ option_map (scalar_in kind) (value_for kind (word_of word.entry)) }
 {
-    match literal_of(word)? {
-        Literal::Whole(number) => whole_scalar(kind, number),
-        Literal::Truth(truth) => truth_scalar(kind, truth),
-        Literal::Quoted(_) => None,
-    }
-}
-
-/// The value of a kind that a literal is.
-///
-/// # Errors
-///
-/// `WrongKind` where the literal has another form, `OutOfRange` where it is a number outside the range of the kind.
-pub fn value_of(kind: ScalarKind, literal: Literal<'_>) -> Result<ScalarValue, Refusal>
-    ensures { IsValueOf kind (value_of_literal kind (literal_of literal.entry)) result }
-{
-    match literal {
-        Literal::Quoted(_) => Err(Refusal::WrongKind),
-        Literal::Truth(truth) => match kind {
-            ScalarKind::Bool => Ok(ScalarValue::Bool(truth)),
-            _ => Err(Refusal::WrongKind),
-        },
-        Literal::Whole(number) => match kind {
-            ScalarKind::Bool => Err(Refusal::WrongKind),
-            _ => ScalarValue::of_number(kind, number.get()).ok_or(Refusal::OutOfRange),
-        },
-    }
+    literal_of(word)?.value_of(kind).ok()
 }

@@ -3,17 +3,17 @@
 ghost use Rattle.std.specs.Prelude.{◌≡◌, option_map};
 ghost use Rattle.seg_types.specs.Commands as asked;
 ghost use Rattle.segment_lang.specs.Reading.{putting, with_key_literal};
-ghost use Rattle.seg_types.specs.{Keys.key_seen, Literals.IsPairOf, Literals.pair_of};
+ghost use Rattle.seg_types.specs.Keys.{key_seen};
 ghost use Rattle.segment_lang.specs.Arguments.{of_three, of_two, pair_at, putting_at};
 ghost use Rattle.segment_lang.specs.Seen.{command_of, literal_of as literal_seen};
 
 use crate::buffer::Text;
 use crate::commands::Command;
 use crate::keys::key_of;
-use crate::literals::{Literal, literal_of, value_of};
+use crate::literals::{Literal, literal_of};
 use crate::readers::key_and_literal;
 use crate::words::{next_word, three_words, two_words};
-use seg_types::{Key, Refusal, ScalarKind, ScalarValue};
+use seg_types::Key;
 use std::marker::Model;
 
 /// The two values of a pair. They are read from the line when they are asked for.
@@ -112,24 +112,4 @@ pub fn read_remove<'a>(bytes: &'a [u8], scratch: &'a mut Text) -> Option<Command
 {
     let (key, at) = key_and_literal(bytes, scratch)?;
     Some(Command::Remove { key, at })
-}
-
-/// The pair of two kinds that two literals are.
-///
-/// # Errors
-///
-/// `WrongKind` where one has another form, and else `OutOfRange` where one is a number outside the range of its kind.
-pub fn new_pair(
-    keys: ScalarKind,
-    values: ScalarKind,
-    at: Literal<'_>,
-    value: Literal<'_>,
-) -> Result<(ScalarValue, ScalarValue), Refusal>
-    ensures { IsPairOf keys values (pair_of keys values (literal_seen at.entry) (literal_seen value.entry)) result }
-{
-    match (value_of(keys, at), value_of(values, value)) {
-        (Ok(new_key), Ok(new_value)) => Ok((new_key, new_value)),
-        (Err(Refusal::WrongKind), _) | (_, Err(Refusal::WrongKind)) => Err(Refusal::WrongKind),
-        (Err(why), _) | (_, Err(why)) => Err(why),
-    }
 }

@@ -1,5 +1,5 @@
 -- Where a run stops: at a fault of a device, at the limit, or at the end.
-use Rattle.std.proofs.Common.{◌≡◌, ◌==◌, ℕ, ◌+◌, ◌<◌, ◌≤◌, min, nat_lt, nat_le, inl, inr, Bool, false, true, List, [], ◌∷◌, ◌++◌, length, take, drop, refl, sym, ap, subst, ◌∙◌, arith}
+use Rattle.std.proofs.Common.{◌≡◌, ◌==◌, ℕ, ◌+◌, ◌<◌, ◌≤◌, min, nat_lt, nat_le, inl, inr, Bool, false, true, Ok, List, [], ◌∷◌, ◌++◌, length, take, drop, refl, sym, ap, subst, ◌∙◌, arith}
 use Rattle.std.proofs.lemmas.List.{append_assoc, take_all, take-take, drop_all, length-take, length-drop, length-append, append-nil, length-take-le, take-append-drop}
 use Rattle.std.proofs.lemmas.Bool.{ne_eqb}
 use Rattle.std.proofs.lemmas.Bool.Decides.{nat_tests}
@@ -10,8 +10,10 @@ use Rattle.raw_region.proofs.Laws.{added, both_added}
 use Rattle.segment_scripts.specs.Run.{lines}
 use Rattle.segment_scripts.specs.Leaves.{answer_all, Answers, AnswersPart}
 use Rattle.segment_scripts.specs.Lines.{ended_lines, open_line, script_limit, executable}
-use Rattle.segment_scripts.specs.Behind.{kept, EndsAtLast, EndsIn, FailsIn, HasAnswered, HasStopped, IsBehind, IsStoppedAtLast}
-use Rattle.segment_scripts.specs.Stopping.{IsStoppedAt, goes_on}
+use Rattle.segment_scripts.specs.Behind.{kept, EndsAtLast, EndsIn, FailsIn, HasAnswered, HasStopped, IsBehind, IsStoppedAtLast, LeavesLast}
+use Rattle.segment_scripts.specs.declared.ends.End.{End}
+use Rattle.segment_scripts.specs.declared.ends.End.TheVariants.{Whole, Refused}
+use Rattle.segment_scripts.specs.Stopping.{IsStoppedAt, LeavesUntil, goes_on}
 use Rattle.segment_scripts.proofs.Kept.{at_most_or_more}
 use Rattle.segment_scripts.proofs.LineLaws.{ended_lines-end, lines-parts, last_lines, last-some, last-none}
 use Rattle.segment_scripts.proofs.RunLaws.{answers_one, stops_at, same_answer}
@@ -92,7 +94,22 @@ module _ {P : Type 0} (respond : P → List ℕ → List ℕ × P) where
     stands = h.stands;
   }
 
+  -- what was taken goes on from what was taken before
+  pub grows_answered : (start : P) (before : List ℕ) (ls : List (List ℕ)) (Stands : P → Type 0) (taken : List ℕ) → HasAnswered respond start before ls Stands taken → Grows before taken
+  grows_answered start before ls Stands taken h = h.prints ∙ ap (λ (t : List ℕ). before ++ t) (sym (added before taken (answer_all respond start ls).0 h.prints))
+
+  pub grows_stopped : (start : P) (before : List ℕ) (ls : List (List ℕ)) (l : List ℕ) (Stands : P → Type 0) (taken : List ℕ) → HasStopped respond start before ls l Stands taken → Grows before taken
+  grows_stopped start before ls l Stands taken h =
+      let told = (answer_all respond start ls).0 in
+      let front = take h.prints.count (respond (answer_all respond start ls).1 l).0 in
+      let all : taken ≡ before ++ (told ++ front) = h.prints.added ∙ append_assoc before told front in
+      all ∙ ap (λ (t : List ℕ). before ++ t) (sym (added before taken (told ++ front) all))
+
   module _ (stops : P → List ℕ → Bool) where
+    pub grows_last : (start : P) (before read : List ℕ) (Stands : P → Type 0) (taken : List ℕ) (end : End) → LeavesLast respond stops start before read Stands taken end → Grows before taken
+    grows_last start before read Stands taken Whole h = grows_answered start before (lines read) Stands taken h.answered
+    grows_last start before read Stands taken Refused h = grows_answered start before (ended_lines read ++ open_line read ∷ []) Stands taken h.ends.answered
+
     -- of these lines some were answered, and the answer to the next was cut
     pub printed_part : (start : P) (before : List ℕ) (all ls : List (List ℕ)) (l : List ℕ) (more : List (List ℕ)) (Stands : P → Type 0) (taken : List ℕ)
         → HasStopped respond start before ls l Stands taken → goes_on respond stops start ls ≡ true → all ≡ ls ++ l ∷ more → IsPartOn respond stops start all (drop (length before) taken) Stands
@@ -156,7 +173,7 @@ module _ {P : Type 0} (respond : P → List ℕ → List ℕ × P) where
     }
 
     -- the run ended behind the last line
-    pub stopped_at_end : (start : P) (before : List ℕ) (script : Given) (out : Taken) (Stands : P → Type 0) (taken : List ℕ)
+    stopped_at_end : (start : P) (before : List ℕ) (script : Given) (out : Taken) (Stands : P → Type 0) (taken : List ℕ)
         → script.ended ≡ true → length script.bytes ≤ script_limit
         → EndsAtLast respond stops start before script.bytes Stands taken
         → out.bytes ≡ drop (length before) taken → script.failed ≡ false → out.failed ≡ false
@@ -173,6 +190,24 @@ module _ {P : Type 0} (respond : P → List ℕ → List ℕ × P) where
       read = given;
       written = written;
     }
+
+    -- what the last line leaves is what the run leaves
+    pub until_last : (start : P) (before : List ℕ) (script : Given) (out : Taken) (Stands : P → Type 0) (taken : List ℕ) (end : End)
+        → script.ended ≡ true → length script.bytes ≤ script_limit
+        → LeavesLast respond stops start before script.bytes Stands taken end
+        → out.bytes ≡ drop (length before) taken → script.failed ≡ false → out.failed ≡ false
+        → LeavesUntil respond stops start script out Stands (Ok end)
+    until_last start before script out Stands taken Whole whole within h took given written = record {
+      ran = record {
+        whole = whole;
+        within = within;
+        answers = subst (λ (t : List ℕ). Answers respond start (lines script.bytes) t Stands) (sym took) (printed start before (lines script.bytes) Stands taken h.answered);
+        read = given;
+        written = written;
+      };
+      on = h.on;
+    }
+    until_last start before script out Stands taken Refused whole within h took given written = stopped_at_end start before script out Stands taken whole within h took given written
 
   -- more bytes came than were left
   pub cut_at_limit : (start : P) (before read piece : List ℕ) (left count within : ℕ) (bytes : List ℕ) (Stands : P → Type 0) (line taken : List ℕ)

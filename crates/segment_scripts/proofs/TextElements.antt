@@ -13,10 +13,7 @@ use Rattle.seg_types.specs.Names.{Key, ByHandle}
 use Rattle.seg_types.specs.Commands as asked
 use Rattle.seg_types.specs.Commands.{Command, Literal, Quoted, Truth, Whole}
 use Rattle.seg_vector.specs.Vector.{OwnedText}
-use Rattle.segment_lang.specs.declared.literals.Literal.{Literal as CodeLiteral}
-use Rattle.segment_lang.specs.declared.literals.Literal.TheVariants.{Whole as CodeWhole, Truth as CodeTruth}
-use Rattle.segment_lang.specs.declared.literals.Literal.TheVariants.{Quoted as CodeQuoted}
-use Rattle.segment_lang.specs.Seen.{literal_of}
+use Rattle.segment_lang.specs.Seen.{HasRoom}
 use Rattle.segment_manager.specs.declared.modes.Mode.{Mode}
 use Rattle.segment_manager.specs.declared.objects.targets.Object.{Object as Located}
 use Rattle.segment_manager.specs.Answers.{Answer, Done, Refused, TextElement, is_untouched, refusal_of}
@@ -33,15 +30,15 @@ use Rattle.segment_manager.specs.State.{refusal_in}
 use Rattle.segment_manager.specs.Step as step
 use Rattle.segment_manager.specs.Step.{changed, effect, is_read_only, step_of_kind, texts_of}
 use Rattle.segment_manager.proofs.ElementLaws.{IsOfKindAt, of_kind-steps, with-found, with-not_found}
-use Rattle.segment_manager.proofs.Laws.{step-same, step_of_kind-by_key}
-use Rattle.segment_scripts.specs.Changes.{Executes, IsTextElement}
+use Rattle.segment_manager.proofs.Laws.{step-same}
+use Rattle.segment_scripts.specs.Changes.{Executes}
 use Rattle.segment_scripts.specs.declared.replies.Answer.{Answer as Said}
 use Rattle.segment_scripts.specs.Replies.{answer_seen, bytes_taken, text_at, text_in, text_of}
 use Rattle.segment_scripts.specs.declared.answered.Answered.{Answered}
 use Rattle.segment_scripts.specs.Refusing.{AnswersFor}
 use Rattle.raw_region.specs.Device.{Took}
 use Rattle.segment_scripts.specs.Shown.{length_in}
-use Rattle.segment_manager.proofs.CommandLaws.{IsTexts, NoText, answered-reads, open-writing, refuses, step-effect}
+use Rattle.segment_manager.proofs.CommandLaws.{IsTexts, answered-reads, open-writing, refuses, step-effect}
 use Rattle.segment_manager.proofs.CommandLaws.{texts-if, told}
 use Rattle.segment_scripts.proofs.NewKinds.{kind-same}
 use Rattle.segment_scripts.proofs.Refusals.{answers-before}
@@ -130,13 +127,6 @@ module _ (s : State) (key : Key) (a : Answers s (λ d. kind_at d key) (Ok String
       ∙ sym (ap (λ (n : Answer × Directory). n.0) (step-effect s.mode d (asked.Pop key) (open-writing s.mode (asked.Pop key) writing))
       ∙ ap (λ p. (perform d (live d) p).0) (with-found d key o (λ o. step.pop d o o.value) (found d st).is ∙ ap (λ v. step.pop d o v) h.is))
 
--- ---- a literal that is no text
-
-pub no_quoted : (l : CodeLiteral) → ((q : List ℕ) → l ≡ CodeQuoted q → ⊥) → NoText (literal_of l)
-no_quoted (CodeWhole z) n bs e = absurd (cc)
-no_quoted (CodeTruth b) n bs e = absurd (cc)
-no_quoted (CodeQuoted q) n bs e = absurd (n q refl)
-
 -- ---- the text of a key, whatever the kind of its object is
 
 with-if : (d : Directory) (key : Key) (i : ℕ) (o : Object) (v : Value) (b : Bool) → same_kind StringsKind (kind_of v) ≡ b → object_at d key ≡ Some o → o.value ≡ v
@@ -175,21 +165,11 @@ asked-step mode d key i = ap (λ p. (perform d (live d) p).0) (read-only mode (i
 pub text-asked : (s : State) (key : Key) (i : ℕ) (answer : Answer) → IsReplyOfKind s key StringsKind (asked.Get key i) answer → (d : Directory) → StandsFor s.cut.bytes d → answer ≡ text_at d key i
 text-asked s key i answer r d st = r.answers d st ∙ asked-step s.mode d key i ∙ asked-if d key i (object_at d key) refl
 
--- a new text, put there under the handle of the vector
-module _ {s : State} {key : Key} {o : Located} (located : IsLocated s key o) {l : Literal} {bs : List ℕ} (h : IsTextElement s key l bs) {new : State} {answer : Answer} where
-  pub push-text : IsStepOfKind s new (ByHandle o.handle) StringsKind (asked.Push (ByHandle o.handle) (Quoted bs)) answer → IsStep s new (asked.Push key l) answer
-  push-text r =
-      subst (λ m. IsStep s new (asked.Push key m) answer) (sym h.is)
-      (of_kind-steps s new key StringsKind (asked.Push key (Quoted bs)) answer h.of_kind.is (step_of_kind-by_key s key o located new StringsKind (asked.Push key (Quoted bs)) answer r))
-
-  pub insert-text : (i : ℕ) → IsStepOfKind s new (ByHandle o.handle) StringsKind (asked.Insert (ByHandle o.handle) i (Quoted bs)) answer → IsStep s new (asked.Insert key i l) answer
-  insert-text i r =
-      subst (λ m. IsStep s new (asked.Insert key i m) answer) (sym h.is)
-      (of_kind-steps s new key StringsKind (asked.Insert key i (Quoted bs)) answer h.of_kind.is (step_of_kind-by_key s key o located new StringsKind (asked.Insert key i (Quoted bs)) answer r))
-
 -- a literal that takes no more bytes than a line has
-pub quoted-fits : (l : Literal) (bs : List ℕ) → l ≡ Quoted bs → bytes_taken (l ∷ []) ≤ 4097 → length bs ≤ 4096
-quoted-fits l bs e few = let same = ap (λ m. bytes_taken (m ∷ [])) e in omega arith
+pub has-room : (l : Literal) → bytes_taken (l ∷ []) ≤ 4097 → HasRoom l
+has-room (Whole z) few = tt
+has-room (Truth b) few = tt
+has-room (Quoted bs) few = omega arith
 
 -- no object has the key
 pub get-missing : (s : State) (key : Key) (why : Refusal) → IsMissing s key why → (i : ℕ) (d : Directory) → StandsFor s.cut.bytes d → Refused why ≡ (step.step s.mode d (asked.Get key i)).0

@@ -1,36 +1,17 @@
 -- Elements that a line changes: the kind of the object says which call it is.
-use Rattle.std.specs.Prelude.{◌≡◌, ℕ, ℤ, true, Ok, Err, Result, List, map, IsTrue}
+use Rattle.std.specs.Prelude.{◌≡◌, ℤ, true, Ok, Err, Result, List, map, IsTrue}
 use Rattle.std.specs.List.{list_all}
-use Rattle.seg_types.specs.declared.kinds.Kind.TheVariants.{Strings}
 use Rattle.seg_types.specs.declared.kinds.ScalarKind.{ScalarKind}
 use Rattle.seg_types.specs.declared.refusals.Refusal.{Refusal}
 use Rattle.seg_types.specs.Kinds.{is_value}
-use Rattle.seg_types.specs.Names.{Key}
-use Rattle.seg_types.specs.Commands.{Command, Literal, Quoted}
-use Rattle.segment_manager.specs.declared.objects.targets.Object.{Object}
+use Rattle.seg_types.specs.Commands.{Command, Literal}
 use Rattle.segment_manager.specs.Answers.{is_untouched}
 use Rattle.segment_manager.specs.Directory.{Directory}
-use Rattle.segment_manager.specs.objects.Located.{IsLocated}
 use Rattle.segment_manager.specs.State.{State, StandsFor, Stays}
-use Rattle.segment_scripts.specs.declared.changing.NewElement.{NewElement}
-use Rattle.segment_scripts.specs.declared.changing.NewElement.TheVariants.{Scalar as ScalarElement, Text as TextElement}
 use Rattle.segment_manager.specs.Step.{step}
 use Rattle.seg_types.specs.Literals.{values_of}
--- the object that is to be changed, and what a literal of the line is for it
-pub use Rattle.segment_manager.proofs.CommandLaws.{IsChangeable, IsElement, IsNoElement, IsToChange, IsUnchangeable}
-
--- the literal is a text for the vector of strings of the key
-pub record IsTextElement (s : State) (key : Key) (l : Literal) (bs : List ℕ) : Type 0 where
-  pub of_kind : IsChangeable s key Strings
-  pub is : l ≡ Quoted bs
-
-abbrev pub IsNewElement : State → Key → Literal → NewElement → Type 0
-IsNewElement s key l (ScalarElement v) = IsElement s key l v
-IsNewElement s key l (TextElement bs) = IsTextElement s key l bs
-
--- with the vector
-abbrev pub IsNew : State → Key → Literal → Object × NewElement → Type 0
-IsNew s key l (o, e) = IsLocated s key o × IsNewElement s key l e
+-- the object that is to be changed
+pub use Rattle.segment_manager.proofs.CommandLaws.{IsChangeable, IsToChange}
 
 -- the values that literals are for a vector of a kind, as a type has them in a row, or why they are none
 abbrev pub ReadsInto : {T : Type 0} → ScalarKind → (T → ℤ) → List Literal → List T → Result (Unit {0}) Refusal → Type 0

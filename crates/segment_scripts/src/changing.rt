@@ -1,192 +1,23 @@
-//! Vectors and strings that a line changes: the kind of the object says which call it is.
-ghost use Rattle.std.specs.Prelude.{◌≡◌, ◌≤◌, ◌∷◌, [], MatchResult, OnErr, length, map};
+//! Vectors, strings and maps that a line changes: the kind of the object says which call it is.
+ghost use Rattle.std.specs.Prelude.{◌≡◌, ◌≤◌, OnErr, length, map};
 ghost use Rattle.seg_types.specs.declared.kinds.Kind.TheVariants.{String as StringKind, Strings as StringsKind};
 ghost use Rattle.seg_types.specs.declared.kinds.Kind.TheVariants.{Vector as VectorOf};
-ghost use Rattle.seg_types.specs.Commands.{Append, Assign, Clear, Erase, Insert, Push};
-ghost use Rattle.seg_types.specs.Commands.{Quoted as AskedQuoted, Reserve, Shrink, literal_of as literal_for};
+ghost use Rattle.seg_types.specs.Commands.{Append, Assign, Clear, Put, Quoted as AskedQuoted, Reserve, Shrink};
 ghost use Rattle.seg_types.specs.Keys.{key_seen};
 ghost use Rattle.seg_types.specs.Names.{ByHandle};
-ghost use Rattle.seg_types.specs.Values.{kind_of_scalar, value_of_scalar};
-ghost use Rattle.segment_lang.specs.Seen.{literal_of};
 ghost use Rattle.segment_manager.specs.objects.Located.{IsObject};
 ghost use Rattle.segment_manager.specs.Keeping.{HasPlaces, KeepsWhere};
-ghost use Rattle.segment_manager.specs.State.{IsStep, IsStepOfKind, KeepsRefused, done_answer};
-ghost use Rattle.segment_scripts.specs.Changes.{IsChangeable, IsNew, IsNoElement, IsToChange, IsUnchangeable};
+ghost use Rattle.segment_manager.specs.State.{IsStep, IsStepOfKind, KeepsRefused, done_answer, truth_answer};
+ghost use Rattle.segment_scripts.specs.Changes.{IsChangeable};
 ghost use Rattle.segment_scripts.specs.Replies.{bytes_taken};
 
 use crate::machine::Room;
 use crate::rows::{Row, Rows, literal_row, on_row, only_text};
 use crate::text_rows::{FEW, TextRow, literal_texts};
-use seg_types::{Key, Kind, Refusal, Scalar, ScalarKind, ScalarValue, by_kind, by_value};
-use segment_lang::{Literal, Literals, Quoted, Text, value_of};
-use segment_manager::{Mode, Object, Segment, locate};
-
-/// A new element of a vector.
-#[derive(Drop)]
-pub enum NewElement<'a> {
-    /// A scalar, for a vector of scalars of its kind.
-    Scalar(ScalarValue),
-    /// A text, for a vector of strings.
-    Text(Quoted<'a>),
-}
-
-/// The object of a key, which is to be changed.
-///
-/// # Errors
-///
-/// `ReadOnly` where the segment is open for reading, and else `NotFound` where no object has the key.
-pub fn object_to_change(segment: &Segment, key: &Key) -> Result<Object, Refusal>
-    ensures { MatchResult result (IsToChange segment.now (key_seen key.now)) (IsUnchangeable segment.now (key_seen key.now)) }
-{
-    if segment.mode() == Mode::ReadOnly {
-        return Err(Refusal::ReadOnly);
-    }
-    locate(segment, key)
-}
-
-/// The vector of a key, and what a literal is as an element of it.
-///
-/// # Errors
-///
-/// `ReadOnly` where the segment is open for reading, and else `NotFound` where no object has the key, `WrongKind` where
-/// it is no vector or the literal has not the form of its elements, `OutOfRange` where the literal is not in their
-/// range.
-fn new_element<'a>(
-    segment: &Segment,
-    key: &Key,
-    literal: Literal<'a>,
-) -> Result<(Object, NewElement<'a>), Refusal>
-    ensures { MatchResult result (IsNew segment.now (key_seen key.now) (literal_of literal.entry)) (IsNoElement segment.now (key_seen key.now) (literal_of literal.entry)) }
-{
-    let object = object_to_change(segment, key)?;
-    match object.kind {
-        Kind::Vector(element) => {
-            let value = value_of(element, literal)?;
-            Ok((object, NewElement::Scalar(value)))
-        }
-        Kind::Strings => match literal {
-            Literal::Quoted(text) => Ok((object, NewElement::Text(text))),
-            _ => Err(Refusal::WrongKind),
-        },
-        _ => Err(Refusal::WrongKind),
-    }
-}
-
-/// Puts the value that a literal is behind the last element of the vector of a key.
-///
-/// # Errors
-///
-/// `ReadOnly` where the segment is open for reading, and else `NotFound` where no object has the key, `WrongKind` where
-/// it is no vector or the literal has not the form of its elements, `OutOfRange` where the literal is not in their
-/// range, and nothing changes; `NoSpace` where the vector is full and its storage cannot be regrown, or a text has no
-/// fit: the objects are as before.
-#[inline(never)]
-pub fn push(
-    segment: &mut Segment,
-    key: &Key,
-    literal: Literal<'_>,
-    room: &mut Room,
-) -> Result<(), Refusal>
-    requires { bytes_taken (literal_of literal ∷ []) ≤ 4097 }
-    ensures step { IsStep segment.old segment.new (Push (key_seen key.now) (literal_of literal.entry)) (done_answer result) }
-    ensures refused { KeepsRefused segment.old segment.new result }
-{
-    let (object, element) = new_element(segment, key, literal)?;
-    match element {
-        NewElement::Scalar(value) => push_value(segment, object, value),
-        NewElement::Text(text) => segment.texts_push(&object, text.bytes(&mut room.text)),
-    }
-}
-
-/// Puts a value behind the last element of a vector, a vector of the value's kind.
-fn push_value(segment: &mut Segment, object: Object, value: ScalarValue) -> Result<(), Refusal>
-    requires { IsObject object segment.old }
-    ensures step { IsStepOfKind segment.old segment.new (ByHandle object.handle) (VectorOf (kind_of_scalar value))
-        (Push (ByHandle object.handle) (literal_for (kind_of_scalar value) (value_of_scalar value))) (done_answer result) }
-    ensures refused { OnErr result (segment.new ≡ segment.old) }
-{
-    by_value!(value, it => segment.vec_push(&object, it))
-}
-
-/// Puts the value that a literal is where `index` others stand before it in the vector of a key.
-///
-/// # Errors
-///
-/// `ReadOnly` where the segment is open for reading, and else `NotFound` where no object has the key, `WrongKind` where
-/// it is no vector or the literal has not the form of its elements, `OutOfRange` where the literal is not in their
-/// range or there are not so many others, and nothing changes; `NoSpace` where the vector is full and its storage
-/// cannot be regrown, or a text has no fit: the objects are as before.
-#[inline(never)]
-pub fn insert(
-    segment: &mut Segment,
-    key: &Key,
-    index: u64,
-    literal: Literal<'_>,
-    room: &mut Room,
-) -> Result<(), Refusal>
-    requires { bytes_taken (literal_of literal ∷ []) ≤ 4097 }
-    ensures step { IsStep segment.old segment.new (Insert (key_seen key.now) index (literal_of literal.entry)) (done_answer result) }
-    ensures refused { KeepsRefused segment.old segment.new result }
-{
-    let (object, element) = new_element(segment, key, literal)?;
-    match element {
-        NewElement::Scalar(value) => insert_value(segment, object, index, value),
-        NewElement::Text(text) => segment.texts_insert(&object, index, text.bytes(&mut room.text)),
-    }
-}
-
-/// Puts a value into a vector, a vector of the value's kind.
-fn insert_value(
-    segment: &mut Segment,
-    object: Object,
-    index: u64,
-    value: ScalarValue,
-) -> Result<(), Refusal>
-    requires { IsObject object segment.old }
-    ensures step { IsStepOfKind segment.old segment.new (ByHandle object.handle) (VectorOf (kind_of_scalar value))
-        (Insert (ByHandle object.handle) index (literal_for (kind_of_scalar value) (value_of_scalar value))) (done_answer result) }
-    ensures refused { OnErr result (segment.new ≡ segment.old) }
-{
-    by_value!(value, it => segment.vec_insert(&object, index, it))
-}
-
-/// Leaves out the element at `index` in the vector of a key.
-///
-/// # Errors
-///
-/// `ReadOnly` where the segment is open for reading, and else `NotFound` where no object has the key, `WrongKind` where
-/// it is no vector, `OutOfRange` where it has no element there. Nothing changes.
-#[inline(never)]
-pub fn erase(segment: &mut Segment, key: &Key, index: u64) -> Result<(), Refusal>
-    ensures step { IsStep segment.old segment.new (Erase (key_seen key.now) index) (done_answer result) }
-    ensures refused { OnErr result (segment.new ≡ segment.old) }
-{
-    let object = object_to_change(segment, key)?;
-    match object.kind {
-        Kind::Vector(element) => erase_element(segment, object, element, index),
-        Kind::Strings => segment.texts_erase(&object, index),
-        _ => Err(Refusal::WrongKind),
-    }
-}
-
-/// Leaves out an element of a vector, a vector of scalars of a kind.
-fn erase_element(
-    segment: &mut Segment,
-    object: Object,
-    kind: ScalarKind,
-    index: u64,
-) -> Result<(), Refusal>
-    requires { IsObject object segment.old }
-    ensures step { IsStepOfKind segment.old segment.new (ByHandle object.handle) (VectorOf kind) (Erase (ByHandle object.handle) index) (done_answer result) }
-    ensures refused { OnErr result (segment.new ≡ segment.old) }
-{
-    macro_rules! erase {
-        ($type:ty, $kind:ident) => {
-            segment.vec_erase::<$type, Object>(&object, index)
-        };
-    }
-    by_kind!(kind, erase)
-}
+use seg_types::{Key, Kind, Refusal, Scalar, ScalarKind};
+use segment_lang::{Literals, Pair, Quoted, Text};
+use segment_manager::{Object, Segment};
+use segment_values::{object_to_change, put_pair};
 
 /// Makes values those of the vector of a key, or one text the bytes of the string of a key.
 ///
@@ -363,4 +194,17 @@ pub fn clear(segment: &mut Segment, key: &Key) -> Result<(), Refusal>
     ensures refused { OnErr result (segment.new ≡ segment.old) }
 {
     segment.clear(key)
+}
+
+/// Puts the pair that a line writes into the map of a key, and answers whether its key is new.
+///
+/// # Errors
+///
+/// As `put_pair`. Nothing changes.
+pub fn put_written_pair(segment: &mut Segment, key: &Key, pair: Pair<'_>) -> Result<bool, Refusal>
+    ensures step { IsStep segment.old segment.new (Put (key_seen key.now) pair.entry.0 pair.entry.1) (truth_answer result) }
+    ensures refused { OnErr result (segment.new ≡ segment.old) }
+{
+    let (at, value) = pair.literals();
+    put_pair(segment, key, &at, &value)
 }

@@ -7,14 +7,13 @@ ghost use Rattle.segment_manager.specs.containers.Maps.{any_value_answer};
 ghost use Rattle.segment_manager.specs.State.{done_answer, gone_answer, handle_answer, scalar_answer, truth_answer};
 ghost use Rattle.segment_scripts.specs.Replies.{IsMeant, Replies, answer_seen, has_element};
 
-use crate::changing::{append, assign, clear, erase, insert, push, reserve, shrink};
+use crate::changing::{append, assign, clear, put_written_pair, reserve, shrink};
 use crate::constructing::{construct, construct_it, find_or_construct};
 use crate::machine::Room;
-use crate::pairs::{lookup, put_written_pair, remove};
-use crate::setting::set;
 use seg_types::{Handle, Key, Refusal, ScalarValue};
 use segment_lang::Command;
 use segment_manager::Segment;
+use segment_values::{Spot, add, erase, erase_pair, look_up, set};
 
 /// What a command is answered: all of it where it is short, and where it is long, of what the segment is to be asked.
 #[derive(Drop)]
@@ -69,10 +68,16 @@ pub fn reply<'a>(segment: &mut Segment, command: Command<'a>, room: &mut Room) -
         Command::Show(key) => Answer::Shown(key),
         Command::Info(key) => Answer::Told(key),
         Command::Get { .. } => unreachable!(),
-        Command::Set { key, index, value } => done(set(segment, &key, index, value, room)),
-        Command::Push { key, value } => done(push(segment, &key, value, room)),
+        Command::Set { key, index, value } => {
+            done(set(segment, &key, index, &value, &mut room.text))
+        }
+        Command::Push { key, value } => {
+            done(add(segment, &key, Spot::End, &value, &mut room.text))
+        }
         Command::Pop(_) => unreachable!(),
-        Command::Insert { key, index, value } => done(insert(segment, &key, index, value, room)),
+        Command::Insert { key, index, value } => {
+            done(add(segment, &key, Spot::Before(index), &value, &mut room.text))
+        }
         Command::Erase { key, index } => done(erase(segment, &key, index)),
         Command::Reserve { key, count } => done(reserve(segment, &key, count)),
         Command::Shrink(key) => done(shrink(segment, &key)),
@@ -80,8 +85,8 @@ pub fn reply<'a>(segment: &mut Segment, command: Command<'a>, room: &mut Room) -
         Command::Assign { key, values } => done(assign(segment, &key, values, room)),
         Command::Append { key, text } => done(append(segment, &key, text, &mut room.text)),
         Command::Put { key, pair } => truth(put_written_pair(segment, &key, pair)),
-        Command::Lookup { key, at } => value_found(lookup(segment, &key, at)),
-        Command::Remove { key, at } => truth(remove(segment, &key, at)),
+        Command::Lookup { key, at } => value_found(look_up(segment, &key, &at)),
+        Command::Remove { key, at } => truth(erase_pair(segment, &key, &at)),
         Command::ListNames => Answer::Names,
         Command::ListKinds => Answer::Kinds,
         Command::Blocks => Answer::Blocks,

@@ -8,8 +8,8 @@ ghost use Rattle.segment_scripts.specs.Changes.{ReadsInto};
 ghost use Rattle.segment_scripts.specs.Replies.{bytes_taken};
 
 use seg_types::theorems::scalar_is_number;
-use seg_types::{Refusal, Scalar, ScalarValue};
-use segment_lang::{Literal, Literals, Text, Values, value_of};
+use seg_types::{Refusal, Scalar, ScalarValue, Written};
+use segment_lang::{Literal, Literals, Text, Values};
 use std::marker::Model;
 
 /// The most values that a line has: each takes a byte, and another parts it from the next.
@@ -156,7 +156,7 @@ pub fn literal_row<T: Scalar>(literals: Literals<'_>, row: &mut Row<T>) -> Resul
     row.clear();
     let mut fits = true;
     'literals: for literal in literals {
-        match value_of(T::kind(), literal) {
+        match literal.value_of(T::kind()) {
             Ok(value) => {
                 if fits {
                     row.push(as_type(value));

@@ -137,8 +137,8 @@ fn read_lines<M: Machine, S: Source, W: Sink, F: Follower<W>>(
         (given_since (S.history script.old) (S.history script.new))
         (taken_since (W.history out.old) (W.history out.new))
         (M.stands machine.new) fault) }
-    ensures out_grows { OnErr result ((start : M.Place) → M.stands machine.old start
-        → Grows (W.history out.old).bytes (W.history out.new).bytes) }
+    ensures out_grows { (start : M.Place) → M.stands machine.old start
+        → Grows (W.history out.old).bytes (W.history out.new).bytes }
     ensures devices { UsesDevices (S.history script.old) (S.history script.new)
         (W.history out.old) (W.history out.new) result }
 {

@@ -11,9 +11,7 @@ ghost use Rattle.segment_scripts.specs.Segments.{IsAt, Place, Responds, answer_l
 ghost use Rattle.segment_scripts.specs.LongLines.{answer_line-long, refuses_line-long};
 
 use crate::answered::Answered;
-use crate::changing::push;
 use crate::machine::{Machine, Scratch};
-use crate::pairs::put;
 use crate::popping::pop;
 use crate::printing::put_answer;
 use crate::replies::{done, reply, truth};
@@ -24,6 +22,7 @@ use segment_lang::{
     key_and_pair, lead_of, put_number_line, put_pieces, read_command,
 };
 use segment_manager::Segment;
+use segment_values::{Spot, add, put_pair};
 
 impl Machine for Segment {
     ghost Place = { Place };
@@ -114,7 +113,8 @@ fn answer_push<W: Sink>(
 {
     match key_and_literal(rest, &mut scratch.name) {
         Some((key, value)) => {
-            let answer = done(push(segment, &key, value, &mut scratch.room));
+            let room = &mut scratch.room.text;
+            let answer = done(add(segment, &key, Spot::End, &value, room));
             put_answer(segment, answer, out)
         }
         None => put_wrong(LineError::BadSyntax, out),
@@ -134,7 +134,7 @@ fn answer_put<W: Sink>(
 {
     match key_and_pair(rest, &mut scratch.name) {
         Some((key, at, value)) => {
-            let answer = truth(put(segment, &key, at, value));
+            let answer = truth(put_pair(segment, &key, &at, &value));
             put_answer(segment, answer, out)
         }
         None => put_wrong(LineError::BadSyntax, out),

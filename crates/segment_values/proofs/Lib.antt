@@ -1,9 +1,11 @@
 mod AbsentPairs
 mod Exits
-mod NoTexts
+mod NewElements
+pub mod NoTexts
 mod RangeBytes
 mod RangeLists
 mod RangeObjects
 mod RangeReads
 mod RangeRows
+mod RangeRuns
 mod RangeWrites

@@ -1,8 +1,7 @@
 -- The literal of a scalar is no text.
 use Rattle.seg_types.specs.declared.values.ScalarValue.{ScalarValue}
 use Rattle.seg_types.specs.declared.values.ScalarValue.TheVariants.{Bool, U8, I32, I64, U64}
-use Rattle.segment_manager.proofs.CommandLaws.{NoText}
-use Rattle.segment_values.specs.Literals.{literal_seen}
+use Rattle.seg_types.specs.Written.{NoText, literal_seen}
 
 pub seen-no_text : (v : ScalarValue) → NoText (literal_seen v)
 seen-no_text (Bool b) bs e = absurd (cc)

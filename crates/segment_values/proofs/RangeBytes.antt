@@ -7,8 +7,9 @@ use Rattle.raw_region.specs.Memory.{Memory, SameBut, bytes_of}
 use Rattle.raw_region.proofs.Laws.{SameBut-trans, SameBut-wider}
 use Rattle.best_fit.specs.Extents.{handle}
 use Rattle.seg_types.specs.declared.kinds.Kind.{Kind}
-use Rattle.seg_types.specs.declared.kinds.Kind.TheVariants.{Scalar}
+use Rattle.seg_types.specs.declared.kinds.Kind.TheVariants.{Scalar, Strings}
 use Rattle.seg_types.specs.declared.kinds.ScalarKind.{ScalarKind}
+use Rattle.seg_types.specs.declared.kinds.ScalarKind.TheVariants.{Bool as BoolKind, U8, I32, I64, U64}
 use Rattle.seg_types.specs.declared.refusals.Refusal.{Refusal}
 use Rattle.seg_types.specs.declared.refusals.Refusal.TheVariants.{NotFound, OutOfRange, WrongKind}
 use Rattle.seg_types.specs.Kinds.{same_kind, scalar_code, size_of}
@@ -191,3 +192,20 @@ pub element-by_key : (s t : State) (key : Key) (o : Located) → IsLocated s key
     → ChangesElement s t (ByHandle o.handle) k i → ChangesElement s t key k i
 element-by_key s t key o l k i m = λ d st.
     subst (λ (r : Option Object). But s t (size_of k) (place_of r k i)) (sym (same-object s key o l d st)) (m d st)
+
+-- a vector of strings has no such element
+no_array : (k : ScalarKind) → same_kind (Scalar k) Strings ≡ false
+no_array BoolKind = refl
+no_array U8 = refl
+no_array I32 = refl
+no_array I64 = refl
+no_array U64 = refl
+
+pub element-text : (s t : State) (key : Key) (o : Located) → IsLocated s key o → o.kind ≡ Strings → (i : ℕ)
+    → (r : Result (Unit {0}) Refusal) → OnOk r ((k : ScalarKind) → ChangesElement s t key k i)
+element-text s t key o l is i (Ok u) = λ k d st.
+    let p = said-at s key o l d st in
+    let own : kind_of p.object.value ≡ Strings = ap (λ (q : Located). q.kind) (sym p.said) ∙ is in
+    let none = place-other k p.object i (ap (same_kind (Scalar k)) own ∙ no_array k) in
+    subst (But s t (size_of k)) (sym (ap (λ (r : Option Object). place_of r k i) p.is ∙ none)) tt
+element-text s t key o l is i (Err why) = tt

@@ -32,10 +32,6 @@ read-more whole zs first i row x within e h =
     ap (map whole) (take_more_set row i x within) ∙ map-append whole (take i row) (x ∷ []) ∙ ap (λ ys. ys ++ whole x ∷ []) h
     ∙ sym (taken-more (drop first zs) i (whole x) (got-behind zs first i ∙ e))
 
--- there is an element before the end
-pub there-is : (zs : List ℤ) (i : ℕ) → i < length zs → slice_get zs i ≡ None → ⊥
-there-is zs i within e = none-some _ (sym e ∙ slice_get-get_or zs i (pos 0) within)
-
 -- the element of a row, as it is seen
 mapped-at : {A B : Type 0} (f : A → B) (xs : List A) (i : ℕ) (x : A) → slice_get xs i ≡ Some x → slice_get (map f xs) i ≡ Some (f x)
 mapped-at f [] i x e = absurd (none-some x e)

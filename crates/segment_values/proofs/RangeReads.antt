@@ -1,100 +1,21 @@
 -- Elements that one call reads: what the readings of each come to.
-use Rattle.std.proofs.Common.{◌≡◌, refl, sym, ap, subst, ◌∙◌, ℕ, ◌+◌, ◌<◌, ◌≤◌, ℤ, true, false, Some, None, Option}
-use Rattle.std.proofs.Common.{Result, Ok, Err, List, length, map, set, take, if◌then◌else◌, arith}
-use Rattle.std.specs.Prelude.{Bool, drop, nat_le, slice_get}
+use Rattle.std.proofs.Common.{◌≡◌, sym, ap, subst, ◌∙◌, ℕ, ◌+◌, ◌≤◌, ℤ, true, false, Some, None, Option, Result, Ok, Err}
+use Rattle.std.proofs.Common.{List, length, take, if◌then◌else◌}
+use Rattle.std.specs.Prelude.{Bool, drop, nat_le}
 use Rattle.std.proofs.lemmas.Bool.{leb-true}
-use Rattle.std.proofs.lemmas.List.{take_all}
-use Rattle.seg_types.specs.declared.kinds.Kind.TheVariants.{Scalar as ScalarOf, Vector as VectorOf}
 use Rattle.seg_types.specs.declared.kinds.ScalarKind.{ScalarKind}
 use Rattle.seg_types.specs.declared.refusals.Refusal.{Refusal}
 use Rattle.seg_types.specs.declared.refusals.Refusal.TheVariants.{NotFound, OutOfRange, WrongKind}
-use Rattle.seg_types.specs.Commands.{Get}
 use Rattle.seg_types.specs.Names.{Key, ByHandle}
 use Rattle.segment_manager.specs.declared.objects.targets.Object.{Object as Located}
-use Rattle.segment_manager.specs.Answers.{Answer, Element}
 use Rattle.segment_manager.specs.Directory.{Object, Directory, kind_of}
-use Rattle.segment_manager.specs.objects.ElementLists.{array_length_at, length_at_kind, list_at, number_or_none}
 use Rattle.segment_manager.specs.objects.ElementLists.{numbers_in}
 use Rattle.segment_manager.specs.objects.Instances.{IsMissing}
 use Rattle.segment_manager.specs.objects.Located.{IsLocated}
-use Rattle.segment_manager.specs.State.{Answers, IsReplyOfKind, State, StandsFor, answer_of}
-use Rattle.segment_manager.proofs.Laws.{IsSaidAt, array-length, array-read, got, said-at, told-by_key, vector-length}
-use Rattle.segment_manager.proofs.Laws.{vector-read}
-use Rattle.segment_values.specs.Ranges.{element_of, is_row, numbers_if, range_at, range_in, range_of, row_of}
-use Rattle.segment_values.proofs.RangeLists.{read-more, there-is}
+use Rattle.segment_manager.specs.State.{Answers, State, StandsFor}
+use Rattle.segment_manager.proofs.Laws.{IsSaidAt, said-at, told-by_key}
+use Rattle.segment_values.specs.Ranges.{is_row, numbers_if, range_at, range_in, range_of, row_of}
 use Rattle.segment_values.proofs.RangeRows.{its-numbers}
-
--- ---- one element
-
-abbrev mapped : {A B : Type 0} → (A → B) → Result A Refusal → Result B Refusal
-mapped f (Ok a) = Ok (f a)
-mapped f (Err why) = Err why
-
-answer-mapped : {A B : Type 0} (say : B → Answer) (f : A → B) (r : Result A Refusal) → answer_of say (mapped f r) ≡ answer_of (λ a. say (f a)) r
-answer-mapped say f (Ok a) = refl
-answer-mapped say f (Err why) = refl
-
-got-mapped : {A : Type 0} (f : A → ℤ) (r : Result A Refusal) → got (mapped f r) ≡ element_of f r
-got-mapped f (Ok a) = refl
-got-mapped f (Err why) = refl
-
-module _ (s : State) (o : Located) (k : ScalarKind) where
-  pub vector-item : {A : Type 0} (at : ℕ) (whole : A → ℤ) (r : Result A Refusal) → o.kind ≡ VectorOf k
-      → IsReplyOfKind s (ByHandle o.handle) (VectorOf k) (Get (ByHandle o.handle) at) (answer_of (λ x. Element k (whole x)) r)
-      → Answers s (λ d. slice_get (row_of o d) at) (element_of whole r)
-  vector-item at whole r is a = record {
-    answers = λ d h.
-        sym (got-mapped whole r) ∙ vector-read s.mode d (ByHandle o.handle) k at (mapped whole r) (answer-mapped (Element k) whole r ∙ a.answers d h)
-        ∙ ap (λ kind. slice_get (list_at numbers_in d (ByHandle o.handle) kind) at) (sym is);
-  }
-
-  pub array-item : {A : Type 0} (at : ℕ) (whole : A → ℤ) (r : Result A Refusal) → o.kind ≡ ScalarOf k
-      → IsReplyOfKind s (ByHandle o.handle) (ScalarOf k) (Get (ByHandle o.handle) at) (answer_of (λ x. Element k (whole x)) r)
-      → Answers s (λ d. slice_get (row_of o d) at) (element_of whole r)
-  array-item at whole r is a = record {
-    answers = λ d h.
-        sym (got-mapped whole r) ∙ array-read s.mode d (ByHandle o.handle) k at (mapped whole r) (answer-mapped (Element k) whole r ∙ a.answers d h)
-        ∙ ap (λ kind. slice_get (list_at numbers_in d (ByHandle o.handle) kind) at) (sym is);
-  }
-
-  -- how many
-  pub vector-many : (n : ℕ) (r : Result ℕ Refusal) → n ≡ number_or_none r → o.kind ≡ VectorOf k → Answers s (λ d. length_at_kind d (ByHandle o.handle) (VectorOf k)) r
-      → Answers s (λ d. length (row_of o d)) n
-  vector-many n r e is a = record {
-    answers = λ d h. e ∙ vector-length d (ByHandle o.handle) k r (a.answers d h) ∙ ap (λ kind. length (list_at numbers_in d (ByHandle o.handle) kind)) (sym is);
-  }
-
-  pub array-many : (n : ℕ) (r : Result ℕ Refusal) → n ≡ number_or_none r → o.kind ≡ ScalarOf k → Answers s (λ d. array_length_at d (ByHandle o.handle) k) r
-      → Answers s (λ d. length (row_of o d)) n
-  array-many n r e is a = record {
-    answers = λ d h. e ∙ array-length d (ByHandle o.handle) k r (a.answers d h) ∙ ap (λ kind. length (list_at numbers_in d (ByHandle o.handle) kind)) (sym is);
-  }
-
--- ---- those that were read
-
--- so many of a row are those of a list
-abbrev pub AreRead : {A : Type 0} → (A → ℤ) → State → (Directory → List ℤ) → ℕ → List A → ℕ → Type 0
-AreRead whole s list first row i = (d : Directory) → StandsFor s.cut.bytes d → map whole (take i row) ≡ take i (drop first (list d))
-
-module _ {A : Type 0} (whole : A → ℤ) (s : State) (list : Directory → List ℤ) where
-  -- one more
-  pub reads-one : (first i n : ℕ) (row : List A) (x : A) → ((d : Directory) → StandsFor s.cut.bytes d → first + i < length (list d) → slice_get (list d) (first + i) ≡ Some (whole x))
-      → ((d : Directory) → StandsFor s.cut.bytes d → first + n ≤ length (list d)) → i < n → i < length row → AreRead whole s list first row i → AreRead whole s list first (set row i x) (i + 1)
-  reads-one first i n row x one there inside within h = λ d st.
-      let many = there d st in
-      read-more whole (list d) first i row x within (one d st (omega arith)) (h d st)
-
-  -- what is read where there is such an element
-  module _ (at : ℕ) (r : Result A Refusal) (item : Answers s (λ d. slice_get (list d) at) (element_of whole r)) where
-    pub reads-some : (x : A) → r ≡ Ok x → (d : Directory) → StandsFor s.cut.bytes d → slice_get (list d) at ≡ Some (whole x)
-    reads-some x e d st = sym (item.answers d st) ∙ ap (element_of whole) e
-
-    pub reads-none : (why : Refusal) → r ≡ Err why → (d : Directory) → StandsFor s.cut.bytes d → at < length (list d) → ⊥
-    reads-none why e d st within = there-is (list d) at within (sym (item.answers d st) ∙ ap (element_of whole) e)
-
-pub reads-all : {A : Type 0} (whole : A → ℤ) (s : State) (list : Directory → List ℤ) (first n : ℕ) (row : List A) → length row ≡ n → AreRead whole s list first row n
-    → (d : Directory) → StandsFor s.cut.bytes d → map whole row ≡ take n (drop first (list d))
-reads-all whole s list first n row e h = λ d st. ap (map whole) (sym (take_all n row (omega arith))) ∙ h d st
 
 -- ---- a range of a list
 

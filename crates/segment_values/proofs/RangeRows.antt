@@ -1,5 +1,6 @@
 -- Values that are arrays or vectors of scalars of a kind: what they list, and what sets an element.
-use Rattle.std.proofs.Common.{◌≡◌, refl, sym, ap, subst, ◌∙◌, ℕ, ℤ, Bool, true, false, ◌||◌, Some, None, Option, List}
+use Rattle.std.proofs.Common.{◌≡◌, refl, sym, ap, subst, ◌∙◌, ℕ, ℤ, Bool, true, false, ◌||◌, ◌⊎◌, inl, inr, Some, None}
+use Rattle.std.proofs.Common.{Option, List}
 use Rattle.std.proofs.Common.{[], if◌then◌else◌}
 use Rattle.std.specs.Prelude.{slice_set}
 use Rattle.std.proofs.lemmas.Bool.{eq-eqb, eqb-true}
@@ -43,6 +44,14 @@ row-array k kind n r = array-if (same_kind (Vector k) kind) refl r
     array-if : (b : Bool) → same_kind (Vector k) kind ≡ b → (b || same_kind (Scalar k) kind) ≡ true → kind ≡ Scalar k
     array-if true f r = absurd (n k (sym (one-kind (Vector k) kind f)))
     array-if false f r = sym (one-kind (Scalar k) kind r)
+
+pub row-cases : (k : ScalarKind) (kind : Kind) → is_row k kind ≡ true → (kind ≡ Vector k) ⊎ (kind ≡ Scalar k)
+row-cases k kind r = cases-if (same_kind (Vector k) kind) refl r
+  where
+    cases-if : (b : Bool) → same_kind (Vector k) kind ≡ b → (b || same_kind (Scalar k) kind) ≡ true
+        → (kind ≡ Vector k) ⊎ (kind ≡ Scalar k)
+    cases-if true f r = inl (sym (one-kind (Vector k) kind f))
+    cases-if false f r = inr (sym (one-kind (Scalar k) kind r))
 
 -- of the object of a key
 pub its-numbers : (d : Directory) (key : Key) (kind : Kind) (o : Object) → object_at d key ≡ Some o → kind_of o.value ≡ kind → list_at numbers_in d key kind ≡ numbers_in o.value

@@ -1,4 +1,3 @@
 pub mod Absent
 pub mod Changes
-pub mod Literals
 pub mod Ranges

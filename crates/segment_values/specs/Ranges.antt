@@ -1,15 +1,18 @@
 -- Elements of an array or a vector of scalars that are read, or written, by one call: so many from a place on.
-use Rattle.std.specs.Prelude.{ℕ, ◌+◌, ◌*◌, ℤ, Bool, ◌||◌, Option, Some, None, Result, Ok, Err, List, [], ◌∷◌, drop}
+use Rattle.std.specs.Prelude.{◌≡◌, ◌≤◌, ℕ, ◌+◌, ◌*◌, ℤ, Bool, ◌||◌, IsTrue, Option, Some, None, Result, Ok, Err, List, [], ◌∷◌, drop}
 use Rattle.std.specs.Prelude.{IfOk, length, map, nat_le, slice_set, take, if◌then◌else◌}
-use Rattle.raw_region.specs.Memory.{SameBut, bytes_of}
+use Rattle.std.specs.List.{list_all}
+use Rattle.raw_region.specs.Memory.{SameBut, bytes_of, part}
 use Rattle.seg_types.specs.declared.kinds.Kind.{Kind}
 use Rattle.seg_types.specs.declared.kinds.Kind.TheVariants.{Scalar, Vector}
 use Rattle.seg_types.specs.declared.kinds.ScalarKind.{ScalarKind}
 use Rattle.seg_types.specs.declared.refusals.Refusal.{Refusal}
 use Rattle.seg_types.specs.declared.refusals.Refusal.TheVariants.{NotFound, OutOfRange, ReadOnly, WrongKind}
-use Rattle.seg_types.specs.Kinds.{same_kind, size_of}
+use Rattle.seg_types.specs.Kinds.{is_value, same_kind, size_of}
 use Rattle.seg_types.specs.Names.{Key, ByHandle}
+use Rattle.seg_vector.specs.Vector.{spelled}
 use Rattle.seg_vector.specs.declared.places.Place.{Place}
+use Rattle.segment_manager.specs.declared.containers.element_runs.ElementRun.{ElementRun}
 use Rattle.segment_manager.specs.declared.modes.Mode.{Mode}
 use Rattle.segment_manager.specs.declared.objects.targets.Object.{Object as Located}
 use Rattle.segment_manager.specs.Answers.{Answer, Done, Refused}
@@ -17,7 +20,7 @@ use Rattle.segment_manager.specs.Directory.{Directory, Value, kind_of, object_at
 use Rattle.segment_manager.specs.objects.ElementLists.{list_at, numbers_in}
 use Rattle.segment_manager.specs.objects.Located.{IsObject}
 use Rattle.segment_manager.specs.objects.Standing.{place_at}
-use Rattle.segment_manager.specs.State.{Moves, State, StandsFor, Stays}
+use Rattle.segment_manager.specs.State.{Answers, Moves, State, StandsFor, Stays}
 use Rattle.segment_manager.specs.Step.{changed, is_read_only, with_items}
 
 -- ---- reading
@@ -34,10 +37,18 @@ numbers_if k v = if is_row k (kind_of v) then Ok (numbers_in v) else Err WrongKi
 abbrev pub row_of : Located → Directory → List ℤ
 row_of o d = list_at numbers_in d (ByHandle o.handle) o.kind
 
--- one of them, where there is one
-abbrev pub element_of : {A : Type 0} → (A → ℤ) → Result A Refusal → Option ℤ
-element_of whole (Ok a) = Some (whole a)
-element_of whole (Err why) = None
+-- the bytes spell values of a kind, one after another
+pub record AreSpelled (k : ScalarKind) (zs : List ℤ) (bytes : List ℕ) : Type 0 where
+  pub values : IsTrue (list_all (is_value k) zs)
+  pub spelled_are : bytes ≡ spelled k zs
+
+-- such an object, of a kind, has as many elements as a run says, and they are spelled from its offset on
+pub record HasRow (s : State) (o : Located) (k : ScalarKind) (run : ElementRun) : Type 0 where
+  pub inside : run.offset + size_of k * run.count ≤ length s.cut.bytes
+  pub short : length s.cut.bytes ≤ 1073741824
+  pub many : Answers s (λ d. length (row_of o d)) run.count
+  pub spells : (d : Directory) → StandsFor s.cut.bytes d
+      → AreSpelled k (row_of o d) (part s.cut.bytes run.offset (size_of k * run.count))
 
 -- so many of a list, from a place on, where it has so many there
 abbrev pub range_of : List ℤ → ℕ → ℕ → Result (List ℤ) Refusal

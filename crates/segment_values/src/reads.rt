@@ -1,16 +1,16 @@
 //! Elements of arrays and vectors of scalars, so many read by one call.
-ghost use Rattle.std.specs.Prelude.{◌≡◌, ◌+◌, ◌<◌, ◌≤◌, ◌^◌, OnErr, Some, drop, length, map, nat_le, slice_get, take};
-ghost use Rattle.std.specs.Prelude.{true};
+ghost use Rattle.std.specs.Prelude.{◌≡◌, ◌+◌, ◌*◌, ◌≤◌, OnErr, drop, length, map, nat_le, take, true, List, ℤ};
 ghost use Rattle.seg_types.specs.Keys.{key_seen};
+ghost use Rattle.seg_types.specs.Kinds.{is_value, spelling};
 ghost use Rattle.seg_types.specs.Names.{ByHandle};
 ghost use Rattle.segment_manager.specs.Directory.{Directory};
-ghost use Rattle.segment_manager.specs.objects.ElementLists.{number_or_none as number_of};
-ghost use Rattle.segment_manager.specs.objects.Located.{IsLocated, IsObject};
+ghost use Rattle.segment_manager.specs.objects.Located.{IsLocated};
 ghost use Rattle.segment_manager.specs.State.{Answers, StandsFor};
-ghost use Rattle.segment_values.specs.Ranges.{element_of, is_row, range_at, read_into, row_of};
+ghost use Rattle.segment_values.specs.Ranges.{AreSpelled, HasRow, is_row, range_at, read_into, row_of};
 
+use seg_types::theorems::scalar_is_number;
 use seg_types::{Key, Kind, Refusal, Scalar};
-use segment_manager::{Object, Segment, locate};
+use segment_manager::{ElementRun, Object, Segment, locate};
 
 /// Copies elements of the object of a key into a row: as many as the row has, from `first` on. The object is an array
 /// of scalars of the type, or a vector of them.
@@ -46,11 +46,25 @@ fn read_object<T: Scalar>(
     if !is_row::<T>(object.kind) {
         return Err(Refusal::WrongKind);
     }
-    if !has_range(len_of::<T>(segment, object), first, row.len() as u64) {
+    let run = row_run::<T>(segment, object);
+    if !has_range(run.count, first, row.len() as u64) {
         return Err(Refusal::OutOfRange);
     }
-    copy_row(segment, object, first, row);
+    copy_row(segment, object, run, first, row);
     Ok(())
+}
+
+/// Where the elements of such an object stand in the image.
+pub(crate) fn row_run<T: Scalar>(segment: &Segment, object: &Object) -> ElementRun
+    requires object { IsLocated segment.now (ByHandle object.now.handle) object.now }
+    requires kind { is_row T.kind object.now.kind ≡ true }
+    ensures { HasRow segment.now object.now T.kind result }
+{
+    let _ = segment.as_bytes();
+    match segment.element_run(object) {
+        Ok(run) => run,
+        Err(_) => unreachable!(),
+    }
 }
 
 /// Whether objects of a kind are arrays of scalars of the type, or vectors of them.
@@ -60,63 +74,44 @@ pub(crate) fn is_row<T: Scalar>(kind: Kind) -> bool
     Kind::Vector(T::kind()).code() == kind.code() || Kind::Scalar(T::kind()).code() == kind.code()
 }
 
-/// How many elements such an object has.
-pub(crate) fn len_of<T: Scalar>(segment: &Segment, object: &Object) -> u64
-    requires object { IsObject object.now segment.now }
-    requires kind { is_row T.kind object.now.kind ≡ true }
-    ensures { Answers segment.now (λ d. length (row_of object.now d)) result }
-{
-    match object.kind {
-        Kind::Vector(_) => number_or_none(segment.vec_len::<T, Object>(object)),
-        _ => number_or_none(segment.array_len::<T, Object>(object)),
-    }
-}
-
-/// Copies elements of an object that has so many.
-fn copy_row<T: Scalar>(segment: &Segment, object: &Object, first: u64, row: &mut [T])
-    requires object { IsObject object.now segment.now }
-    requires kind { is_row T.kind object.now.kind ≡ true }
-    requires fits { first + length row.old < 2 ^ 64 }
-    requires there { (d : Directory) → StandsFor segment.now.cut.bytes d
-        → first + length row.old ≤ length (row_of object.now d) }
+/// Copies elements of such an object, which has so many, from where they stand.
+fn copy_row<T: Scalar>(
+    segment: &Segment,
+    _object: &Object,
+    run: ElementRun,
+    first: u64,
+    row: &mut [T],
+)
+    requires row { HasRow segment.now _object.now T.kind run }
+    requires there { first + length row.old ≤ run.count }
     ensures { (d : Directory) → StandsFor segment.now.cut.bytes d
-        → map T.whole row.new ≡ take (length row.old) (drop first (row_of object.now d)) }
+        → map T.whole row.new ≡ take (length row.old) (drop first (row_of _object.now d)) }
 {
-    'elements: for i in 0..row.len() {
-        row[i] = element_or(segment, object, first + i as u64, row[i]);
+    let from = (run.offset + T::SIZE * first) as usize;
+    let len = T::SIZE as usize * row.len();
+    read_values(&segment.as_bytes()[from..from + len], row);
+}
+
+/// Reads as many values as the row has from bytes that spell them.
+fn read_values<T: Scalar>(bytes: &[u8], row: &mut [T])
+    requires { length bytes.now ≡ T.SIZE * length row.old }
+    ensures { (zs : List ℤ) → AreSpelled T.kind zs bytes.now → map T.whole row.new ≡ zs }
+{
+    let each = T::SIZE as usize;
+    'values: for i in 0..row.len() {
+        row[i] = value_or(&bytes[each * i..each * (i + 1)], row[i]);
     }
 }
 
-/// The element at `index` of such an object; or another value, where it has none.
-fn element_or<T: Scalar>(segment: &Segment, object: &Object, index: u64, other: T) -> T
-    requires object { IsObject object.now segment.now }
-    requires kind { is_row T.kind object.now.kind ≡ true }
-    ensures { (d : Directory) → StandsFor segment.now.cut.bytes d → index < length (row_of object.now d)
-        → slice_get (row_of object.now d) index ≡ Some (T.whole result) }
+/// The value that bytes spell; or another one, where they spell none.
+fn value_or<T: Scalar>(bytes: &[u8], other: T) -> T
+    requires { length bytes.now ≡ T.SIZE }
+    ensures { (z : ℤ) → is_value T.kind z ≡ true → bytes.now ≡ spelling T.kind z → T.whole result ≡ z }
 {
-    match element(segment, object, index) {
-        Ok(value) => value,
-        Err(_) => other,
+    match scalar_is_number::<T>(bytes) {
+        Some(value) => value,
+        None => other,
     }
-}
-
-/// The element at `index` of such an object.
-fn element<T: Scalar>(segment: &Segment, object: &Object, index: u64) -> Result<T, Refusal>
-    requires object { IsObject object.now segment.now }
-    requires kind { is_row T.kind object.now.kind ≡ true }
-    ensures { Answers segment.now (λ d. slice_get (row_of object.now d) index) (element_of T.whole result) }
-{
-    match object.kind {
-        Kind::Vector(_) => segment.vec_get::<T, Object>(object, index),
-        _ => segment.get::<T, Object>(object, index),
-    }
-}
-
-/// A number, or 0 where there is none.
-fn number_or_none(number: Result<u64, Refusal>) -> u64
-    ensures { result ≡ number_of number }
-{
-    number.unwrap_or(0)
 }
 
 /// Whether so many elements have `count` from `first` on.

@@ -1,101 +1,123 @@
-//! Vectors of scalars that a literal changes: the kind of the object says which call it is.
+//! Vectors that take what a caller writes, and lose elements: the kind of the object says which call it is.
 ghost use Rattle.std.specs.Prelude.{◌≡◌, MatchResult, OnErr};
-ghost use Rattle.seg_types.specs.declared.kinds.Kind.TheVariants.{Vector as VectorOf};
-ghost use Rattle.seg_types.specs.Commands.{Erase, Insert, Push, literal_of};
+ghost use Rattle.seg_types.specs.declared.kinds.Kind.TheVariants.{Strings as StringsKind, Vector as VectorOf};
+ghost use Rattle.seg_types.specs.Commands.{Erase, Quoted};
 ghost use Rattle.seg_types.specs.Keys.{key_seen};
 ghost use Rattle.seg_types.specs.Names.{ByHandle};
-ghost use Rattle.seg_types.specs.Values.{kind_of_scalar, value_of_scalar};
+ghost use Rattle.seg_types.specs.Values.{kind_of_scalar};
+ghost use Rattle.seg_types.specs.Written.{NoText, literal_seen};
 ghost use Rattle.segment_manager.specs.objects.Located.{IsObject};
-ghost use Rattle.segment_manager.specs.State.{IsStep, IsStepOfKind, done_answer};
-ghost use Rattle.segment_values.specs.Changes.{IsNew, IsNoElement};
-ghost use Rattle.segment_values.specs.Literals.{literal_seen};
+ghost use Rattle.segment_manager.specs.State.{IsStep, IsStepOfKind, KeepsRefused, done_answer};
+ghost use Rattle.segment_values.specs.Changes.{IsNew, IsNoElement, command_at};
 
 use crate::objects::object_to_change;
-use crate::scalars::value_as;
-use seg_types::{Key, Kind, Refusal, ScalarKind, ScalarValue, by_kind, by_value};
+use seg_types::{Key, Kind, Refusal, ScalarKind, ScalarValue, Written, by_kind, by_value};
 use segment_manager::{Object, Segment};
 
-/// The vector of a key, and what a literal is as an element of it.
+/// Where a new element of a vector goes.
+#[derive(Clone, Copy)]
+pub enum Spot {
+    /// Behind the last element.
+    End,
+    /// Where so many others stand before it.
+    Before(u64),
+}
+
+/// A new element of a vector.
+#[derive(Clone, Copy)]
+pub enum NewElement<'a> {
+    /// A scalar, for a vector of scalars of its kind.
+    Scalar(ScalarValue),
+    /// A text, for a vector of strings.
+    Text(&'a [u8]),
+}
+
+/// Puts what is written into the vector of a key, where the spot says.
 ///
 /// # Errors
 ///
 /// `ReadOnly` where the segment is open for reading, and else `NotFound` where no object has the key, `WrongKind` where
-/// it is no vector of scalars or the literal has not the form of its elements, `OutOfRange` where the literal is not in
-/// their range.
-fn new_element(
+/// it is no vector or the value has not the form of its elements, `OutOfRange` where the value is not in their range or
+/// there are not so many others, and nothing changes; `NoSpace` where the vector is full and its storage cannot be
+/// regrown, or a text has no fit: the objects are as before, and nothing changes where the value is no text.
+#[inline(never)]
+pub fn add<L: Written>(
+    segment: &mut Segment,
+    key: &Key,
+    spot: Spot,
+    value: &L,
+    room: &mut L::Room,
+) -> Result<(), Refusal>
+    requires { L.fits value.now }
+    ensures step { IsStep segment.old segment.new (command_at spot (key_seen key.now) (L.literal value.now)) (done_answer result) }
+    ensures refused { KeepsRefused segment.old segment.new result }
+    ensures scalar { NoText (L.literal value.now) → OnErr result (segment.new ≡ segment.old) }
+{
+    let (object, element) = new_element(segment, key, value, room)?;
+    match element {
+        NewElement::Scalar(value) => add_scalar(segment, object, spot, value),
+        NewElement::Text(text) => add_text(segment, object, spot, text),
+    }
+}
+
+/// The vector of a key, and what is written as an element of it.
+///
+/// # Errors
+///
+/// `ReadOnly` where the segment is open for reading, and else `NotFound` where no object has the key, `WrongKind` where
+/// it is no vector or the value has not the form of its elements, `OutOfRange` where the value is not in their range.
+fn new_element<'a, L: Written>(
     segment: &Segment,
     key: &Key,
-    value: ScalarValue,
-) -> Result<(Object, ScalarValue), Refusal>
-    ensures { MatchResult result (IsNew segment.now (key_seen key.now) (literal_seen value)) (IsNoElement segment.now (key_seen key.now) (literal_seen value)) }
+    value: &'a L,
+    room: &'a mut L::Room,
+) -> Result<(Object, NewElement<'a>), Refusal>
+    requires { L.fits value.now }
+    ensures { MatchResult result (IsNew segment.now (key_seen key.now) (L.literal value.now)) (IsNoElement segment.now (key_seen key.now) (L.literal value.now)) }
 {
     let object = object_to_change(segment, key)?;
     match object.kind {
         Kind::Vector(kind) => {
-            let element = value_as(kind, value)?;
-            Ok((object, element))
+            let scalar = value.value_of(kind)?;
+            Ok((object, NewElement::Scalar(scalar)))
         }
-        Kind::Strings => Err(Refusal::WrongKind),
+        Kind::Strings => match value.text(room) {
+            Some(text) => Ok((object, NewElement::Text(text))),
+            None => Err(Refusal::WrongKind),
+        },
         _ => Err(Refusal::WrongKind),
     }
 }
 
-/// Puts what a literal is behind the last element of the vector of a key.
-///
-/// # Errors
-///
-/// `ReadOnly` where the segment is open for reading, and else `NotFound` where no object has the key, `WrongKind` where
-/// it is no vector of scalars or the literal has not the form of its elements, `OutOfRange` where the literal is not in
-/// their range, `NoSpace` where the vector is full and its storage cannot be regrown. Nothing changes.
-pub fn push(segment: &mut Segment, key: &Key, value: ScalarValue) -> Result<(), Refusal>
-    ensures step { IsStep segment.old segment.new (Push (key_seen key.now) (literal_seen value)) (done_answer result) }
-    ensures refused { OnErr result (segment.new ≡ segment.old) }
-{
-    let (object, element) = new_element(segment, key, value)?;
-    push_value(segment, object, element)
-}
-
-/// Puts a value behind the last element of a vector, a vector of the value's kind.
-fn push_value(segment: &mut Segment, object: Object, value: ScalarValue) -> Result<(), Refusal>
-    requires { IsObject object segment.old }
-    ensures step { IsStepOfKind segment.old segment.new (ByHandle object.handle) (VectorOf (kind_of_scalar value))
-        (Push (ByHandle object.handle) (literal_of (kind_of_scalar value) (value_of_scalar value))) (done_answer result) }
-    ensures refused { OnErr result (segment.new ≡ segment.old) }
-{
-    by_value!(value, it => segment.vec_push(&object, it))
-}
-
-/// Puts what a literal is where `index` others stand before it in the vector of a key.
-///
-/// # Errors
-///
-/// Those of `push`, and `OutOfRange` where there are not so many others. Nothing changes.
-pub fn insert(
-    segment: &mut Segment,
-    key: &Key,
-    index: u64,
-    value: ScalarValue,
-) -> Result<(), Refusal>
-    ensures step { IsStep segment.old segment.new (Insert (key_seen key.now) index (literal_seen value)) (done_answer result) }
-    ensures refused { OnErr result (segment.new ≡ segment.old) }
-{
-    let (object, element) = new_element(segment, key, value)?;
-    insert_value(segment, object, index, element)
-}
-
-/// Puts a value into a vector, a vector of the value's kind.
-fn insert_value(
+/// Puts a scalar into a vector, a vector of the scalar's kind.
+fn add_scalar(
     segment: &mut Segment,
     object: Object,
-    index: u64,
+    spot: Spot,
     value: ScalarValue,
 ) -> Result<(), Refusal>
     requires { IsObject object segment.old }
     ensures step { IsStepOfKind segment.old segment.new (ByHandle object.handle) (VectorOf (kind_of_scalar value))
-        (Insert (ByHandle object.handle) index (literal_of (kind_of_scalar value) (value_of_scalar value))) (done_answer result) }
+        (command_at spot (ByHandle object.handle) (literal_seen value)) (done_answer result) }
     ensures refused { OnErr result (segment.new ≡ segment.old) }
 {
-    by_value!(value, it => segment.vec_insert(&object, index, it))
+    match spot {
+        Spot::End => by_value!(value, it => segment.vec_push(&object, it)),
+        Spot::Before(index) => by_value!(value, it => segment.vec_insert(&object, index, it)),
+    }
+}
+
+/// Puts a text into a vector of strings.
+fn add_text(segment: &mut Segment, object: Object, spot: Spot, text: &[u8]) -> Result<(), Refusal>
+    requires { IsObject object segment.old }
+    ensures step { IsStepOfKind segment.old segment.new (ByHandle object.handle) StringsKind
+        (command_at spot (ByHandle object.handle) (Quoted text.now)) (done_answer result) }
+    ensures refused { KeepsRefused segment.old segment.new result }
+{
+    match spot {
+        Spot::End => segment.texts_push(&object, text),
+        Spot::Before(index) => segment.texts_insert(&object, index, text),
+    }
 }
 
 /// Leaves out the element at `index` in the vector of a key, of scalars or of strings.
@@ -104,6 +126,7 @@ fn insert_value(
 ///
 /// `ReadOnly` where the segment is open for reading, and else `NotFound` where no object has the key, `WrongKind` where
 /// it is no vector, `OutOfRange` where it has no element there. Nothing changes.
+#[inline(never)]
 pub fn erase(segment: &mut Segment, key: &Key, index: u64) -> Result<(), Refusal>
     ensures step { IsStep segment.old segment.new (Erase (key_seen key.now) index) (done_answer result) }
     ensures refused { OnErr result (segment.new ≡ segment.old) }

@@ -10,7 +10,7 @@ ghost use Rattle.segment_manager.specs.State.{IsStepOfKind, StandsFor, done_answ
 ghost use Rattle.segment_manager.specs.Step.{is_read_only};
 ghost use Rattle.segment_values.specs.Ranges.{ChangesRange, HasRange, WritesRange, is_row, row_of};
 
-use crate::reads::{has_range, is_row, len_of};
+use crate::reads::{has_range, is_row, row_run};
 use seg_types::{Key, Kind, Refusal, Scalar};
 use segment_manager::{Mode, Object, Segment, locate};
 
@@ -58,7 +58,7 @@ fn write_object<T: Scalar>(
     if !is_row::<T>(object.kind) {
         return Err(Refusal::WrongKind);
     }
-    if !has_range(len_of::<T>(segment, object), first, row.len() as u64) {
+    if !has_range(row_run::<T>(segment, object).count, first, row.len() as u64) {
         return Err(Refusal::OutOfRange);
     }
     set_row(segment, object, first, row);

@@ -994,6 +994,69 @@ static void what_is_no_image(void) {
     zx_close(&s);
 }
 
+static uint64_t word_of(const uint8_t *image, uint64_t at) {
+    uint64_t word;
+    memcpy(&word, image + at, sizeof word);
+    return word;
+}
+
+static void is_shown(int line, const uint8_t *image, size_t len, zx_code code, uint64_t wanted) {
+    uint64_t place = 7;
+    is_number(line, "zx_explain", zx_explain(image, len, &place), code);
+    is_number(line, "the place", place, wanted);
+    is_number(line, "zx_check", zx_check(image, len), code);
+}
+#define SHOWN(code, place) is_shown(__LINE__, image, sizeof image, code, place)
+#define SHOWN_BY(word, at, code, place) \
+    do { \
+        const uint64_t before = word_of(image, at), other = (word); \
+        memcpy(image + (at), &other, sizeof other); \
+        SHOWN(code, place); \
+        memcpy(image + (at), &before, sizeof before); \
+    } while (0)
+
+/* The byte that shows each class, in the image of two vectors. */
+static void what_shows_a_class(void) {
+    zx_segment s = ZX_CLOSED_HANDLE;
+    zx_key a = zx_name("a"), b = zx_name("b");
+    uint8_t image[1024], longer[1040] = { 0 };
+    uint64_t place = 7;
+    zx_elements first, second;
+    const int64_t three[] = { 1, 2, 3 };
+    DONE(zx_create(&s, sizeof image));
+    const uint64_t at = (uint64_t)made_vector(&s, a, zx_i64s(three, 3));
+    const uint64_t other = (uint64_t)made_vector(&s, b, zx_i64s(three, 1));
+    DONE(zx_view(&s, &a, &first));
+    DONE(zx_view(&s, &b, &second));
+    DONE(zx_save(&s, image, sizeof image));
+    zx_close(&s);
+    memcpy(longer, image, sizeof image);
+    SHOWN(ZX_DONE, 7);
+    IS(zx_explain(NULL, 0, &place), ZX_NULL_SLICE);
+    IS(place, 7);
+    is_shown(__LINE__, image, 100, ZX_TRUNCATED, 100);
+    is_shown(__LINE__, image, 1008, ZX_TRUNCATED, 1008);
+    is_shown(__LINE__, longer, sizeof longer, ZX_BAD_IMAGE_SIZE, 1024);
+    SHOWN_BY(word_of(image, 0) ^ 1u << 24, 0, ZX_BAD_MAGIC, 3);
+    SHOWN_BY(9, 8, ZX_UNSUPPORTED_VERSION, 8);
+    SHOWN_BY(1025, 16, ZX_BAD_IMAGE_SIZE, 16);
+    SHOWN_BY((uint64_t)1 << 32 | 2, 8, ZX_BAD_RESERVED, 12);
+    SHOWN_BY(1, 88, ZX_BAD_RESERVED, 88);
+    SHOWN_BY(16, 128, ZX_BAD_TAG, 128);
+    SHOWN_BY(1, sizeof image - 16, ZX_BAD_TAG, sizeof image - 16);
+    SHOWN_BY(1, 24, ZX_BAD_FREE_TREE, 24);
+    SHOWN_BY(99, 40, ZX_BAD_INDEX, 40);
+    SHOWN_BY(1, 32, ZX_BAD_INDEX, 32);
+    SHOWN_BY(99, at, ZX_BAD_OBJECT, at);
+    SHOWN_BY(99, other, ZX_BAD_OBJECT, other);
+    SHOWN_BY(first.offset - (other + 24), other + 24, ZX_SHARED_BLOCK, other + 24);
+    SHOWN_BY(99, at + 32, ZX_BAD_CONTAINER, at);
+    SHOWN_BY(99, other + 32, ZX_BAD_CONTAINER, other);
+    const uint64_t none[] = { 1, 0, 0 };
+    memcpy(image + other + 24, none, sizeof none);
+    SHOWN(ZX_ORPHAN_BLOCK, second.offset);
+}
+
 static void what_is_passed_wrongly(void) {
     zx_segment s = ZX_CLOSED_HANDLE;
     zx_key a = zx_name("a"), none = zx_anonymous();
@@ -1241,6 +1304,7 @@ int main(int count, char **arguments) {
     transactions();
     names_from();
     what_is_no_image();
+    what_shows_a_class();
     what_is_passed_wrongly();
     words();
     files();

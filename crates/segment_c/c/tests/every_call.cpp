@@ -2,7 +2,9 @@
    and on what throws. The images that it makes are saved in the folder that is its one argument. */
 #include "zaluxhoni.hpp"
 
+#include <cstring>
 #include <filesystem>
+#include <fstream>
 #include <iostream>
 #include <sstream>
 #include <type_traits>
@@ -690,6 +692,57 @@ void calls_of_c() {
     IS(memory.at == image.data(), true);
 }
 
+/// The place that bytes are refused with, as an image and as that of a file.
+void is_shown(int line, const std::vector<u8> &image, int number, u64 place) {
+    const std::string path = path_of("shown");
+    std::ofstream(path, std::ios::binary)
+        .write(reinterpret_cast<const char *>(image.data()), static_cast<std::streamsize>(image.size()));
+    const auto shows = [&](auto open) {
+        try {
+            static_cast<void>(open());
+            is(line, "no image", "it is opened"s, ""s);
+        } catch (const zaluxhoni::bad_image &error) {
+            is(line, "the class", error.number(), number);
+            is(line, "the place", error.place(), place);
+        }
+    };
+    shows([&] { return segment::open(image); });
+    shows([&] { return segment::open_file(path, zaluxhoni::mode::read); });
+    shows([&] { return segment::open_file(path); });
+    std::filesystem::remove(path);
+}
+
+/// The byte that shows each class, in the image of two vectors.
+void what_shows_a_class() {
+    segment s = segment::create(1024);
+    const std::vector<i64> three{1, 2, 3}, one{1};
+    const u64 at = s.construct_vector<i64>("a", three), other = s.construct_vector<i64>("b", one);
+    const std::vector<u8> image = s.save();
+    const auto changed = [&](u64 from, std::vector<u64> words) {
+        std::vector<u8> copy = image;
+        std::memcpy(copy.data() + from, words.data(), 8 * words.size());
+        return copy;
+    };
+    const auto word = [&](u64 from) {
+        u64 found;
+        std::memcpy(&found, image.data() + from, 8);
+        return found;
+    };
+    const u64 first = at + 24 + word(at + 24), second = other + 24 + word(other + 24);
+    is_shown(__LINE__, {image.begin(), image.begin() + 1008}, 1, 1008);
+    is_shown(__LINE__, changed(0, {word(0) ^ 1u << 24}), 2, 3);
+    is_shown(__LINE__, changed(8, {9}), 3, 8);
+    is_shown(__LINE__, changed(16, {1025}), 4, 16);
+    is_shown(__LINE__, changed(88, {1}), 5, 88);
+    is_shown(__LINE__, changed(128, {16}), 6, 128);
+    is_shown(__LINE__, changed(24, {1}), 7, 24);
+    is_shown(__LINE__, changed(40, {99}), 8, 40);
+    is_shown(__LINE__, changed(at, {99}), 9, at);
+    is_shown(__LINE__, changed(other + 24, {first - (other + 24)}), 10, other + 24);
+    is_shown(__LINE__, changed(at + 32, {99}), 11, at);
+    is_shown(__LINE__, changed(other + 24, {1, 0, 0}), 12, second);
+}
+
 void what_is_refused() {
     segment s = segment::create(1024);
     std::vector<u8> image = s.save();
@@ -711,6 +764,7 @@ void what_is_refused() {
     } catch (const zaluxhoni::bad_image &error) {
         IS(error.number(), 1);
         IS(error.code(), u64{ZX_TRUNCATED});
+        IS(error.place(), u64{512});
     }
     image[0] ^= 1;
     IS(zaluxhoni::check_image(image), u64{ZX_BAD_MAGIC});
@@ -780,8 +834,8 @@ int main(int count, char **arguments) {
         an_anonymous_object, names, files, mapped_files, index_and_object_do_not_both_fit, arrays,
         the_only_object_of_its_kind, places_reserved_in_the_indexes, best_fit, storage_is_lengthened_then_replaced,
         a_string_grows_and_shrinks, a_map, refusals_of_a_vector, a_vector_of_strings, objects_found_or_made, many_at_once,
-        another_kind_under_the_handle, one_of_each, size_and_region, modes, calls_of_c, what_is_refused, segments_move,
-        segments_end_before_their_objects, errors_say_what};
+        another_kind_under_the_handle, one_of_each, size_and_region, modes, calls_of_c, what_is_refused, what_shows_a_class,
+        segments_move, segments_end_before_their_objects, errors_say_what};
     for (void (*each)() : cases) {
         try {
             each();

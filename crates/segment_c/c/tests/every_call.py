@@ -578,6 +578,50 @@ def calls_of_c():
     same(memory.at, ctypes.addressof(room))
 
 
+def what_shows_a_class():
+    """The byte that shows each class, in the image of two vectors."""
+    s = zaluxhoni.create(1024)
+    s.construct("vec<i64>", "a", [1, 2, 3])
+    s.construct("vec<i64>", "b", [1])
+    image, at, other = s.image(), s.info("a").handle, s.info("b").handle
+    path = path_of("shown")
+
+    def word(place):
+        return int.from_bytes(image[place:place + 8], "little")
+
+    def changed(place, *words):
+        made = b"".join(each.to_bytes(8, "little") for each in words)
+        return image[:place] + made + image[place + len(made):]
+
+    first, second = at + 24 + word(at + 24), other + 24 + word(other + 24)
+    for error, bad, place in (
+            (zaluxhoni.Truncated, image[:1008], 1008),
+            (zaluxhoni.BadMagic, changed(0, word(0) ^ 1 << 24), 3),
+            (zaluxhoni.UnsupportedVersion, changed(8, 9), 8),
+            (zaluxhoni.BadImageSize, changed(16, 1025), 16),
+            (zaluxhoni.BadImageSize, image + bytes(16), 1024),
+            (zaluxhoni.BadReserved, changed(88, 1), 88),
+            (zaluxhoni.BadTag, changed(128, 16), 128),
+            (zaluxhoni.BadFreeTree, changed(24, 1), 24),
+            (zaluxhoni.BadIndex, changed(40, 99), 40),
+            (zaluxhoni.BadObject, changed(at, 99), at),
+            (zaluxhoni.SharedBlock, changed(other + 24, first - (other + 24) & 2 ** 64 - 1), other + 24),
+            (zaluxhoni.BadContainer, changed(at + 32, 99), at),
+            (zaluxhoni.OrphanBlock, changed(other + 24, 1, 0, 0), second)):
+        with open(path, "wb") as file:
+            file.write(bad)
+        for call, *arguments in ((zaluxhoni.check, bad), (zaluxhoni.load, bad), (zaluxhoni.open, path, "r"),
+                                 (zaluxhoni.open, path, "w")):
+            try:
+                call(*arguments)
+            except zaluxhoni.BadImage as refused:
+                same(type(refused), error)
+                same(refused.place, place)
+            else:
+                fails(f"no {error.__name__}")
+    os.unlink(path)
+
+
 def what_is_refused():
     s = zaluxhoni.create(1024)
     image = s.image()
@@ -591,6 +635,7 @@ def what_is_refused():
     raises(zaluxhoni.Truncated, zaluxhoni.check, image[:512])
     raises(zaluxhoni.BadMagic, zaluxhoni.check, b"x" + image[1:])
     same(issubclass(zaluxhoni.BadMagic, zaluxhoni.BadImage), True)
+    same(zaluxhoni.BadImage.place, None)
     raises(zaluxhoni.BadName, s.construct, "i64", "", 1)
     raises(zaluxhoni.BadName, s.construct, "i64", b"\xff", 1)
     raises(zaluxhoni.BadName, s.construct, "i64", "\udcff", 1)
@@ -1409,9 +1454,9 @@ for case in (an_anonymous_object, names, index_and_object_do_not_both_fit, array
              refusals_have_names,
              copies, a_list_as_list_is_one, threads_that_follow_each_other, one_segment_of_many_threads, groups,
              transactions,
-             records, views, size_and_region, calls_of_c, what_is_refused, one_thread, files, files_that_are_mapped,
-             what_is_refused_by_name, a_process_that_forks, a_relative_path, files_that_fail, what_is_read_again,
-             what_is_not_closed):
+             records, views, size_and_region, calls_of_c, what_is_refused, what_shows_a_class, one_thread, files,
+             files_that_are_mapped, what_is_refused_by_name, a_process_that_forks, a_relative_path, files_that_fail,
+             what_is_read_again, what_is_not_closed):
     try:
         case()
     except Exception as error:

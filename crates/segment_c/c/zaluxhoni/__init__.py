@@ -17,6 +17,7 @@ A segment is used by the thread that opened it alone, unless it is opened with c
 docs/PYTHON.md."""
 from __future__ import annotations
 
+import ctypes
 from typing import Any, Optional
 
 from . import _library
@@ -26,7 +27,7 @@ from ._errors import (Absent, BadContainer, BadCount, BadFreeTree, BadGrowth, Ba
                       FileReplaced, FileTooLarge, FileUnsynced, IsDevice, IsFolder, IsPipe, Lent, NoElement, NoFile,
                       NoMemory, NoSpace, NotFound, NullSlice, OrphanBlock, OutOfRange, ReadOnly, SharedBlock,
                       ShortBuffer, ShortRegion, TooLarge, Truncated, UnsupportedVersion, WrongKind, WrongThread,
-                      error_of)
+                      image_error_of)
 from ._library import zx
 from ._objects import Array, Map, Object, String, Strings, Vector
 from ._records import Records
@@ -79,9 +80,9 @@ def load(image: Any, mode: str = "w", *, capacity: Optional[int] = None, grow: b
     wanted = max(16, (len(image) + 15) // 16 * 16) if capacity is None else natural(capacity)
     try:
         made._call(zx.zx_open, image, len(image), wanted, MODES[mode])
-    except ShortRegion:
-        # the image says more bytes than there are: that class is the answer
-        if capacity is None:
+    except (BadImage, ShortRegion) as error:
+        # what says more bytes than there are is refused by that class
+        if capacity is None or isinstance(error, BadImage):
             check(image)
         raise
     return made
@@ -118,11 +119,12 @@ def state() -> str:
 
 
 def check(image: Any) -> None:
-    """Raises the class of BadImage that bytes are refused by, where they are no image of a segment."""
-    image = _image_bytes(image)
-    code = zx.zx_check(image, len(image))
+    """Raises the class of BadImage that bytes are refused by, where they are no image of a segment; its `place` is the
+    offset of a byte that shows it."""
+    image, place = _image_bytes(image), ctypes.c_uint64()
+    code = zx.zx_explain(image, len(image), place)
     if code:
-        raise error_of(code)
+        raise image_error_of(code, place.value)
 
 
 # they are documented, and shown, as those of this module

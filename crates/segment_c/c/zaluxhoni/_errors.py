@@ -125,8 +125,10 @@ class TooLarge(Error, MemoryError):
 
 
 class BadImage(Error, ValueError):
-    """The bytes are no image of a segment; the class that says why derives from this one."""
+    """The bytes are no image of a segment; the class that says why derives from this one. `place` is the offset of a
+    byte that shows it."""
     code: Optional[int] = None
+    place: Optional[int] = None
 
 
 class Truncated(BadImage):
@@ -311,11 +313,19 @@ def error_of(code: int, about: object = None) -> Error:
     return kind(said if about is None else f"{said}: {about!r}")
 
 
-def file_error_of(code: int, number: int, path: Any) -> Error:
+def image_error_of(code: int, place: int, about: object = None) -> Error:
+    """The error of bytes that are no image, with the place that shows why."""
+    error = error_of(code, about)
+    if isinstance(error, BadImage):
+        error.place = place
+    return error
+
+
+def file_error_of(code: int, file: _library.File, path: Any) -> Error:
     """The error that a code of a file stands for."""
-    kind = _classes.get(code, Error)
+    kind, number = _classes.get(code, Error), file.error
     if not issubclass(kind, FileError):
-        return error_of(code) if path is None else error_of(code, path)
+        return image_error_of(code, file.place, path)
     if kind is FileFault:
         known = type(OSError(number, ""))
         kind = kind if known is OSError else type("FileFault", (FileFault, known), {})

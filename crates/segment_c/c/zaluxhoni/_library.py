@@ -23,7 +23,8 @@ class Elements(ctypes.Structure):
 
 
 class File(ctypes.Structure):
-    _fields_ = [("segment", Handle), ("error", ctypes.c_int32), ("held", ctypes.c_void_p)]
+    _fields_ = [("segment", Handle), ("error", ctypes.c_int32), ("held", ctypes.c_void_p),
+                ("place", ctypes.c_uint64)]
 
 
 class Key(ctypes.Structure):
@@ -119,7 +120,8 @@ def _load() -> Any:
         call = getattr(library, "zx_" + name)
         call.argtypes, call.restype = [ctypes.POINTER(Handle), *arguments], u32
     library.zx_close.restype = None
-    library.zx_check.argtypes, library.zx_check.restype = [ctypes.c_char_p, ctypes.c_size_t], u32
+    library.zx_explain.argtypes = [ctypes.c_char_p, ctypes.c_size_t, ctypes.POINTER(u64)]
+    library.zx_explain.restype = u32
     for name in ("zx_words", "zx_file_words"):
         call = getattr(library, name)
         call.argtypes, call.restype = [u32, ctypes.POINTER(Text)], None

@@ -466,7 +466,7 @@ class Segment(_Named):
             raise WrongThread()
         code = call(self._file, *arguments)
         if code:
-            raise file_error_of(code, self._file.error, path)
+            raise file_error_of(code, self._file, path)
 
     def _code_in_more_space(self, call: Any, arguments: Tuple[Any, ...]) -> int:
         """Makes the segment longer until the call finds space; where that cannot be, it becomes as long as it was."""

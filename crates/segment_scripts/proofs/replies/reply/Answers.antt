@@ -2,7 +2,7 @@
 use Rattle.std.proofs.Common.{refl, subst, true}
 use Rattle.seg_types.specs.Commands.{AllDeallocated, Find, Free, Lookup, NumNamed, NumUnique, Sanity, Size}
 use Rattle.seg_types.specs.Keys.{index_key_seen, key_seen}
-use Rattle.segment_lang.specs.Seen.{content_of, literal_of}
+use Rattle.segment_lang.specs.Seen.{command_of, content_of, literal_of}
 use Rattle.segment_manager.specs.Answers.{Done, Made, Number, Truth}
 use Rattle.segment_manager.specs.objects.Found.{found_answer, pair_found}
 use Rattle.segment_manager.specs.containers.Maps.{any_value_answer}
@@ -11,6 +11,8 @@ use Rattle.segment_scripts.specs.declared.replies.Answer.TheVariants as said
 use Rattle.segment_scripts.proofs.Answering.{keeps-refused, replies-as, replies-blocks, replies-command, replies-found, replies-info}
 use Rattle.segment_scripts.proofs.Answering.{has-found, lacks-found, named-found, places-found, unique-found}
 use Rattle.segment_scripts.proofs.Answering.{replies-kinds, replies-names, replies-read, replies-show}
+use Rattle.segment_scripts.specs.Replies.{IsMeant}
+use Rattle.segment_scripts.proofs.TextElements.{has-room}
 use Rattle.segment_scripts.proofs.replies.reply.Goals as goal
 
 pub returns-in-Construct : goal.returns-in-Construct
@@ -37,14 +39,23 @@ returns-in-Show c = replies-as c.in-Show.is (replies-show c.args.segment.now c.i
 pub returns-in-Info : goal.returns-in-Info
 returns-in-Info c = replies-as c.in-Info.is (replies-info c.args.segment.now c.in-Info.key)
 
+pub set-requires : goal.set-requires
+set-requires c = has-room (literal_of c.in-Set.value) (subst (λ k. IsMeant (command_of k)) c.in-Set.is c.requires.meant)
+
+pub add-requires : goal.add-requires
+add-requires c = has-room (literal_of c.in-Push.value) (subst (λ k. IsMeant (command_of k)) c.in-Push.is c.requires.meant)
+
+pub add-requires-in-Insert : goal.add-requires-in-Insert
+add-requires-in-Insert c = has-room (literal_of c.in-Insert.value) (subst (λ k. IsMeant (command_of k)) c.in-Insert.is c.requires.meant)
+
 pub returns-in-Set : goal.returns-in-Set
 returns-in-Set c = replies-command c.in-Set.is (λ _. Done) (λ _. refl) c.set.result refl refl c.done.ensures c.set.ensures.step (keeps-refused c.args.segment.now c.set.new.segment c.set.result c.set.ensures.refused) (λ _. refl)
 
 pub returns-in-Push : goal.returns-in-Push
-returns-in-Push c = replies-command c.in-Push.is (λ _. Done) (λ _. refl) c.push.result refl refl c.done-in-Push.ensures c.push.ensures.step c.push.ensures.refused (λ _. refl)
+returns-in-Push c = replies-command c.in-Push.is (λ _. Done) (λ _. refl) c.add.result refl refl c.done-in-Push.ensures c.add.ensures.step c.add.ensures.refused (λ _. refl)
 
 pub returns-in-Insert : goal.returns-in-Insert
-returns-in-Insert c = replies-command c.in-Insert.is (λ _. Done) (λ _. refl) c.insert.result refl refl c.done-in-Insert.ensures c.insert.ensures.step c.insert.ensures.refused (λ _. refl)
+returns-in-Insert c = replies-command c.in-Insert.is (λ _. Done) (λ _. refl) c.add-in-Insert.result refl refl c.done-in-Insert.ensures c.add-in-Insert.ensures.step c.add-in-Insert.ensures.refused (λ _. refl)
 
 pub returns-in-Erase : goal.returns-in-Erase
 returns-in-Erase c = replies-command c.in-Erase.is (λ _. Done) (λ _. refl) c.erase.result refl refl c.done-in-Erase.ensures c.erase.ensures.step (keeps-refused c.args.segment.now c.erase.new.segment c.erase.result c.erase.ensures.refused) (λ _. refl)
@@ -68,10 +79,10 @@ pub returns-in-Put : goal.returns-in-Put
 returns-in-Put c = replies-command c.in-Put.is Truth (λ _. refl) c.put_written_pair.result refl refl c.truth-in-Put.ensures c.put_written_pair.ensures.step (keeps-refused c.args.segment.now c.put_written_pair.new.segment c.put_written_pair.result c.put_written_pair.ensures.refused) (λ _. refl)
 
 pub returns-in-Lookup : goal.returns-in-Lookup
-returns-in-Lookup c = replies-as c.in-Lookup.is (replies-read c.args.segment.now (Lookup (key_seen c.in-Lookup.key) (literal_of c.in-Lookup.at)) c.value_found.result (any_value_answer c.lookup.result) refl c.value_found.ensures c.lookup.ensures)
+returns-in-Lookup c = replies-as c.in-Lookup.is (replies-read c.args.segment.now (Lookup (key_seen c.in-Lookup.key) (literal_of c.in-Lookup.at)) c.value_found.result (any_value_answer c.look_up.result) refl c.value_found.ensures c.look_up.ensures)
 
 pub returns-in-Remove : goal.returns-in-Remove
-returns-in-Remove c = replies-command c.in-Remove.is Truth (λ _. refl) c.remove.result refl refl c.truth-in-Remove.ensures c.remove.ensures.step (keeps-refused c.args.segment.now c.remove.new.segment c.remove.result c.remove.ensures.refused) (λ _. refl)
+returns-in-Remove c = replies-command c.in-Remove.is Truth (λ _. refl) c.erase_pair.result refl refl c.truth-in-Remove.ensures c.erase_pair.ensures.step (keeps-refused c.args.segment.now c.erase_pair.new.segment c.erase_pair.result c.erase_pair.ensures.refused) (λ _. refl)
 
 pub returns-in-ListNames : goal.returns-in-ListNames
 returns-in-ListNames c = replies-as c.in-ListNames.is (replies-names c.args.segment.now)

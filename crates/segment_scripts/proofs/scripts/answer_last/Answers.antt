@@ -6,10 +6,10 @@ use Rattle.segment_scripts.proofs.Cuts.{stopped_at_last}
 use Rattle.segment_scripts.proofs.StopLaws.{ends_at_last, same_on, through, through_last}
 use Rattle.segment_scripts.proofs.scripts.answer_last.Goals as goal
 
-pub returns-in_err-answer_next-clause-err : goal.returns-in_err-answer_next-clause-err
-returns-in_err-answer_next-clause-err g c =
+pub returns-in_err-answered-clause-err : goal.returns-in_err-answered-clause-err
+returns-in_err-answered-clause-err g c =
     let Stands = g.M.Machine.stands in
-    let err = c.in_err-answer_next.ensures in
+    let err = c.in_err-answered.ensures in
     let p = err_from_is_err_and c.from_residual.result c.from_residual.ensures.1 in
     rw p.1 (λ start before read h.
     stopped_at_last g.M.Machine.respond g.met.M.Machine.long_lines start before read (Stands c.args.machine.now) (Stands c.answer_next.new.machine) c.as_slice-last.result.now (g.W.Sink.history c.args.out.now).bytes (g.W.Sink.history c.answer_next.new.out).bytes
@@ -21,7 +21,7 @@ returns-then-is_stop-clause-ok g c = λ start before read h.
     let Stands = g.M.Machine.stands in
     let until = c.args.until in
     let stops = stops_at until g.M.Machine.refuses in
-    let ok = c.in_ok-answer_next.ensures in
+    let ok = c.in_ok-answered.ensures in
     ends_at_last g.M.Machine.respond stops g.met.M.Machine.long_lines (λ place line h. ap (λ b. may_stop until && b) (g.met.M.Machine.long_refusals place line h))
     start before read (Stands c.args.machine.now) (Stands c.answer_next.new.machine) c.as_slice-last.result.now (g.W.Sink.history c.args.out.now).bytes (g.W.Sink.history c.answer_next.new.out).bytes
     (same_on g.M.Machine.respond stops start before read (Stands c.args.machine.now) c.args.line.now c.as_slice-last.result.now (g.W.Sink.history c.args.out.now).bytes h c.as_slice-last.ensures)
@@ -33,7 +33,7 @@ returns-else-is_stop-clause-ok g c = λ start before read h.
     let Stands = g.M.Machine.stands in
     let until = c.args.until in
     let stops = stops_at until g.M.Machine.refuses in
-    let ok = c.in_ok-answer_next.ensures in
+    let ok = c.in_ok-answered.ensures in
     through_last g.M.Machine.respond stops g.met.M.Machine.long_lines (λ place line h. ap (λ b. may_stop until && b) (g.met.M.Machine.long_refusals place line h))
     start before read (Stands c.args.machine.now) (Stands c.answer_next.new.machine) c.as_slice-last.result.now (g.W.Sink.history c.args.out.now).bytes (g.W.Sink.history c.answer_next.new.out).bytes
     (same_on g.M.Machine.respond stops start before read (Stands c.args.machine.now) c.args.line.now c.as_slice-last.result.now (g.W.Sink.history c.args.out.now).bytes h c.as_slice-last.ensures)

@@ -7,11 +7,11 @@ use Rattle.segment_scripts.proofs.LineEnds.{first_end, no_end}
 use Rattle.segment_scripts.proofs.StopLaws.{ends_in, fails_in, on_line, on_open}
 use Rattle.segment_scripts.proofs.scripts.feed.Goals as goal
 
-pub returns-in_err-answer_ended-clause-err : goal.returns-in_err-answer_ended-clause-err
-returns-in_err-answer_ended-clause-err g c =
+pub returns-in_err-answered-clause-err : goal.returns-in_err-answered-clause-err
+returns-in_err-answered-clause-err g c =
     let Stands = g.M.Machine.stands in
     let until = c.args.until in
-    let was = c.in_err-answer_ended.ensures in
+    let was = c.in_err-answered.ensures in
     let p = err_from_is_err_and c.from_residual.result c.from_residual.ensures.1 in
     rw p.1 (λ start before read h.
     fails_in g.M.Machine.respond (stops_at until g.M.Machine.refuses) g.met.M.Machine.long_lines (λ place line h. ap (λ b. may_stop until && b) (g.met.M.Machine.long_refusals place line h))
@@ -23,7 +23,7 @@ pub returns-then-is_stop-clause-ok : goal.returns-then-is_stop-clause-ok
 returns-then-is_stop-clause-ok g c = λ start before read h.
     let Stands = g.M.Machine.stands in
     let until = c.args.until in
-    let ok = c.in_ok-answer_ended.ensures in
+    let ok = c.in_ok-answered.ensures in
     ends_in g.M.Machine.respond (stops_at until g.M.Machine.refuses) g.met.M.Machine.long_lines (λ place line h. ap (λ b. may_stop until && b) (g.met.M.Machine.long_refusals place line h))
     start before read c.args.piece.now c.lines.invariant.done c.lines.rest.now _ _ (Stands c.lines.machine) (Stands c.answer_ended.new.machine)
     c.lines.line (g.W.Sink.history c.lines.out).bytes (g.W.Sink.history c.answer_ended.new.out).bytes (c.lines.invariant.behind start before read h)
@@ -34,7 +34,7 @@ pub lines-preserved : goal.lines-preserved
 lines-preserved g c =
     let Stands = g.M.Machine.stands in
     let until = c.args.until in
-    let ok = c.in_ok-answer_ended.ensures in
+    let ok = c.in_ok-answered.ensures in
     let rest = c.lines.rest.now in
     let n = c.in-Some.len in
     let end = take n rest in

@@ -1,6 +1,7 @@
-use Rattle.std.proofs.Common.{◌≡◌, ◌<◌, false, length, length-take, take, drop, refl, ap, ◌∙◌, arith}
+use Rattle.std.proofs.Common.{◌≡◌, ◌<◌, false, length, length-take, take, drop, refl, ap, subst, ◌∙◌, arith}
 use Rattle.std.proofs.lemmas.Bool.{ne_eqb}
 use Rattle.raw_region.specs.Device.{Took, given_since, taken_since}
+use Rattle.segment_scripts.specs.Behind.{LeavesPiece}
 use Rattle.segment_scripts.specs.Stopping.{stops_at}
 use Rattle.segment_scripts.proofs.Cuts.{since-more, none_failed, one_failed, cut_in, cut_at_limit, beyond_limit, nothing_yet, on_at_limit, stopped_in}
 use Rattle.segment_scripts.proofs.StopLaws.{on_none}
@@ -61,20 +62,22 @@ returns-then-left-count-clause-fault g c = λ start s.
     let count = c.in-Ok.count in
     let piece = c.read.new.into in
     let bytes = since-more old mid new (take count piece) was.grows c.in-Ok.ensures.bytes in
-    let on = c.in-Whole.ensures.ok start before read (rw same (was.behind start s)) in
+    let stops = stops_at c.args.until g.M.Machine.refuses in
+    let on = subst (LeavesPiece g.M.Machine.respond stops start before read (take c.min-within.result piece) (g.M.Machine.stands c.feed.new.machine) c.feed.new.line (g.W.Sink.history c.feed.new.out).bytes) c.in-Ok-Whole.field-0-is
+    (c.in-Ok-Whole.ensures.ok start before read (rw same (was.behind start s))) in
     record {
       left = record {
         beyond = beyond_limit g.M.Machine.respond read piece _ c.pieces.left count was.limit c.if-left-count.true c.in-Ok.ensures.count bytes;
         answers = cut_at_limit g.M.Machine.respond start before read piece c.pieces.left count c.min-within.result _ (g.M.Machine.stands c.feed.new.machine) c.feed.new.line (g.W.Sink.history c.feed.new.out).bytes
             was.limit c.min-within.ensures bytes on.behind;
         read = none_failed _ _ (omega (arith, c.in-Ok.ensures.counted, was.reads));
-        written = none_failed _ _ (omega (arith, c.in-Whole.ensures.counted, failures, was.writes));
+        written = none_failed _ _ (omega (arith, c.in-Ok-Whole.ensures.counted, failures, was.writes));
       };
       on = on_at_limit g.M.Machine.respond (stops_at c.args.until g.M.Machine.refuses) start read piece c.pieces.left count c.min-within.result _ was.limit c.min-within.ensures bytes on.on;
     }
 
-pub returns-in-Refused-clause-end : goal.returns-in-Refused-clause-end
-returns-in-Refused-clause-end g c = λ start s.
+pub returns-in-Ok-Refused-clause-end : goal.returns-in-Ok-Refused-clause-end
+returns-in-Ok-Refused-clause-end g c = λ start s.
     let before = (g.W.Sink.history c.args.out.now).bytes in
     let old = (g.S.Source.history c.args.script.now).bytes in
     let mid = (g.S.Source.history c.pieces.script).bytes in
@@ -90,5 +93,7 @@ returns-in-Refused-clause-end g c = λ start s.
     let script = given_since (g.S.Source.history c.args.script.now) (g.S.Source.history c.read.new.self) in
     let out = taken_since (g.W.Sink.history c.args.out.now) (g.W.Sink.history c.feed.new.out) in
     stopped_in g.M.Machine.respond (stops_at c.args.until g.M.Machine.refuses) start before read piece c.pieces.left count c.min-within.result script out (g.M.Machine.stands c.feed.new.machine) (g.W.Sink.history c.feed.new.out).bytes
-    was.limit c.min-within.ensures (since-more old mid new (take count piece) was.grows c.in-Ok.ensures.bytes) unended (c.in-Refused.ensures.ok start before read (rw same (was.behind start s))) refl
-    (none_failed _ _ (omega (arith, c.in-Ok.ensures.counted, was.reads))) (none_failed _ _ (omega (arith, c.in-Refused.ensures.counted, failures, was.writes)))
+    was.limit c.min-within.ensures (since-more old mid new (take count piece) was.grows c.in-Ok.ensures.bytes) unended
+    (subst (LeavesPiece g.M.Machine.respond (stops_at c.args.until g.M.Machine.refuses) start before read (take c.min-within.result piece) (g.M.Machine.stands c.feed.new.machine) c.feed.new.line (g.W.Sink.history c.feed.new.out).bytes) c.in-Ok-Refused.field-0-is
+    (c.in-Ok-Refused.ensures.ok start before read (rw same (was.behind start s)))) refl
+    (none_failed _ _ (omega (arith, c.in-Ok.ensures.counted, was.reads))) (none_failed _ _ (omega (arith, c.in-Ok-Refused.ensures.counted, failures, was.writes)))

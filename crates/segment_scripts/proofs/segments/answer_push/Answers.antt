@@ -7,18 +7,19 @@ use Rattle.segment_lang.specs.Seen.{literal_of}
 use Rattle.segment_lang.proofs.Laws.{of_key_literal}
 use Rattle.segment_manager.specs.Answers.{Done}
 use Rattle.segment_scripts.proofs.Answering.{replies-plain}
+use Rattle.segment_scripts.proofs.TextElements.{has-room}
 use Rattle.segment_scripts.proofs.WrongLines.{responds-wrong}
 use Rattle.segment_scripts.proofs.Zeros.{responds-replied}
 use Rattle.segment_scripts.proofs.segments.answer_push.Goals as goal
 
-pub push-requires : goal.push-requires
-push-requires g c =
-    c.requires.meant (Push (key_seen c.in-Some.key) (literal_of c.in-Some.value)) (ap as_reading (c.in-Some.ensures Push ∙ sym (of_key_literal Push c.args.rest.now)))
+pub add-requires : goal.add-requires
+add-requires g c =
+    has-room (literal_of c.in-Some.value) (c.requires.meant (Push (key_seen c.in-Some.key) (literal_of c.in-Some.value)) (ap as_reading (c.in-Some.ensures Push ∙ sym (of_key_literal Push c.args.rest.now))))
 
 pub returns-in-Some : goal.returns-in-Some
 returns-in-Some g c =
     responds-replied (ap as_reading (c.in-Some.ensures Push ∙ sym (of_key_literal Push c.args.rest.now)))
-    (replies-plain (λ _. Done) (λ _. refl) c.push.result refl refl c.done-answer.ensures c.push.ensures.step c.push.ensures.refused (λ _. refl))
+    (replies-plain (λ _. Done) (λ _. refl) c.add.result refl refl c.done-answer.ensures c.add.ensures.step c.add.ensures.refused (λ _. refl))
     c.put_answer.ensures
 
 pub returns-in-None : goal.returns-in-None

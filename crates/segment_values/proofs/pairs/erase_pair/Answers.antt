@@ -5,20 +5,20 @@ use Rattle.segment_values.proofs.Exits.{exit-is}
 use Rattle.segment_values.proofs.pairs.erase_pair.Goals as goal
 
 pub returns-in_err-object-clause-step : goal.returns-in_err-object-clause-step
-returns-in_err-object-clause-step c =
+returns-in_err-object-clause-step g c =
     rw (exit-is c.from_residual.ensures.1) (remove-unchangeable c.in_err-object.ensures _)
 
 pub returns-in_err-gone-in-Map-clause-step : goal.returns-in_err-gone-in-Map-clause-step
-returns-in_err-gone-in-Map-clause-step c = rw (exit-is c.from_residual-in_err-gone-in-Map.ensures.1)
+returns-in_err-gone-in-Map-clause-step g c = rw (exit-is c.from_residual-in_err-gone-in-Map.ensures.1)
     (remove-no_value c.in_ok-object.ensures c.in-Map.is _ c.in_err-gone-in-Map.ensures)
 
 pub returns-in_ok-gone-in-Map-clause-step : goal.returns-in_ok-gone-in-Map-clause-step
-returns-in_ok-gone-in-Map-clause-step c = removes-key c.in_ok-object.ensures c.in-Map.is _ c.in_ok-gone-in-Map.gone c.in_ok-gone-in-Map.ensures c.map_erase_any.ensures.step
+returns-in_ok-gone-in-Map-clause-step g c = removes-key c.in_ok-object.ensures c.in-Map.is _ c.in_ok-gone-in-Map.gone c.in_ok-gone-in-Map.ensures c.map_erase_any.ensures.step
 
 pub returns-in_ok-gone-in-Map-clause-absent : goal.returns-in_ok-gone-in-Map-clause-absent
-returns-in_ok-gone-in-Map-clause-absent c =
+returns-in_ok-gone-in-Map-clause-absent g c =
     erases-absent _ _ _ c.in_ok-object.object c.in-Map.keys c.in-Map.values _ c.in_ok-gone-in-Map.gone
     c.in_ok-object.ensures.located c.in-Map.is c.in_ok-gone-in-Map.ensures c.map_erase_any.ensures.absent
 
 pub returns-in_default-clause-step : goal.returns-in_default-clause-step
-returns-in_default-clause-step c = remove-no_map c.in_ok-object.ensures c.in_default.not-Map _
+returns-in_default-clause-step g c = remove-no_map c.in_ok-object.ensures c.in_default.not-Map _

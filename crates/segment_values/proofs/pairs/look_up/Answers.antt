@@ -4,14 +4,14 @@ use Rattle.segment_values.proofs.Exits.{exit-is}
 use Rattle.segment_values.proofs.pairs.look_up.Goals as goal
 
 pub returns-in_err-object : goal.returns-in_err-object
-returns-in_err-object c = rw (exit-is c.from_residual.ensures.1) (lookup-nowhere _ c.in_err-object.ensures)
+returns-in_err-object g c = rw (exit-is c.from_residual.ensures.1) (lookup-nowhere _ c.in_err-object.ensures)
 
 pub returns-in_err-wanted-in-Map : goal.returns-in_err-wanted-in-Map
-returns-in_err-wanted-in-Map c = rw (exit-is c.from_residual-in_err-wanted-in-Map.ensures.1)
+returns-in_err-wanted-in-Map g c = rw (exit-is c.from_residual-in_err-wanted-in-Map.ensures.1)
     (lookup-no_value c.in_ok-object.ensures c.in-Map.is _ c.in_err-wanted-in-Map.ensures)
 
 pub returns-in_ok-wanted-in-Map : goal.returns-in_ok-wanted-in-Map
-returns-in_ok-wanted-in-Map c = looks-up-key c.in_ok-object.ensures c.in-Map.is _ c.in_ok-wanted-in-Map.wanted c.in_ok-wanted-in-Map.ensures c.map_get_any.ensures
+returns-in_ok-wanted-in-Map g c = looks-up-key c.in_ok-object.ensures c.in-Map.is _ c.in_ok-wanted-in-Map.wanted c.in_ok-wanted-in-Map.ensures c.map_get_any.ensures
 
 pub returns-in_default : goal.returns-in_default
-returns-in_default c = lookup-no_map c.in_ok-object.ensures c.in_default.not-Map _
+returns-in_default g c = lookup-no_map c.in_ok-object.ensures c.in_default.not-Map _

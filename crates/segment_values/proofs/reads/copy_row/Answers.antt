@@ -1,10 +1,43 @@
--- One element more.
-use Rattle.std.proofs.Common.{◌<◌, length, subst, sym}
+-- So many of its bytes spell so many elements.
+use Rattle.std.proofs.Common.{◌≡◌, ◌∙◌, ◌*◌, ◌+◌, ap, arith, drop, length, take}
+use Rattle.seg_types.specs.Kinds.{size_of}
 use Rattle.segment_values.specs.Ranges.{row_of}
-use Rattle.segment_values.proofs.RangeReads.{reads-one}
+use Rattle.segment_values.proofs.RangeRuns.{row-bytes, row-bytes-inside, slice-part}
 use Rattle.segment_values.proofs.reads.copy_row.Goals as goal
 
-pub elements-preserved : goal.elements-preserved
-elements-preserved g c =
-    reads-one g.T.Scalar.whole c.args.segment.now (row_of c.args.object.now) c.args.first c.elements.i (length c.args.row.now) c.elements.row c.element_or.result
-    c.element_or.ensures c.requires.there c.elements-test.true (subst (λ m. c.elements.i < m) (sym c.elements.auto.row) c.elements-test.true) c.elements.invariant
+pub overflow_mul-from : goal.overflow_mul-from
+overflow_mul-from g c =
+    let k = g.T.Scalar.kind in let first = c.args.first in
+    let within = row-bytes-inside c.args.segment.now c.args._object.now k c.args.run first (length c.args.row.now)
+    c.requires.row c.requires.there in
+    let short = c.requires.row.short in
+    let same : c.SIZE.result * first ≡ size_of k * first = ap (λ n. n * first) (c.SIZE.ensures ∙ g.met.T.Scalar.size) in
+    omega (arith, within, short, same)
+
+pub overflow_add-from : goal.overflow_add-from
+overflow_add-from g c =
+    let k = g.T.Scalar.kind in let first = c.args.first in
+    let within = row-bytes-inside c.args.segment.now c.args._object.now k c.args.run first (length c.args.row.now)
+    c.requires.row c.requires.there in
+    let short = c.requires.row.short in
+    let same : c.SIZE.result * first ≡ size_of k * first = ap (λ n. n * first) (c.SIZE.ensures ∙ g.met.T.Scalar.size) in
+    omega (arith, within, short, same)
+
+pub overflow_mul-len : goal.overflow_mul-len
+overflow_mul-len g c =
+    let k = g.T.Scalar.kind in let n = length c.args.row.now in
+    let within = row-bytes-inside c.args.segment.now c.args._object.now k c.args.run c.args.first n c.requires.row
+    c.requires.there in
+    let short = c.requires.row.short in
+    let same : c.SIZE-2.result * n ≡ size_of k * n = ap (λ m. m * n) (c.SIZE-2.ensures ∙ g.met.T.Scalar.size) in
+    omega (arith, within, short, same)
+
+pub returns : goal.returns
+returns g c = λ d st.
+    let k = g.T.Scalar.kind in let first = c.args.first in let n = length c.args.row.now in
+    let o = c.args._object.now in let run = c.args.run in
+    c.read_values.ensures (take n (drop first (row_of o d)))
+    (row-bytes c.args.segment.now o k run first n _ c.requires.row c.requires.there
+    (slice-part c.as_bytes.ensures.bytes
+    (ap (λ m. run.offset + m * first) (c.SIZE.ensures ∙ g.met.T.Scalar.size))
+    (ap (λ m. m * n) (c.SIZE-2.ensures ∙ g.met.T.Scalar.size))) d st)

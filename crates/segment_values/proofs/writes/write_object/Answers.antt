@@ -18,7 +18,7 @@ pub returns-then-not-has_range-clause-step : goal.returns-then-not-has_range-cla
 returns-then-not-has_range-clause-step g c =
     let s = c.args.segment.now in
     let o = c.args.object.now in
-    row-refused s (ByHandle o.handle) g.T.Scalar.kind g.T.Scalar.whole c.args.row.now c.args.first c.len_of.result (row_of o) c.len_of.ensures
+    row-refused s (ByHandle o.handle) g.T.Scalar.kind g.T.Scalar.whole c.args.row.now c.args.first c.row_run.result.count (row_of o) c.row_run.ensures.many
     (λ d st. row-range s o c.requires.object g.T.Scalar.kind c.args.first (length c.args.row.now) d st (sym c.is_row.ensures ∙ c.if-not-is_row.false)) c.requires.writing
     (sym c.has_range.ensures ∙ c.if-not-has_range.true)
 
@@ -26,7 +26,7 @@ pub returns-clause-step : goal.returns-clause-step
 returns-clause-step g c =
     let s = c.args.segment.now in
     let o = c.args.object.now in
-    row-written s (ByHandle o.handle) g.T.Scalar.kind g.T.Scalar.whole c.args.row.now c.args.first c.len_of.result (row_of o) c.len_of.ensures
+    row-written s (ByHandle o.handle) g.T.Scalar.kind g.T.Scalar.whole c.args.row.now c.args.first c.row_run.result.count (row_of o) c.row_run.ensures.many
     (λ d st. row-range s o c.requires.object g.T.Scalar.kind c.args.first (length c.args.row.now) d st (sym c.is_row.ensures ∙ c.if-not-is_row.false)) c.requires.writing
     c.set_row.new.segment (sym c.has_range.ensures ∙ c.if-not-has_range.false) c.set_row.ensures.range.stays
     c.set_row.ensures.range.denotes

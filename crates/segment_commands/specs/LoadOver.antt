@@ -1,0 +1,51 @@
+-- How a segment is made of a dump, in the place of a file that is there.
+use Rattle.std.specs.Prelude.{◌≡◌, ◌≢◌, ◌⊎◌, ℕ, List, Option, Result, Ok, Err}
+use Rattle.raw_region.specs.Device.{Gave}
+use Rattle.segment_manager.specs.State.{State}
+use Rattle.segment_cli.specs.declared.faults.SessionFault.TheVariants.{WriteFault}
+use Rattle.segment_commands.specs.declared.program_faults.ProgramFault.{ProgramFault}
+use Rattle.segment_commands.specs.declared.program_faults.ProgramFault.TheVariants.{Session}
+use Rattle.segment_disk.specs.declared.presence.Presence.{Presence}
+use Rattle.segment_disk.specs.declared.presence.Presence.TheVariants.{There}
+use Rattle.segment_disk.specs.declared.presence.Making.TheVariants.{Beside}
+use Rattle.segment_disk.specs.Events.{Event, Looked}
+use Rattle.segment_file.specs.Files.{WritesImage}
+use Rattle.segment_commands.specs.Holding.{Holds}
+use Rattle.segment_commands.specs.Loading.{IsLoad, LoadsDump}
+
+module _ {D : Type 0} (step : D → Event → D → Type 0) (old new : D) (path : List ℕ) (size : Option ℕ) (script script' : Gave) (result : Result (Unit {0}) ProgramFault) where
+  -- no segment was made, and the disk was not asked for anything
+  pub record IsNotLoadedOver : Type 0 where
+    pub asked : new ≡ old
+    pub fault : ProgramFault
+    pub why : LoadsDump size script script' (Err fault)
+    pub refused : result ≡ Err fault
+
+  -- the image of the segment was written beside the file, and took its place
+  pub record IsLoadedOver : Type 0 where
+    pub segment : State
+    pub made : LoadsDump size script script' (Ok segment)
+    pub writes : WritesImage step old new Beside path segment.cut.bytes result
+    pub answer : (fault : ProgramFault) → result ≡ Err fault → fault ≡ Session WriteFault
+
+  abbrev pub LoadsOver : Type 0
+  LoadsOver = IsNotLoadedOver ⊎ IsLoadedOver
+
+module _ {D : Type 0} (step : D → Event → D → Type 0) (old new : D) (path : List ℕ) (size : Option ℕ) (script script' : Gave) (result : Result (Unit {0}) ProgramFault) where
+  -- nothing is there, or that can't be known: a new file is made
+  pub record IsLoadedAnew : Type 0 where
+    pub found : Presence
+    pub free : found ≢ There
+    pub looked : D
+    pub asked : step old (Looked path found) looked
+    pub loads : IsLoad step looked new path size script script' result
+
+  -- a file is there, and its right is taken first
+  pub record IsLoadedInPlace : Type 0 where
+    pub looked : D
+    pub asked : step old (Looked path There) looked
+    pub holds : Holds step looked new path (script' ≡ script) (λ held done. LoadsOver step held done path size script script' result) result
+
+  -- `load --replace`
+  abbrev pub IsLoadOver : Type 0
+  IsLoadOver = IsLoadedAnew ⊎ IsLoadedInPlace

@@ -1,0 +1,6 @@
+-- So many values were read.
+use Rattle.segment_values.proofs.RangeRuns.{AreReadOf}
+use Rattle.segment_values.proofs.reads.read_values.Given as goal
+
+abbrev pub invariant-values : goal.invariant-values
+invariant-values g l = AreReadOf g.T.Scalar.whole g.T.Scalar.kind l.bytes l.row l.i

@@ -1,8 +1,0 @@
--- A scalar as a literal, and what a literal is as a value of a kind, or two as a pair of two kinds.
-use Rattle.seg_types.specs.declared.values.ScalarValue.{ScalarValue}
-use Rattle.seg_types.specs.Commands.{Literal, literal_of}
-use Rattle.seg_types.specs.Values.{kind_of_scalar, value_of_scalar}
-
--- the literal that a script writes for the value: its kind is forgotten but for whether it is a truth
-abbrev pub literal_seen : ScalarValue → Literal
-literal_seen v = literal_of (kind_of_scalar v) (value_of_scalar v)

@@ -37,7 +37,7 @@ IsWhyRefused format b ReadFault = ⊥
 -- it denotes a directory, and the way-points lead to its blocks
 pub record IsImageNoted (format : ℕ) (b : List ℕ) (points : WayPoints) : Type 0 where
   pub image : IsImage format b
-  pub points : LeadToBlocks points b
+  pub lead : LeadToBlocks points b
 
 -- all passes over an image went well: the map has its blocks, and they spent no more than they may
 pub record ArePassed (b : List ℕ) (es : Blocks) (old new : ℕ) : Type 0 where

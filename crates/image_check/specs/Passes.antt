@@ -1,5 +1,5 @@
 -- What a pass over an image answers.
-use Rattle.std.specs.Prelude.{◌≡◌, ⊥, ℕ, ◌+◌, ◌≤◌, Bool, true, false, List, count_by, length, is_some, IsTrue, Result, MatchResult}
+use Rattle.std.specs.Prelude.{◌≡◌, ℕ, ◌+◌, ◌≤◌, Bool, true, false, List, count_by, length, is_some, IsTrue, Result, MatchResult}
 use Rattle.std.specs.List.{list_any}
 use Rattle.raw_region.specs.Memory.{bytes_of}
 use Rattle.raw_region.specs.Format.{current}

@@ -13,7 +13,7 @@ returns-in-Ok-clause-answers c =
     let p = c.in-Ok.ensures.passed in
     record {
       image = c.in-Ok.ensures.answers;
-      points = c.note_blocks.ensures.points b (frame-AreBlocks (tiles_in b) c.in-Ok.owners.blocks.entries (entries_of (tiles_in b)) p.frame (tags-blocks b p.tiles));
+      lead = c.note_blocks.ensures.points b (frame-AreBlocks (tiles_in b) c.in-Ok.owners.blocks.entries (entries_of (tiles_in b)) p.frame (tags-blocks b p.tiles));
     }
 
 pub returns-in-Ok-clause-visits : goal.returns-in-Ok-clause-visits

@@ -301,7 +301,7 @@ fn open_in(alloc: Global, image: &[u8], region: RawRegion, mode: Mode) -> Result
         Err(refused) => match refused.cause {
             OpenError::Image(class) => Err(class_code(class)),
             OpenError::RegionTooSmall => Err(SHORT_REGION),
-            OpenError::OutOfMemory => Err(NO_MEMORY),
+            OpenError::OutOfMemory(_) => Err(NO_MEMORY),
             OpenError::ReadFault => unreachable!(),
         },
     }

@@ -45,7 +45,7 @@ saved = Ok tt
 abbrev pub file_error : OpenError → FileError
 file_error (NoImage c) = Image c
 file_error NoRoom = RegionTooSmall
-file_error NoMemory = OutOfMemory
+file_error (NoMemory refusal) = OutOfMemory
 file_error NotRead = ReadFault
 
 abbrev pub as_file : Result State OpenRefused → Result State FileError

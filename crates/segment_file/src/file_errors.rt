@@ -50,7 +50,7 @@ impl From<OpenRefused> for FileError {
         match refused.cause {
             OpenError::Image(class) => FileError::Image(class),
             OpenError::RegionTooSmall => FileError::RegionTooSmall,
-            OpenError::OutOfMemory => FileError::OutOfMemory,
+            OpenError::OutOfMemory(_) => FileError::OutOfMemory,
             OpenError::ReadFault => FileError::ReadFault,
         }
     }

@@ -82,14 +82,19 @@ module _ (image : List ℕ) (capacity : ℕ) where
 -- a place is left out
 pub without_place : (image : List ℕ) (code old new : ℕ) → IsExplained image code old new → IsNoImage image code
 without_place image code old new (inl e) = inl e.0
-without_place image code old new (inr e) = inr (e.0, e.1.0, e.1.1.0)
+without_place image code old new (inr e) = inr (e.0, e.1, e.2)
 
 module _ (image : List ℕ) (capacity : ℕ) (cause : ExamineError)
     (why : IsWhyNotOf current image 0 capacity (error_for cause)) where
   pub explained : (v : Verdict) (code old : ℕ) → cause ≡ Examined v → IsShown current image cause
       → code ≡ 100 + number_of v.class → IsExplained image code old v.place
-  explained v code old e shown n = inr (v.class, n, subst (λ (c : ExamineError).
-      IsWhyNotOf current image 0 capacity (error_for c)) e why, subst (IsShown current image) e shown)
+  explained v code old e shown n = inr (
+    v.class,
+    n,
+    subst (λ (c : ExamineError).
+        IsWhyNotOf current image 0 capacity (error_for c)) e why,
+    subst (IsShown current image) e shown,
+  )
 
   pub not_small : min (size_said image) 1073741824 ≤ capacity → cause ≡ TooSmall → ⊥
   not_small room e = has_room image capacity room

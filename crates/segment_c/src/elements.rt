@@ -83,8 +83,11 @@ fn push(segment: &mut Segment, key: &Key, value: ScalarValue) -> Result<(), Refu
     ensures refused { OnErr result (segment.new ≡ segment.old) }
 {
     match push_of_kind(segment, key, value) {
-        Err(Refusal::WrongKind) => add(segment, key, Spot::End, value),
-        pushed => pushed,
+        Ok(()) => Ok(()),
+        Err(why) => match why {
+            Refusal::WrongKind => add(segment, key, Spot::End, value),
+            _ => Err(why),
+        },
     }
 }
 
@@ -112,7 +115,11 @@ pub extern "C" fn zx_insert(
     ensures marks { IsMarked result h.old.marks h.new.marks }
 {
     let (which, new, mut segment) = passed!(enter_with(alloc, h, key, value));
-    done(add(&mut segment, &which, Spot::Before(index), new), h, segment)
+    done(
+        add(&mut segment, &which, Spot::Before(index), new),
+        h,
+        segment,
+    )
 }
 
 /// Puts a value into the vector of a key, where the spot says.

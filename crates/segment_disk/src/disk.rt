@@ -87,13 +87,4 @@ pub trait Output: Sink {
     fn flush(&mut self) -> Result<(), DeviceFault>
         ensures same { Self.history self.new ≡ Self.history self.old }
         ensures flushes { flushes self.old (is_ok result) self.new };
-
-    // What the writer is when the next line is answered.
-    ghost turns: { Self → Self → Type 0 };
-
-    /// The next line of a script is answered from here on, if it has an answer. Nothing is written; an output that
-    /// tells lines apart takes note of it.
-    fn next_line(&mut self)
-        ensures same { Self.history self.new ≡ Self.history self.old }
-        ensures turns { turns self.old self.new };
 }

@@ -123,27 +123,7 @@ struct place {
     zx_key key;
     uint32_t kind;
     void *owner;
-    uint64_t changes; /* of the segment, when it was read last */
-    bool is_found;    /* whether `found` is the object's key since then */
-    zx_key found;     /* by its handle */
 };
-
-/* The key for a read: where nothing has changed since the last two, the object's handle, so that no name is looked
-   up. */
-static const zx_key *key_for(struct place *place) {
-    uint64_t handle;
-    uint32_t count;
-    if (place->changes != place->segment->changes) {
-        place->changes = place->segment->changes;
-        place->is_found = false;
-        return &place->key;
-    }
-    if (place->is_found) return &place->found;
-    if (zx_find(place->segment, &place->key, place->kind, &handle, &count) != ZX_DONE) return &place->key;
-    place->found = zx_handle(handle);
-    place->is_found = true;
-    return &place->found;
-}
 
 static void end(void *capsule) {
     struct place *place = PyCapsule_GetPointer(capsule, IS_PLACE);
@@ -162,20 +142,20 @@ static void *value_or_none(zx_code code, const zx_value *value) {
     return code == ZX_DONE ? object_of(value) : shared(_Py_NoneStruct);
 }
 
-static void *at_key(struct place *place, void *const *passed, bool is_put) {
+static void *at_key(const struct place *place, void *const *passed, bool is_put) {
     zx_value key, value;
     bool is_new;
     if (!value_in(passed[0], place->kind >> 8 & 255, &key)) return shared(_Py_NoneStruct);
-    if (!is_put) return value_or_none(zx_map_get(place->segment, key_for(place), &key, &value), &value);
+    if (!is_put) return value_or_none(zx_map_get(place->segment, &place->key, &key, &value), &value);
     if (!value_in(passed[1], place->kind & 255, &value)) return shared(_Py_NoneStruct);
     return answered(zx_map_put(place->segment, &place->key, &key, &value, &is_new));
 }
 
-static void *at_index(struct place *place, void *const *passed, bool is_put) {
+static void *at_index(const struct place *place, void *const *passed, bool is_put) {
     zx_value index, value;
     if (!value_in(passed[0], ZX_I64, &index) || index.number < (is_put ? -1 : 0)) return shared(_Py_NoneStruct);
     uint64_t at = (uint64_t)index.number;
-    if (!is_put) return value_or_none(zx_get(place->segment, key_for(place), at, &value), &value);
+    if (!is_put) return value_or_none(zx_get(place->segment, &place->key, at, &value), &value);
     uint32_t kind = place->kind == ZX_STRING ? (uint32_t)ZX_U8 : place->kind & 255;
     if (!value_in(passed[1], kind, &value)) return shared(_Py_NoneStruct);
     return answered(index.number < 0 ? zx_push(place->segment, &place->key, &value)
@@ -183,7 +163,7 @@ static void *at_index(struct place *place, void *const *passed, bool is_put) {
 }
 
 static void *at(void *self, void *const *passed, intptr_t count) {
-    struct place *place = PyCapsule_GetPointer(self, IS_PLACE);
+    const struct place *place = PyCapsule_GetPointer(self, IS_PLACE);
     if (!place) return NULL;
     bool is_here = !place->thread || place->thread == zx_thread();
     if (!is_here || count < 1 || count > 2) return shared(_Py_NoneStruct);
@@ -197,7 +177,7 @@ void *zx_python_at(zx_segment *segment, const zx_key *key, uint32_t kind, uint64
     if (!is_there()) return NULL;
     struct place *place = malloc(sizeof *place);
     if (!place) return PyErr_NoMemory();
-    *place = (struct place){ segment, thread, *key, kind, owner, segment->changes - 1, false, *key };
+    *place = (struct place){ segment, thread, *key, kind, owner };
     void *capsule = PyCapsule_New(place, IS_PLACE, end);
     if (!capsule) {
         free(place);

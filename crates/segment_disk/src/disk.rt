@@ -32,7 +32,8 @@ pub trait Disk {
         ensures { step self.old (Looked path.now result) self.new };
 
     /// Takes the right to write a file, which no other has until it is given back. Where another has it, the answer is
-    /// `InUse`, at once or after a wait that ends. A file that can't be held, or is not there, is nobody's, and the answer is Ok.
+    /// `InUse`, at once or after a wait that ends. A file that can't be held, or is not there, is nobody's, and the
+    /// answer is Ok.
     fn hold(&mut self, path: &str) -> Result<Self::Hold, InUse>
         ensures { step self.old (Held path.now (is_ok result)) self.new };
 

@@ -281,6 +281,65 @@ static void no_image(void) {
     IS(length(), 8192 + 16);
 }
 
+/* The path is looked up when the file is opened, and by no other call; a link leads to the file. */
+static void by_its_path(void) {
+    char link[430], folder[430], here[400];
+    zx_file file = ZX_CLOSED_FILE;
+    seed(5);
+    IS(getcwd(here, sizeof here) != NULL, true);
+    snprintf(folder, sizeof folder, "%s", path);
+    *strrchr(folder, '/') = 0;
+    IS(chdir(folder), 0);
+    DONE(zx_file_open(&file, "mapped.seg", WRITE, 0));
+    IS(chdir("/"), 0);
+    DONE(zx_file_grow(&file, 1 << 20));
+    DONE(set(&file, 6));
+    DONE(zx_file_flush(&file));
+    DONE(zx_file_shrink(&file));
+    DONE(zx_file_close(&file));
+    IS(chdir(here), 0);
+    IS(stands(), 6);
+    snprintf(link, sizeof link, "%s.link", path);
+    unlink(link);
+    IS(symlink("mapped.seg", link), 0);
+    for (uint32_t mode = WRITE; mode <= COPY; mode++) {
+        DONE(zx_file_open(&file, link, mode, 0));
+        IS(get(&file), 6);
+        DONE(zx_file_close(&file));
+    }
+    IS(zx_file_open(&file, link, CREATE, 8192), ZX_FILE_EXISTS);
+    IS(unlink(path), 0);
+    for (uint32_t mode = READ; mode <= COPY; mode++) IS(zx_file_open(&file, link, mode, 0), ZX_FILE_DANGLES);
+    IS(unlink(link), 0);
+    /* a file that has lost its name is changed, and no other is made */
+    seed(5);
+    DONE(zx_file_open(&file, path, WRITE, 0));
+    IS(unlink(path), 0);
+    DONE(set(&file, 6));
+    DONE(zx_file_flush(&file));
+    DONE(zx_file_close(&file));
+    IS(length(), -1);
+}
+
+/* What a saver that was killed left beside a file is removed by who opens that for writing. */
+static void what_was_left(void) {
+    char spare[430];
+    uint64_t hash = 0xcbf29ce484222325;
+    zx_file file = ZX_CLOSED_FILE;
+    for (const char *at = "mapped.seg"; *at; at++) hash = (hash ^ (unsigned char)*at) * 0x100000001b3;
+    snprintf(spare, sizeof spare, "%s", path);
+    snprintf(strrchr(spare, '/') + 1, 40, ".zaluxhoni-%016llx", (unsigned long long)hash);
+    for (uint32_t mode = WRITE; mode <= COPY; mode++) {
+        seed(5);
+        int left = open(spare, O_CREAT | O_RDWR, 0600);
+        IS(left >= 0 && close(left) == 0, true);
+        DONE(zx_file_open(&file, path, mode, 0));
+        IS(access(spare, F_OK), mode < READ ? -1 : 0);
+        DONE(zx_file_close(&file));
+        unlink(spare);
+    }
+}
+
 /* A child has no part in a mapping, and its calls find the segment closed. */
 static void forked(void) {
     zx_file file = ZX_CLOSED_FILE;
@@ -452,6 +511,8 @@ int main(int count, char **words) {
     one_writer_or_readers();
     longer_and_shorter();
     no_image();
+    by_its_path();
+    what_was_left();
     forked();
     killed();
     killed_within_a_call(atoi(words[2]));

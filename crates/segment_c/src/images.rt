@@ -242,7 +242,14 @@ fn examine_in(alloc: Global, image: &[u8], region: RawRegion, place: &mut u64) -
     ensures why { 1 ≤ result → IsExplained image.now result place.old place.new }
     ensures kept { result ≡ 0 → place.new ≡ place.old }
 {
-    match examine_bytes(Versions::Current, alloc, image, region, 0, &mut Steps::new()) {
+    match examine_bytes(
+        Versions::Current,
+        alloc,
+        image,
+        region,
+        0,
+        &mut Steps::new(),
+    ) {
         Ok(_) => DONE,
         Err(refused) => match refused.cause {
             ExamineError::Image(verdict) => {

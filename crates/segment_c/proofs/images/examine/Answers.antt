@@ -7,8 +7,13 @@ use Rattle.segment_c.proofs.images.examine.Goals as goal
 
 pub returns-then-len-size-clause-why : goal.returns-then-len-size-clause-why
 returns-then-len-size-clause-why c = λ _.
-    inr (Truncated, c.class_code.ensures, said_more c.args.image.now
-    (subst (λ (n : ℕ). length c.args.image.now < n) c.size_said-size.ensures c.if-len-size.true), refl)
+    inr (
+      Truncated,
+      c.class_code.ensures,
+      said_more c.args.image.now
+          (subst (λ (n : ℕ). length c.args.image.now < n) c.size_said-size.ensures c.if-len-size.true),
+      refl,
+    )
 
 pub examine_in-requires : goal.examine_in-requires
 examine_in-requires c =

@@ -6,19 +6,20 @@ ghost use Rattle.segment_disk.specs.Events.{nothing_taken};
 
 use raw_region::stream::{ReadOnce, Reading, Writing};
 use raw_region::{DeviceFault, Source};
+use segment_answers::{Lined, Numbered};
 use segment_cli::SessionFault;
 use segment_commands::{
     ProgramFault, check, create, draw, draw_page, dump, dump_capacities, dump_json, explain, grow,
-    lint, load, load_over, migrate, names, print, print_language, report, report_file, run_strict,
-    shrink, stat,
+    lint, load, load_over, migrate, names, print, print_language, report, report_file, shrink,
+    stat,
 };
-use segment_disk::{Disk, HostDisk, Numbered, Opened, Outlet, Output, StopsAtError, Trouble};
+use segment_disk::{Disk, HostDisk, Opened, Outlet, Output, Trouble};
 use segment_invocation::{
     Invocation, InvocationFault, Keeping, ModeName, Running, Saving, Script, VERSION, invocation,
     is_verbose, script_text,
 };
 use segment_lang::{Piece, put_pieces};
-use segment_scripts::command_rows;
+use segment_scripts::{Until, command_rows};
 use std::alloc::{AllocError, Global};
 use std::io::{self, BufWriter, ErrorKind, IsTerminal, Read, Write};
 use std::process::ExitCode;
@@ -111,6 +112,9 @@ fn check_all<W: Write>(
                 };
             }
             Err(fault) => {
+                let Ok(()) = out.flush() else {
+                    return Err(WRITE_FAULT);
+                };
                 let _ = put_pieces(
                     &mut Writing::new(rt.stderr()),
                     &[front, Piece::Bytes(b": ")],
@@ -262,7 +266,7 @@ struct Run<'a> {
 }
 
 /// Runs the script that is asked for, and gives its answers to an output.
-fn answer<O: Output + Drop>(
+fn answer<O: Lined + Drop>(
     rt: &HostRuntime,
     disk: &mut HostDisk<'_, HostRuntime>,
     scripts: &mut HostDisk<'_, HostRuntime>,
@@ -294,7 +298,7 @@ fn answer<O: Output + Drop>(
 }
 
 /// Runs a script, and gives its answers to an output that makes of them what is wanted.
-fn answer_script<S: Source, O: Output + Drop>(
+fn answer_script<S: Source, O: Lined + Drop>(
     rt: &HostRuntime,
     disk: &mut HostDisk<'_, HostRuntime>,
     run: Run<'_>,
@@ -306,34 +310,33 @@ fn answer_script<S: Source, O: Output + Drop>(
     requires out { O.history out ≡ nothing_taken }
 {
     if how.answering.numbered {
-        return answer_as(rt, disk, run, how, script, Numbered::new(out));
+        return answer_to(rt, disk, run, how, script, &mut Numbered::new(out));
     }
-    answer_as(rt, disk, run, how, script, out)
+    let mut plain = out;
+    answer_to(rt, disk, run, how, script, &mut plain)
 }
 
-/// The same to an output as it is, or up to the first error.
-fn answer_as<S: Source, O: Output + Drop>(
+/// The same to an output as it is, to the end of the script or to the first line that is refused.
+fn answer_to<S: Source, O: Lined>(
     rt: &HostRuntime,
     disk: &mut HostDisk<'_, HostRuntime>,
     run: Run<'_>,
     how: &Running<'_>,
     script: &mut S,
-    out: O,
+    out: &mut O,
 ) -> Result<(), ProgramFault>
     requires script { (S.history script.old).failures ≡ 0 }
-    requires out { O.history out ≡ nothing_taken }
+    requires out { O.history out.old ≡ nothing_taken }
 {
     let alloc = rt.alloc();
     let saving = how.keeping.saving;
-    if how.answering.strict {
-        let mut out = StopsAtError::new(out);
-        return run_strict(
-            alloc, disk, run.file, run.mode, run.size, saving, script, &mut out,
-        );
-    }
-    let mut out = out;
+    let until = if how.answering.strict {
+        Until::Refusal
+    } else {
+        Until::End
+    };
     segment_commands::run(
-        alloc, disk, run.file, run.mode, run.size, saving, script, &mut out,
+        alloc, disk, run.file, run.mode, run.size, saving, until, script, out,
     )
 }
 

@@ -18,7 +18,7 @@ grown_code old new extra g d h = inl (sym (ap size_code (g.may.may d h)))
 pub refused_code : (old new : State) (extra : ℕ) (why : GrowOrMoveError) → GrowsOrMovesErr old new extra why
     → (d : Directory) → StandsFor old.cut.bytes d → IsGrowthCode old.mode extra (growing_code why) d
 refused_code old new extra (Growth reason) g d h = inl (sym (ap size_code (g.1.applies d h)))
-refused_code old new extra (OutOfMemory refusal) g d h = inr (refl, g.1.0.may.may d h)
+refused_code old new extra (OutOfMemory refusal) g d h = inr (refl, g.1.may.may d h)
 
 coded : (reason : GrowError) → 1 ≤ size_code (Some reason)
 coded ReadOnly = omega arith

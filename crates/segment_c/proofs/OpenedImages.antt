@@ -82,7 +82,7 @@ module _ (image : List ℕ) (capacity : ℕ) where
 -- a place is left out
 pub without_place : (image : List ℕ) (code old new : ℕ) → IsExplained image code old new → IsNoImage image code
 without_place image code old new (inl e) = inl e.0
-without_place image code old new (inr e) = inr (e.0, e.1.0, e.1.1.0)
+without_place image code old new (inr e) = inr (e.0, e.1, e.2)
 
 module _ (image : List ℕ) (capacity : ℕ) (cause : ExamineError)
     (why : IsWhyNotOf current image 0 capacity (error_for cause)) where

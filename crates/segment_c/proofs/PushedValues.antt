@@ -28,19 +28,19 @@ module _ (mode : Mode) (d : Directory) (key : Key) (kind : Kind) (l : Literal) w
   -- in a segment that is read alone, or without the object, both are refused for the same reason
   same-reading : is_read_only mode ≡ true → step_of_kind mode d key kind (Push key l) ≡ step mode d (Push key l)
   unfolding step step_of_kind
-  same-reading e = ap (λ b. perform d (live d) (if b then Refuse ReadOnly else with (found_at d key) next_of_kind)) e
-      ∙ sym (ap (λ b. perform d (live d) (if b then Refuse ReadOnly else effect d (Push key l))) e)
+  same-reading e = ap (λ b. perform d (live d) (if b && true then Refuse ReadOnly else with (found_at d key) next_of_kind)) e
+      ∙ sym (ap (λ b. perform d (live d) (if b && true then Refuse ReadOnly else effect d (Push key l))) e)
 
   same-nowhere : object_at d key ≡ None → step_of_kind mode d key kind (Push key l) ≡ step mode d (Push key l)
   unfolding step step_of_kind
-  same-nowhere e = ap (λ (p : Plan). perform d (live d) (if is_read_only mode then Refuse ReadOnly else p))
+  same-nowhere e = ap (λ (p : Plan). perform d (live d) (if is_read_only mode && true then Refuse ReadOnly else p))
       (with-not_found d key next_of_kind e ∙ sym (with-not_found d key (λ o. plans.push d o o.value l) e))
 
   other-kind : (o : Object) → is_read_only mode ≡ false → object_at d key ≡ Some o
       → same_kind kind (kind_of o.value) ≡ false → (step_of_kind mode d key kind (Push key l)).0 ≡ Refused WrongKind
   unfolding step_of_kind
   other-kind o e f g = ap (λ (a : Answer × Directory). a.0)
-      (ap (λ b. perform d (live d) (if b then Refuse ReadOnly else with (found_at d key) next_of_kind)) e
+      (ap (λ b. perform d (live d) (if b && true then Refuse ReadOnly else with (found_at d key) next_of_kind)) e
       ∙ ap (λ (p : Plan). perform d (live d) p) (with-found d key o next_of_kind f
       ∙ ap (λ b. if b then effect d (Push key l) else Refuse WrongKind) g))
 

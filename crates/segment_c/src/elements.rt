@@ -83,8 +83,11 @@ fn push(segment: &mut Segment, key: &Key, value: ScalarValue) -> Result<(), Refu
     ensures refused { OnErr result (segment.new ≡ segment.old) }
 {
     match push_of_kind(segment, key, value) {
-        Err(Refusal::WrongKind) => add(segment, key, Spot::End, value),
-        pushed => pushed,
+        Ok(()) => Ok(()),
+        Err(why) => match why {
+            Refusal::WrongKind => add(segment, key, Spot::End, value),
+            _ => Err(why),
+        },
     }
 }
 

@@ -3,4 +3,5 @@ mod SessionLaws
 mod Endings
 mod Migrated
 mod Beginnings
+mod ReportedLines
 pub mod Laws

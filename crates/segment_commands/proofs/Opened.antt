@@ -8,6 +8,8 @@ use Rattle.segment_cli.specs.declared.faults.Start.{Start}
 use Rattle.segment_cli.specs.declared.faults.Start.TheVariants.{Fresh, Image}
 use Rattle.segment_cli.specs.declared.faults.SessionFault.{SessionFault}
 use Rattle.segment_cli.specs.Beginning.{Starts}
+use Rattle.segment_scripts.specs.declared.ends.End.{End}
+use Rattle.segment_scripts.specs.declared.ends.Until.{Until}
 use Rattle.segment_disk.specs.declared.presence.Making.{Making}
 use Rattle.segment_disk.specs.declared.presence.Making.TheVariants.{New}
 use Rattle.segment_disk.specs.Events.{Event, After}
@@ -21,35 +23,35 @@ use Rattle.segment_commands.specs.declared.program_faults.ProgramFault.{ProgramF
 no_fault : (s : State) (fault : SessionFault) → let answer : Result State SessionFault = Ok s in answer ≡ Err fault → ⊥
 no_fault s fault e = cc
 
-module _ {D O : Type 0} (step : D → Event → D → Type 0) (old read new : D) (path : List ℕ) (script script' : Gave) (history : O → Took) (flushes : Bool → Type 0) (out out' : O)
-    (result : Result (Unit {0}) SessionFault) (s : State) where
+module _ {D O : Type 0} (step : D → Event → D → Type 0) (old read new : D) (path : List ℕ) (until : Until) (script script' : Gave) (history : O → Took) (flushes : Bool → Type 0) (out out' : O)
+    (result : Result End SessionFault) (s : State) where
   module _ (mode : Mode) (how : Making)
       (ends : (start : Start) (m : Mode) (capacity : ℕ) (image : Given) → Starts start m 0 capacity image (Ok s) → EndsRun step read new how path
-      (record { start = start; mode = m; capacity = capacity; image = image; script = given_since script script'; out = taken_since (history out) (history out') }) flushes result) where
-    begun_run : (image : Given) → After step old (opens path image) read → BeginsIn Image mode image (Ok s) → RunsOpened step old new path mode how script script' history flushes out out' result
+      (record { start = start; mode = m; capacity = capacity; image = image; until = until; script = given_since script script'; out = taken_since (history out) (history out') }) flushes result) where
+    begun_run : (image : Given) → After step old (opens path image) read → BeginsIn Image mode image (Ok s) → RunsOpened step old new path mode how until script script' history flushes out out' result
     begun_run image asked (inl r) = absurd (no_fault s _ r.refused)
     begun_run image asked (inr b) = inr (record { image = image; capacity = b.capacity; read = read; asked = asked; ends = ends Image mode b.capacity image b.starts })
 
-    pub opened_run : OpensFile step old read path mode (Ok s) → RunsOpened step old new path mode how script script' history flushes out out' result
+    pub opened_run : OpensFile step old read path mode (Ok s) → RunsOpened step old new path mode how until script script' history flushes out out' result
     opened_run (inl u) = absurd (no_fault s _ u.refused)
     opened_run (inr r) = begun_run r.image r.asked r.begins
 
   module _ (size : ℕ)
       (ends : (start : Start) (m : Mode) (capacity : ℕ) (image : Given) → Starts start m 0 capacity image (Ok s) → EndsRun step old new New path
-      (record { start = start; mode = m; capacity = capacity; image = image; script = given_since script script'; out = taken_since (history out) (history out') }) flushes result) where
-    fresh_run : (image : Given) → BeginsIn (Fresh size) Write image (Ok s) → MakesRun step old new path size script script' history flushes out out' result
+      (record { start = start; mode = m; capacity = capacity; image = image; until = until; script = given_since script script'; out = taken_since (history out) (history out') }) flushes result) where
+    fresh_run : (image : Given) → BeginsIn (Fresh size) Write image (Ok s) → MakesRun step old new path size until script script' history flushes out out' result
     fresh_run image (inl r) = absurd (no_fault s _ r.refused)
     fresh_run image (inr b) = inr (record { image = image; capacity = b.capacity; ends = ends (Fresh size) Write b.capacity image b.starts })
 
-    pub made_run : MakesSegment size (Ok s) → MakesRun step old new path size script script' history flushes out out' result
+    pub made_run : MakesSegment size (Ok s) → MakesRun step old new path size until script script' history flushes out out' result
     made_run (inl w) = absurd (no_fault s _ w.refused)
     made_run (inr f) = fresh_run f.image f.begins
 
-module _ {D O : Type 0} (step : D → Event → D → Type 0) (old new : D) (path : List ℕ) (how : Making) (script script' : Gave) (history : O → Took) (flushes : Bool → Type 0) (out out' : O)
+module _ {D O : Type 0} (step : D → Event → D → Type 0) (old new : D) (path : List ℕ) (how : Making) (until : Until) (script script' : Gave) (history : O → Took) (flushes : Bool → Type 0) (out out' : O)
     (result : Result (Unit {0}) ProgramFault) where
   -- a run that does not save
-  pub in_reading : (mode : Mode) → mode ≢ Write → RunsFree step old new path how script script' history flushes out out' result mode
-      → RunsReadable step old new path how script script' history flushes out out' result mode
+  pub in_reading : (mode : Mode) → mode ≢ Write → RunsFree step old new path how until script script' history flushes out out' result mode
+      → RunsReadable step old new path how until script script' history flushes out out' result mode
   in_reading Write is_not h = absurd (is_not refl)
   in_reading ReadOnly is_not h = h
   in_reading CopyOnWrite is_not h = h

@@ -10,6 +10,9 @@ use Rattle.segment_manager.specs.Directory.{Directory}
 use Rattle.segment_manager.specs.Layout.{magic_at}
 use Rattle.segment_manager.specs.State.{State, StandsFor}
 use Rattle.segment_lang.specs.Language.{whole as whole_language}
+use Rattle.segment_scripts.specs.declared.ends.End.{End}
+use Rattle.segment_scripts.specs.declared.ends.End.TheVariants.{Whole, Refused}
+use Rattle.segment_scripts.specs.declared.ends.Until.{Until}
 use Rattle.segment_scripts.specs.Leaves.{RunsWhole, answer_all}
 use Rattle.segment_scripts.specs.Run.{lines, run}
 use Rattle.segment_scripts.specs.Segments.{Place, IsAt, answer_line}
@@ -24,7 +27,8 @@ use Rattle.segment_disk.specs.declared.presence.Making.{Making}
 use Rattle.segment_disk.specs.declared.presence.Making.TheVariants.{New, Emptied, Beside}
 use Rattle.segment_disk.specs.Events.{Event, After}
 use Rattle.segment_file.specs.Files.{Written, Overtaken, NotMade, Closed, Offered, IsMade, IsUnwritten, WritesImage, writes, whole, all_of}
-use Rattle.segment_commands.specs.Running.{Act, IsAnswered, IsAnsweredAct, IsStopped, IsLost, IsUnsavedFor, EndsRun, Ran, saving}
+use Rattle.segment_commands.specs.Running.{Act, IsAnswered, IsAnsweredAct, IsAnsweredTo, IsRefusedAct, IsStopped, IsLost, IsUnrefusedAct}
+use Rattle.segment_commands.specs.Running.{IsUnsavedFor, EndsRun, Ran, saving}
 
 -- lines leave the mode as it is
 mode_kept : (at : Place) (ls : List (List ℕ)) → (answer_all answer_line at ls).1.mode ≡ at.mode
@@ -79,10 +83,10 @@ printed_by act ran = elim ran.answers [
   | inr u ↦ (u.cut.from, u.cut.begins, u.cut.prints)
 ]
 
-module _ {D : Type 0} (step : D → Event → D → Type 0) (how : Making) (path : List ℕ) (start : Start) (mode : Mode) (capacity : ℕ) (image : Given) (script : Given) (out : Taken) (Flushed : Bool → Type 0)
+module _ {D : Type 0} (step : D → Event → D → Type 0) (how : Making) (path : List ℕ) (start : Start) (mode : Mode) (capacity : ℕ) (image : Given) (until : Until) (script : Given) (out : Taken) (Flushed : Bool → Type 0)
     (s s' : State) (h : Starts start mode 0 capacity image (Ok s)) where
   abbrev act : Act
-  act = record { start = start; mode = mode; capacity = capacity; image = image; script = script; out = out }
+  act = record { start = start; mode = mode; capacity = capacity; image = image; until = until; script = script; out = out }
 
   first : Place
   first = record { mode = mode; directory = h.answers.from; zeros = false }
@@ -90,18 +94,37 @@ module _ {D : Type 0} (step : D → Event → D → Type 0) (how : Making) (path
   at_first : (at : Place) → at ≡ record { mode = mode; directory = h.answers.from; zeros = false } → IsAt s at
   at_first at e = subst (IsAt s) (sym e) (record { mode = h.answers.mode; denotes = h.answers.stands; zeros = λ z. absurd (cc) })
 
-  module _ (ok : Bool) (answered : IsAnswered s s' script out Flushed ok) where
+  -- it ended behind a line that was refused
+  refused_act : (ok : Bool) → IsAnswered until s s' script out Flushed Refused ok → IsRefusedAct act
+  refused_act ok answered = record {
+    from = h.answers.from;
+    begins = h.answers.begins;
+    last = s';
+    stopped = answered.served.left (record { mode = mode; directory = h.answers.from; zeros = false }) (at_first _ refl);
+  }
+
+  module _ (ok : Bool) (answered : IsAnswered until s s' script out Flushed Whole ok) where
+    whole_run : (at : Place) → IsAt s at → RunsWhole answer_line at script out (IsAt s')
+    whole_run at there = (answered.served.left at there).ran
+
     ran : RunsWhole answer_line (record { mode = mode; directory = h.answers.from; zeros = false }) script out (IsAt s')
-    ran = answered.ran (record { mode = mode; directory = h.answers.from; zeros = false }) (at_first _ refl)
+    ran = whole_run (record { mode = mode; directory = h.answers.from; zeros = false }) (at_first _ refl)
+
+    unrefused : IsUnrefusedAct act
+    unrefused = record {
+      from = h.answers.from;
+      begins = h.answers.begins;
+      on = (answered.served.left (record { mode = mode; directory = h.answers.from; zeros = false }) (at_first _ refl)).on;
+    }
 
     last_mode : s'.mode ≡ mode
     last_mode = ran.answers.stands.mode ∙ mode_kept (record { mode = mode; directory = h.answers.from; zeros = false }) (lines script.bytes)
 
     printed : (s'.mode ≡ Write) ⊎ (s'.mode ≡ Write → ⊥) → Printed act
-    printed (inl is) = printed_by act (unsaved_session start mode 0 capacity (record { image = image; script = script; out = out; saved = refusing }) s s' h answered.ran is
+    printed (inl is) = printed_by act (unsaved_session start mode 0 capacity (record { image = image; script = script; out = out; saved = refusing }) s s' h whole_run is
         (s'.cut.bytes, refl, has_bytes s'.cut.bytes _ ran.answers.stands.denotes) refl)
     printed (inr keeps) =
-        let d = (done_session start mode 0 capacity (record { image = image; script = script; out = out; saved = all_of [] }) s s' tt h answered.ran
+        let d = (done_session start mode 0 capacity (record { image = image; script = script; out = out; saved = all_of [] }) s s' tt h whole_run
         (λ d stands. saves_nothing s'.mode d keeps) (λ e. absurd (keeps e)) refl).answers in
         (d.from, d.begins, d.prints)
 
@@ -116,27 +139,36 @@ module _ {D : Type 0} (step : D → Event → D → Type 0) (how : Making) (path
       written = ran.written;
     }
 
-  pub stopped : (old : D) (fault : SessionFault) → IsStopped s s' script out Flushed fault ⊎ IsLost s s' script out Flushed fault → EndsRun step old old how path act Flushed (Err fault)
+  answered_to : (end : End) (ok : Bool) → IsAnswered until s s' script out Flushed end ok → IsAnsweredTo act end
+  answered_to Whole ok answered = answered_act ok answered
+  answered_to Refused ok answered = refused_act ok answered
+
+  pub stopped : (old : D) (fault : SessionFault) → IsStopped until s s' script out Flushed fault ⊎ IsLost until s s' script out Flushed fault → EndsRun step old old how path act Flushed (Err fault)
   stopped old fault (inl p) = inl (record {
     asked = refl;
-    ran = rw p.why (stopped_session start mode 0 capacity (record { image = image; script = script; out = out; saved = all_of [] }) s s' p.stop h p.left (record { bytes = refl; failed = refl }));
+    ran = rw p.unserved.why (stopped_session start mode 0 capacity (record { image = image; script = script; out = out; saved = all_of [] }) s s' p.unserved.stop h (λ at there. (p.unserved.left at there).left) (record { bytes = refl; failed = refl }));
     ok = p.ok;
     flushed = p.flushed;
   })
   stopped old fault (inr p) = inr (inl (record {
     why = p.why;
     asked = refl;
-    answered = answered_act false p.answered;
+    end = p.end;
+    answered = answered_to p.end false p.answered;
     flushed = p.answered.flushed;
   }))
 
-  module _ (old : D) (answered : IsAnswered s s' script out Flushed true) where
+  -- it ended at a refusal
+  pub refusing_run : (old : D) → IsAnswered until s s' script out Flushed Refused true → EndsRun step old old how path act Flushed (Ok Refused)
+  refusing_run old answered = record { asked = refl; refused = refused_act true answered; flushed = answered.flushed }
+
+  module _ (old : D) (answered : IsAnswered until s s' script out Flushed Whole true) where
     -- a mode that saves nothing
-    pub unsaving : (s'.mode ≡ Write → ⊥) → EndsRun step old old how path act Flushed (Ok tt)
+    pub unsaving : (s'.mode ≡ Write → ⊥) → EndsRun step old old how path act Flushed (Ok Whole)
     unsaving keeps = record {
       image = [];
       asked = asks_nothing step old mode how path (λ e. keeps (last_mode true answered ∙ e));
-      ran = done_session start mode 0 capacity (record { image = image; script = script; out = out; saved = all_of [] }) s s' tt h answered.ran
+      ran = done_session start mode 0 capacity (record { image = image; script = script; out = out; saved = all_of [] }) s s' tt h (whole_run true answered)
           (λ d stands. saves_nothing s'.mode d keeps) (λ e. absurd (keeps e)) refl;
       flushed = answered.flushed;
     }
@@ -146,15 +178,16 @@ module _ {D : Type 0} (step : D → Event → D → Type 0) (how : Making) (path
       writing = sym (last_mode true answered) ∙ is
 
       done : ((d : Directory) → StandsFor s'.cut.bytes d → IsSaved s'.cut.bytes d) → Ran act (all_of s'.cut.bytes) (Ok tt)
-      done good = done_session start mode 0 capacity (record { image = image; script = script; out = out; saved = all_of s'.cut.bytes }) s s' tt h answered.ran
+      done good = done_session start mode 0 capacity (record { image = image; script = script; out = out; saved = all_of s'.cut.bytes }) s s' tt h (whole_run true answered)
           (λ d stands. subst (λ (m : Mode). Saves m s'.cut.bytes d) (sym is) (good d stands)) (λ e. refl) refl
 
       -- the image is whole in its file
-      pub saved : {E : Type 0} → WritesImage {E = E} step old new how path s'.cut.bytes (Ok tt) → EndsRun step old new how path act Flushed (Ok tt)
+      pub saved : {E : Type 0} → WritesImage {E = E} step old new how path s'.cut.bytes (Ok tt) → EndsRun step old new how path act Flushed (Ok Whole)
       saved w = record {
         image = s'.cut.bytes;
         asked = asks_to_save step old new mode how path s'.cut.bytes writing (subst (λ (x : Written). After step old (writes how path x) new) w.fate w.asked);
         ran = done (w.accepted (subst IsMade (sym w.fate) (whole-made how s'.cut.bytes)));
+        unrefused = unrefused true answered;
         flushed = answered.flushed;
       }
 
@@ -163,7 +196,7 @@ module _ {D : Type 0} (step : D → Event → D → Type 0) (how : Making) (path
       unsaved_by written (inl o) good = subst (IsUnsavedFor step old new how path act Flushed) (sym o.left) (answered_act true answered)
       unsaved_by written (inr (inl e)) good = subst (IsUnsavedFor step old new how path act Flushed) (sym e) (answered_act true answered)
       unsaved_by written (inr (inr (inl c))) good = subst (IsUnsavedFor step old new how path act Flushed) (sym c.closed)
-          (inl (unsaved_session start mode 0 capacity (record { image = image; script = script; out = out; saved = c.taken }) s s' h answered.ran is c.is_part.part c.is_part.failed))
+          (inl (unsaved_session start mode 0 capacity (record { image = image; script = script; out = out; saved = c.taken }) s s' h (whole_run true answered) is c.is_part.part c.is_part.failed))
       unsaved_by written (inr (inr (inr (inl e)))) good = subst (IsUnsavedFor step old new how path act Flushed) (sym e) (inr (refl, done (good (subst IsMade (sym e) tt))))
       unsaved_by written (inr (inr (inr (inr u)))) good = subst (IsUnsavedFor step old new how path act Flushed) (sym u.offered) (u.beside, refl, done (good (subst IsMade (sym u.offered) tt)))
 

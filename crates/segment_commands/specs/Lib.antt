@@ -7,7 +7,6 @@ pub mod Running
 pub mod Resizing
 pub mod Migrating
 pub mod Modes
-pub mod Strict
 pub mod Linting
 pub mod Reporting
 pub mod Explaining

@@ -11,6 +11,7 @@ use Rattle.segment_commands.specs.declared.program_faults.ProgramFault.TheVarian
 use Rattle.segment_disk.specs.declared.presence.Making.{Making}
 use Rattle.segment_disk.specs.declared.presence.Making.TheVariants.{Emptied, Beside}
 use Rattle.segment_disk.specs.Events.{Event}
+use Rattle.segment_scripts.specs.declared.ends.Until.{Until}
 use Rattle.segment_commands.specs.Running.{RunsFile, RunsNewFile, RunsAnyFile}
 
 -- how the file of a segment that is saved comes to take its image, where it is there
@@ -18,7 +19,7 @@ abbrev pub making_of : Saving → Making
 making_of InPlace = Emptied
 making_of Replacing = Beside
 
-module _ {D O : Type 0} (step : D → Event → D → Type 0) (old new : D) (path : List ℕ) (script script' : Gave) (history : O → Took) (flushes : Bool → Type 0) (out out' : O) (result : Result (Unit {0}) ProgramFault) where
+module _ {D O : Type 0} (step : D → Event → D → Type 0) (old new : D) (path : List ℕ) (until : Until) (script script' : Gave) (history : O → Took) (flushes : Bool → Type 0) (out out' : O) (result : Result (Unit {0}) ProgramFault) where
   -- a size is wanted and was not given; nothing was asked for
   pub record IsWithoutSize : Type 0 where
     pub asked : new ≡ old
@@ -28,10 +29,10 @@ module _ {D O : Type 0} (step : D → Event → D → Type 0) (old new : D) (pat
 
   -- `run`
   abbrev pub RunsInMode : ModeName → Option ℕ → Saving → Type 0
-  RunsInMode OpenOnly size saving = RunsFile step old new path (making_of saving) script script' history flushes out out' result Write
-  RunsInMode OpenReadOnly size saving = RunsFile step old new path (making_of saving) script script' history flushes out out' result ReadOnly
-  RunsInMode OpenCopyOnWrite size saving = RunsFile step old new path (making_of saving) script script' history flushes out out' result CopyOnWrite
-  RunsInMode CreateOnly (Some size) saving = RunsNewFile step old new path size script script' history flushes out out' result
+  RunsInMode OpenOnly size saving = RunsFile step old new path (making_of saving) until script script' history flushes out out' result Write
+  RunsInMode OpenReadOnly size saving = RunsFile step old new path (making_of saving) until script script' history flushes out out' result ReadOnly
+  RunsInMode OpenCopyOnWrite size saving = RunsFile step old new path (making_of saving) until script script' history flushes out out' result CopyOnWrite
+  RunsInMode CreateOnly (Some size) saving = RunsNewFile step old new path size until script script' history flushes out out' result
   RunsInMode CreateOnly None saving = IsWithoutSize
-  RunsInMode OpenOrCreate (Some size) saving = RunsAnyFile step old new path size (making_of saving) script script' history flushes out out' result
+  RunsInMode OpenOrCreate (Some size) saving = RunsAnyFile step old new path size (making_of saving) until script script' history flushes out out' result
   RunsInMode OpenOrCreate None saving = IsWithoutSize

@@ -7,18 +7,20 @@ use Rattle.segment_manager.specs.declared.modes.Mode.TheVariants.{Write, ReadOnl
 use Rattle.segment_manager.specs.Directory.{Directory}
 use Rattle.segment_manager.specs.State.{State}
 use Rattle.segment_lang.specs.Language.{whole as whole_language}
-use Rattle.segment_scripts.specs.declared.faults.RunFault.{RunFault}
-use Rattle.segment_scripts.specs.Leaves.{LeavesFault, RunsWhole}
+use Rattle.segment_scripts.specs.declared.ends.End.{End}
+use Rattle.segment_scripts.specs.declared.ends.End.TheVariants.{Whole, Refused}
+use Rattle.segment_scripts.specs.declared.ends.Until.{Until}
 use Rattle.segment_scripts.specs.Lines.{script_limit}
-use Rattle.segment_scripts.specs.Run.{run}
-use Rattle.segment_scripts.specs.Segments.{Place, IsAt, answer_line}
+use Rattle.segment_scripts.specs.Run.{lines, run}
+use Rattle.segment_scripts.specs.Segments.{Place, IsAt, answer_line, refuses_line}
+use Rattle.segment_scripts.specs.Stopping.{IsStoppedAt, goes_on, stops_at}
 use Rattle.segment_cli.specs.declared.faults.Start.{Start}
 use Rattle.segment_cli.specs.declared.faults.Start.TheVariants.{Fresh, Image}
 use Rattle.segment_cli.specs.declared.faults.SessionFault.{SessionFault}
 use Rattle.segment_cli.specs.declared.faults.SessionFault.TheVariants.{ReadFault, WriteFault}
 use Rattle.segment_commands.specs.declared.program_faults.ProgramFault.{ProgramFault}
-use Rattle.segment_commands.specs.declared.program_faults.ProgramFault.TheVariants.{Exists, Session}
-use Rattle.segment_cli.specs.Beginning.{run_fault}
+use Rattle.segment_commands.specs.declared.program_faults.ProgramFault.TheVariants.{Exists, Session, Stopped}
+use Rattle.segment_cli.specs.Serving.{IsServed, IsUnserved}
 use Rattle.segment_cli.specs.Session.{Begins, IsSession}
 use Rattle.segment_disk.specs.declared.presence.Making.{Making}
 use Rattle.segment_disk.specs.declared.presence.Making.TheVariants.{New, Beside}
@@ -33,27 +35,26 @@ use Rattle.segment_commands.specs.Commands.{MakesSegment}
 -- ---- a script
 
 -- what it was given and gave out, where Flushed says what the last flush answered
-module _ (old new : State) (script : Given) (out : Taken) (Flushed : Bool → Type 0) where
-  -- all of it was answered, and ok says whether all answers went out
-  pub record IsAnswered (ok : Bool) : Type 0 where
-    pub ran : (at : Place) → IsAt old at → RunsWhole answer_line at script out (IsAt new)
+module _ (until : Until) (old new : State) (script : Given) (out : Taken) (Flushed : Bool → Type 0) where
+  -- it was answered up to this end, and ok says whether all answers went out
+  pub record IsAnswered (end : End) (ok : Bool) : Type 0 where
+    pub served : IsServed until old new script out end
     pub flushed : Flushed ok
 
-  -- it was not run to its end; what was answered was given out, if the output let it
+  -- it failed; what was answered was given out, if the output let it
   pub record IsStopped (fault : SessionFault) : Type 0 where
-    pub stop : RunFault
-    pub why : fault ≡ run_fault stop
-    pub left : (at : Place) → IsAt old at → LeavesFault answer_line at script out stop (IsAt new)
+    pub unserved : IsUnserved until old new script out fault
     pub ok : Bool
     pub flushed : Flushed ok
 
-  -- all of it was answered, and answers did not go out
+  -- it was answered, and answers did not go out
   pub record IsLost (fault : SessionFault) : Type 0 where
     pub why : fault ≡ WriteFault
-    pub answered : IsAnswered false
+    pub end : End
+    pub answered : IsAnswered end false
 
-  abbrev pub RunsScript : Result (Unit {0}) SessionFault → Type 0
-  RunsScript result = MatchResult result (λ u. IsAnswered true) (λ fault. IsStopped fault ⊎ IsLost fault)
+  abbrev pub RunsScript : Result End SessionFault → Type 0
+  RunsScript result = MatchResult result (λ end. IsAnswered end true) (λ fault. IsStopped fault ⊎ IsLost fault)
 
 -- ---- a run, from the segment that it begins with
 
@@ -62,6 +63,7 @@ pub record Act : Type 0 where
   pub mode : Mode
   pub capacity : ℕ
   pub image : Given
+  pub until : Until
   pub script : Given
   pub out : Taken
 
@@ -79,6 +81,28 @@ pub record IsAnsweredAct (act : Act) : Type 0 where
   pub prints : act.out.bytes ≡ (run (whole_language current) act.mode from act.script.bytes).0
   pub written : act.out.failed ≡ false
 
+-- where a run begins that begins with this directory; nothing need be known of its gaps
+abbrev pub first_place : Act → Directory → Place
+first_place act from = record { mode = act.mode; directory = from; zeros = false }
+
+-- the run was to end behind none of the lines, from a directory that it begins with
+pub record IsUnrefusedAct (act : Act) : Type 0 where
+  pub from : Directory
+  pub begins : Begins act.start act.image from
+  pub on : goes_on answer_line (stops_at act.until refuses_line) (first_place act from) (lines act.script.bytes) ≡ true
+
+-- the run ended behind the first line that was refused, and the output took its answer and all before
+pub record IsRefusedAct (act : Act) : Type 0 where
+  pub from : Directory
+  pub begins : Begins act.start act.image from
+  pub last : State
+  pub stopped : IsStoppedAt answer_line (stops_at act.until refuses_line) (first_place act from) act.script act.out (IsAt last)
+
+-- the output took all answers up to this end
+abbrev pub IsAnsweredTo : Act → End → Type 0
+IsAnsweredTo act Whole = IsAnsweredAct act
+IsAnsweredTo act Refused = IsRefusedAct act
+
 -- what a run asks of the disk that saved this: in mode Write its file is made, emptied or replaced and takes it, and
 -- else nothing
 abbrev pub saving : Mode → Making → List ℕ → List ℕ → List Event
@@ -92,7 +116,18 @@ module _ {D : Type 0} (step : D → Event → D → Type 0) (old new : D) (how :
     pub image : List ℕ
     pub asked : After step old (saving act.mode how path image) new
     pub ran : Ran act (all_of image) (Ok tt)
+    pub unrefused : IsUnrefusedAct act
     pub flushed : Flushed true
+
+  -- the run ended behind a line that was refused, all answers went out, and the disk was not asked for anything
+  pub record IsRefusedRun : Type 0 where
+    pub asked : new ≡ old
+    pub refused : IsRefusedAct act
+    pub flushed : Flushed true
+
+  abbrev pub IsRun : End → Type 0
+  IsRun Whole = IsSavedRun
+  IsRun Refused = IsRefusedRun
 
   -- the session was stopped, and the disk was not asked for anything
   pub record IsStoppedRun (fault : SessionFault) : Type 0 where
@@ -101,11 +136,12 @@ module _ {D : Type 0} (step : D → Event → D → Type 0) (old new : D) (how :
     pub ok : Bool
     pub flushed : Flushed ok
 
-  -- all was answered, but not all answers went out, and the disk was not asked for anything
+  -- all was answered up to an end, but not all answers went out, and the disk was not asked for anything
   pub record IsLostRun (fault : SessionFault) : Type 0 where
     pub why : fault ≡ WriteFault
     pub asked : new ≡ old
-    pub answered : IsAnsweredAct act
+    pub end : End
+    pub answered : IsAnsweredTo act end
     pub flushed : Flushed false
 
   -- why the image is not in the file or need not last: another has its name, it could not be made or emptied, writing it failed, or all of it
@@ -125,17 +161,18 @@ module _ {D : Type 0} (step : D → Event → D → Type 0) (old new : D) (how :
     pub asked : After step old (writes how path written) new
     pub unsaved : IsUnsavedFor written
 
-  abbrev pub EndsRun : Result (Unit {0}) SessionFault → Type 0
-  EndsRun result = MatchResult result (λ u. IsSavedRun) (λ fault. IsStoppedRun fault ⊎ (IsLostRun fault ⊎ IsUnsavedRun fault))
+  abbrev pub EndsRun : Result End SessionFault → Type 0
+  EndsRun result = MatchResult result IsRun (λ fault. IsStoppedRun fault ⊎ (IsLostRun fault ⊎ IsUnsavedRun fault))
 
--- a fault of a session, as the program answers it
-abbrev pub as_program : Result (Unit {0}) SessionFault → Result (Unit {0}) ProgramFault
-as_program (Ok u) = Ok tt
+-- the end of a run, as the program answers it
+abbrev pub as_program : Result End SessionFault → Result (Unit {0}) ProgramFault
+as_program (Ok Whole) = Ok tt
+as_program (Ok Refused) = Err Stopped
 as_program (Err fault) = Err (Session fault)
 
--- the program answers as a session did
-pub record IsAnswerOf (runs : Result (Unit {0}) SessionFault → Type 0) (result : Result (Unit {0}) ProgramFault) : Type 0 where
-  pub answer : Result (Unit {0}) SessionFault
+-- the program answers as a run did
+pub record IsAnswerOf (runs : Result End SessionFault → Type 0) (result : Result (Unit {0}) ProgramFault) : Type 0 where
+  pub answer : Result End SessionFault
   pub ran : runs answer
   pub result_is : result ≡ as_program answer
 
@@ -148,9 +185,9 @@ pub record IsScriptless {D O : Type 0} (old new : D) (script script' : Gave) (ou
   pub silent : out' ≡ out
   pub refused : result ≡ Err (Session ReadFault)
 
-module _ {D : Type 0} (step : D → Event → D → Type 0) (old new : D) (path : List ℕ) (mode : Mode) (how : Making) (script script' : Gave) where
+module _ {D : Type 0} (step : D → Event → D → Type 0) (old new : D) (path : List ℕ) (mode : Mode) (how : Making) (until : Until) (script script' : Gave) where
   -- the file has no segment, for this reason; the script was not asked for
-  pub record IsUnopenedRun {O : Type 0} (out out' : O) (result : Result (Unit {0}) SessionFault) : Type 0 where
+  pub record IsUnopenedRun {O : Type 0} (out out' : O) (result : Result End SessionFault) : Type 0 where
     pub fault : SessionFault
     pub opens_file : OpensFile step old new path mode (Err fault)
     pub unasked : script' ≡ script
@@ -158,28 +195,28 @@ module _ {D : Type 0} (step : D → Event → D → Type 0) (old new : D) (path 
     pub refused : result ≡ Err fault
 
   -- the file was opened, read and closed, and the script ran on its segment
-  pub record IsOpenedRun {O : Type 0} (history : O → Took) (flushes : Bool → Type 0) (out out' : O) (result : Result (Unit {0}) SessionFault) : Type 0 where
+  pub record IsOpenedRun {O : Type 0} (history : O → Took) (flushes : Bool → Type 0) (out out' : O) (result : Result End SessionFault) : Type 0 where
     pub image : Given
     pub capacity : ℕ
     pub read : D
     pub asked : After step old (opens path image) read
     pub ends : EndsRun step read new how path
-        (record { start = Image; mode = mode; capacity = capacity; image = image; script = given_since script script'; out = taken_since (history out) (history out') })
+        (record { start = Image; mode = mode; capacity = capacity; image = image; until = until; script = given_since script script'; out = taken_since (history out) (history out') })
         flushes result
 
-  abbrev pub RunsOpened : {O : Type 0} → (O → Took) → (Bool → Type 0) → O → O → Result (Unit {0}) SessionFault → Type 0
+  abbrev pub RunsOpened : {O : Type 0} → (O → Took) → (Bool → Type 0) → O → O → Result End SessionFault → Type 0
   RunsOpened history flushes out out' result = IsUnopenedRun out out' result ⊎ IsOpenedRun history flushes out out' result
 
-module _ {D O : Type 0} (step : D → Event → D → Type 0) (old new : D) (path : List ℕ) (how : Making) (script script' : Gave) (history : O → Took) (flushes : Bool → Type 0) (out out' : O) (result : Result (Unit {0}) ProgramFault) where
+module _ {D O : Type 0} (step : D → Event → D → Type 0) (old new : D) (path : List ℕ) (how : Making) (until : Until) (script script' : Gave) (history : O → Took) (flushes : Bool → Type 0) (out out' : O) (result : Result (Unit {0}) ProgramFault) where
   -- a run that saves nothing
   abbrev pub RunsFree : Mode → Type 0
-  RunsFree mode = IsAnswerOf (RunsOpened step old new path mode how script script' history flushes out out') result
+  RunsFree mode = IsAnswerOf (RunsOpened step old new path mode how until script script' history flushes out out') result
 
   -- a run that saves has the right to write the file from before it is read until it is written; where another has it,
   -- nothing was read or said
   abbrev pub RunsHeld : Type 0
   RunsHeld = Holds step old new path ((script' ≡ script) × (out' ≡ out))
-      (λ held done. IsAnswerOf (RunsOpened step held done path Write how script script' history flushes out out') result) result
+      (λ held done. IsAnswerOf (RunsOpened step held done path Write how until script script' history flushes out out') result) result
 
   abbrev pub RunsReadable : Mode → Type 0
   RunsReadable Write = RunsHeld
@@ -191,9 +228,9 @@ module _ {D O : Type 0} (step : D → Event → D → Type 0) (old new : D) (pat
 
 -- ---- a segment that is made
 
-module _ {D : Type 0} (step : D → Event → D → Type 0) (old new : D) (path : List ℕ) (size : ℕ) (script script' : Gave) where
+module _ {D : Type 0} (step : D → Event → D → Type 0) (old new : D) (path : List ℕ) (size : ℕ) (until : Until) (script script' : Gave) where
   -- no segment was made, for this reason: nothing was asked for
-  pub record IsUnmadeRun {O : Type 0} (out out' : O) (result : Result (Unit {0}) SessionFault) : Type 0 where
+  pub record IsUnmadeRun {O : Type 0} (out out' : O) (result : Result End SessionFault) : Type 0 where
     pub fault : SessionFault
     pub why : MakesSegment size (Err fault)
     pub asked : new ≡ old
@@ -202,14 +239,14 @@ module _ {D : Type 0} (step : D → Event → D → Type 0) (old new : D) (path 
     pub refused : result ≡ Err fault
 
   -- an empty segment was made, and the script ran on it; it is saved to a new file
-  pub record IsMadeRun {O : Type 0} (history : O → Took) (flushes : Bool → Type 0) (out out' : O) (result : Result (Unit {0}) SessionFault) : Type 0 where
+  pub record IsMadeRun {O : Type 0} (history : O → Took) (flushes : Bool → Type 0) (out out' : O) (result : Result End SessionFault) : Type 0 where
     pub image : Given
     pub capacity : ℕ
     pub ends : EndsRun step old new New path
-        (record { start = Fresh size; mode = Write; capacity = capacity; image = image; script = given_since script script'; out = taken_since (history out) (history out') })
+        (record { start = Fresh size; mode = Write; capacity = capacity; image = image; until = until; script = given_since script script'; out = taken_since (history out) (history out') })
         flushes result
 
-  abbrev pub MakesRun : {O : Type 0} → (O → Took) → (Bool → Type 0) → O → O → Result (Unit {0}) SessionFault → Type 0
+  abbrev pub MakesRun : {O : Type 0} → (O → Took) → (Bool → Type 0) → O → O → Result End SessionFault → Type 0
   MakesRun history flushes out out' result = IsUnmadeRun out out' result ⊎ IsMadeRun history flushes out out' result
 
   -- something is there already, and nothing else was asked for
@@ -228,13 +265,13 @@ pub record IsRunBehind {D : Type 0} (step : D → Event → D → Type 0) (old :
   pub goes : goes_on looked
 
 -- a run on a segment that is made, in a file that is not there
-abbrev pub RunsNewFile : {D O : Type 0} → (D → Event → D → Type 0) → D → D → List ℕ → ℕ → Gave → Gave → (O → Took) → (Bool → Type 0) → O → O → Result (Unit {0}) ProgramFault → Type 0
-RunsNewFile step old new path size script script' history flushes out out' result =
-    IsTakenRun step old new path size script script' out out' result
-    ⊎ IsRunBehind step old path (λ found. found ≢ There) (λ looked. IsAnswerOf (MakesRun step looked new path size script script' history flushes out out') result)
+abbrev pub RunsNewFile : {D O : Type 0} → (D → Event → D → Type 0) → D → D → List ℕ → ℕ → Until → Gave → Gave → (O → Took) → (Bool → Type 0) → O → O → Result (Unit {0}) ProgramFault → Type 0
+RunsNewFile step old new path size until script script' history flushes out out' result =
+    IsTakenRun step old new path size until script script' out out' result
+    ⊎ IsRunBehind step old path (λ found. found ≢ There) (λ looked. IsAnswerOf (MakesRun step looked new path size until script script' history flushes out out') result)
 
 -- the same, or on the segment in the file where something is there
-abbrev pub RunsAnyFile : {D O : Type 0} → (D → Event → D → Type 0) → D → D → List ℕ → ℕ → Making → Gave → Gave → (O → Took) → (Bool → Type 0) → O → O → Result (Unit {0}) ProgramFault → Type 0
-RunsAnyFile step old new path size how script script' history flushes out out' result =
-    IsRunBehind step old path (λ found. found ≡ Absent) (λ looked. IsAnswerOf (MakesRun step looked new path size script script' history flushes out out') result)
-    ⊎ IsRunBehind step old path (λ found. found ≢ Absent) (λ looked. RunsFile step looked new path how script script' history flushes out out' result Write)
+abbrev pub RunsAnyFile : {D O : Type 0} → (D → Event → D → Type 0) → D → D → List ℕ → ℕ → Making → Until → Gave → Gave → (O → Took) → (Bool → Type 0) → O → O → Result (Unit {0}) ProgramFault → Type 0
+RunsAnyFile step old new path size how until script script' history flushes out out' result =
+    IsRunBehind step old path (λ found. found ≡ Absent) (λ looked. IsAnswerOf (MakesRun step looked new path size until script script' history flushes out out') result)
+    ⊎ IsRunBehind step old path (λ found. found ≢ Absent) (λ looked. RunsFile step looked new path how until script script' history flushes out out' result Write)

@@ -8,18 +8,19 @@ ghost use Rattle.segment_disk.specs.Events.{IsFlushed};
 ghost use Rattle.segment_commands.specs.Running.{EndsRun, RunsScript};
 
 use raw_region::Source;
-use segment_cli::SessionFault;
-use segment_disk::{Disk, Making, Output};
+use segment_answers::Lined;
+use segment_cli::{SessionFault, serve};
+use segment_disk::{Disk, Making};
 use segment_file::write_image;
 use segment_manager::{Mode, Segment};
-use segment_scripts::{Follower, run_followed};
+use segment_scripts::{End, Follower, Until};
 
 /// Lets answers go out before more of a script is read, and tells the output where an answer begins. An output that
 /// fails then fails again at the end.
 #[derive(Drop)]
 pub(crate) struct Flushing;
 
-impl<O: Output> Follower<O> for Flushing {
+impl<O: Lined> Follower<O> for Flushing {
     fn before_read(&mut self, out: &mut O) {
         let _ = out.flush();
     }
@@ -31,50 +32,56 @@ impl<O: Output> Follower<O> for Flushing {
 
 /// Runs a script on a segment, and gives out all answers, also those before a fault. What was answered goes out before
 /// each read of the script.
-pub(crate) fn run_script<S: Source, O: Output>(
+pub(crate) fn run_script<S: Source, O: Lined>(
     segment: &mut Segment,
+    until: Until,
     script: &mut S,
     out: &mut O,
-) -> Result<(), SessionFault>
+) -> Result<End, SessionFault>
     requires script { (S.history script.old).failures < 2 ^ 64 - 1 }
     requires out { (O.history out.old).failures < 2 ^ 64 - 1 }
-    ensures { RunsScript segment.old segment.new (given_since (S.history script.old) (S.history script.new))
+    ensures { RunsScript until segment.old segment.new (given_since (S.history script.old) (S.history script.new))
         (taken_since (O.history out.old) (O.history out.new)) (IsFlushed O.history O.flushes out.new) result }
 {
-    let answered = run_followed(segment, script, out, &mut Flushing);
+    let served = serve(segment, script, out, &mut Flushing, until);
     let flushed = out.flush();
-    match answered {
-        Ok(()) => match flushed {
-            Ok(()) => Ok(()),
+    match served {
+        Ok(end) => match flushed {
+            Ok(()) => Ok(end),
             Err(_) => Err(SessionFault::WriteFault),
         },
-        Err(fault) => Err(SessionFault::from(fault)),
+        Err(fault) => Err(fault),
     }
 }
 
-/// Runs a script on a segment that is open, gives out all answers, and then, in mode `Write`, writes the image to a
-/// file.
-pub(crate) fn answer_and_save<D: Disk, S: Source, O: Output>(
+/// Runs a script on a segment that is open, gives out all answers, and then, in mode `Write` and where the run did not
+/// end at a refusal, writes the image to a file.
+pub(crate) fn answer_and_save<D: Disk, S: Source, O: Lined>(
     disk: &mut D,
     path: &str,
     how: Making,
     segment: &mut Segment,
+    until: Until,
     script: &mut S,
     out: &mut O,
-) -> Result<(), SessionFault>
+) -> Result<End, SessionFault>
     requires script { (S.history script.old).failures < 2 ^ 64 - 1 }
     requires out { (O.history out.old).failures < 2 ^ 64 - 1 }
     ensures { (start : Start) (mode : OpenMode) (capacity : ℕ) (image : Given) → Starts start mode 0 capacity image (Ok segment.old)
         → EndsRun D.step disk.old disk.new how path.now
-        (record { start = start; mode = mode; capacity = capacity; image = image; script = given_since (S.history script.old) (S.history script.new); out = taken_since (O.history out.old) (O.history out.new) })
+        (record { start = start; mode = mode; capacity = capacity; image = image; until = until; script = given_since (S.history script.old) (S.history script.new); out = taken_since (O.history out.old) (O.history out.new) })
         (IsFlushed O.history O.flushes out.new) result }
 {
-    run_script(segment, script, out)?;
-    if segment.mode() != Mode::Write {
-        return Ok(());
-    }
-    match write_image(disk, path, how, segment) {
-        Ok(()) => Ok(()),
-        Err(_) => Err(SessionFault::WriteFault),
+    match run_script(segment, until, script, out)? {
+        End::Refused => Ok(End::Refused),
+        End::Whole => {
+            if segment.mode() != Mode::Write {
+                return Ok(End::Whole);
+            }
+            match write_image(disk, path, how, segment) {
+                Ok(()) => Ok(End::Whole),
+                Err(_) => Err(SessionFault::WriteFault),
+            }
+        }
     }
 }

@@ -21,7 +21,6 @@ mod reporting;
 mod reports;
 mod resizing;
 mod running;
-mod strict;
 mod telling;
 
 pub use checking::check;
@@ -38,5 +37,4 @@ pub use reporting::{draw, draw_page, dump, dump_capacities, dump_json, stat};
 pub use reports::{report, report_file};
 pub use resizing::{grow, shrink};
 pub use running::{run_in_new_file, run_on_file, run_on_file_or_new};
-pub use strict::run_strict;
 pub use telling::{print, print_language};

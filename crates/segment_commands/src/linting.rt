@@ -6,8 +6,8 @@ use crate::answering::Flushing;
 use crate::creating::WRITE_FAULT;
 use crate::program_faults::ProgramFault;
 use raw_region::Source;
+use segment_answers::Lined;
 use segment_cli::SessionFault;
-use segment_disk::Output;
 use segment_scripts::{CommandRow, Lint, RunFault, run_followed};
 
 /// Tells which lines of a script are no commands, where, and what is expected there; the rows say what is expected
@@ -17,7 +17,7 @@ use segment_scripts::{CommandRow, Lint, RunFault, run_followed};
 ///
 /// `Misspelled` where a line is no command, `ReadFault` and `ScriptTooLong` of the script, and `WriteFault` where the
 /// output fails.
-pub fn lint<S: Source, O: Output>(
+pub fn lint<S: Source, O: Lined>(
     rows: &[CommandRow],
     script: &mut S,
     out: &mut O,

@@ -8,9 +8,11 @@ use crate::creating::new_segment;
 use crate::opening::open_segment;
 use crate::program_faults::ProgramFault;
 use raw_region::Source;
+use segment_answers::Lined;
 use segment_cli::SessionFault;
-use segment_disk::{Disk, Making, Output, Presence};
+use segment_disk::{Disk, Making, Presence};
 use segment_manager::Mode;
+use segment_scripts::{End, Until};
 use std::alloc::Global;
 
 /// Whether a script can be read at all. A closed standard input can't, and a file that is opened then would take its
@@ -25,44 +27,46 @@ fn can_be_read<S: Source>(script: &mut S) -> bool
 
 /// Runs a script on the segment in a file, which is opened in a mode, gives out its answers, and saves it in mode
 /// `Write`.
-fn run_opened<D: Disk, S: Source, O: Output>(
+fn run_opened<D: Disk, S: Source, O: Lined>(
     alloc: Global,
     disk: &mut D,
     path: &str,
     mode: Mode,
     how: Making,
+    until: Until,
     script: &mut S,
     out: &mut O,
-) -> Result<(), SessionFault>
+) -> Result<End, SessionFault>
     requires script { (S.history script.old).failures < 2 ^ 64 - 1 }
     requires out { (O.history out.old).failures < 2 ^ 64 - 1 }
-    ensures { RunsOpened D.step disk.old disk.new path.now mode how (S.history script.old) (S.history script.new)
+    ensures { RunsOpened D.step disk.old disk.new path.now mode how until (S.history script.old) (S.history script.new)
         O.history (IsFlushed O.history O.flushes out.new) out.old out.new result }
 {
     match open_segment(alloc, disk, path, mode, 0) {
-        Ok(mut segment) => answer_and_save(disk, path, how, &mut segment, script, out),
+        Ok(mut segment) => answer_and_save(disk, path, how, &mut segment, until, script, out),
         Err(fault) => Err(fault),
     }
 }
 
 /// The same in mode `Write`, with the right to write the file.
-fn run_held<D: Disk, S: Source, O: Output>(
+fn run_held<D: Disk, S: Source, O: Lined>(
     alloc: Global,
     disk: &mut D,
     path: &str,
     how: Making,
+    until: Until,
     script: &mut S,
     out: &mut O,
 ) -> Result<(), ProgramFault>
     requires script { (S.history script.old).failures < 2 ^ 64 - 1 }
     requires out { (O.history out.old).failures < 2 ^ 64 - 1 }
-    ensures { RunsHeld D.step disk.old disk.new path.now how (S.history script.old) (S.history script.new)
+    ensures { RunsHeld D.step disk.old disk.new path.now how until (S.history script.old) (S.history script.new)
         O.history (IsFlushed O.history O.flushes out.new) out.old out.new result }
 {
     let Ok(hold) = disk.hold(path) else {
         return Err(ProgramFault::InUse);
     };
-    let answer = run_opened(alloc, disk, path, Mode::Write, how, script, out);
+    let answer = run_opened(alloc, disk, path, Mode::Write, how, until, script, out);
     disk.release(hold);
     answered(answer)
 }
@@ -74,48 +78,59 @@ fn run_held<D: Disk, S: Source, O: Output>(
 ///
 /// Those of a session. `ReadFault` where the script or the file can't be read, `OutOfMemory`, and `WriteFault` where
 /// answers don't go out, or the file can't be emptied or replaced, takes not the whole image, or need not last. It is
-/// neither emptied nor changed before all answers went out. `InUse` where another has the right to write the file, in
-/// mode `Write` alone; the script is not read then.
-pub fn run_on_file<D: Disk, S: Source, O: Output>(
+/// neither emptied nor changed before all answers went out. `Stopped` where the run is to end with the first line that is
+/// refused, and did: its answer and all before went out, no line behind it was executed, and nothing is saved. `InUse`
+/// where another has the right to write the file, in mode `Write` alone; the script is not read then.
+pub fn run_on_file<D: Disk, S: Source, O: Lined>(
     alloc: Global,
     disk: &mut D,
     path: &str,
     mode: Mode,
     how: Making,
+    until: Until,
     script: &mut S,
     out: &mut O,
 ) -> Result<(), ProgramFault>
     requires script { (S.history script.old).failures < 2 ^ 64 - 1 }
     requires out { (O.history out.old).failures < 2 ^ 64 - 1 }
-    ensures { RunsFile D.step disk.old disk.new path.now how (S.history script.old) (S.history script.new)
+    ensures { RunsFile D.step disk.old disk.new path.now how until (S.history script.old) (S.history script.new)
         O.history (IsFlushed O.history O.flushes out.new) out.old out.new result mode }
 {
     if !can_be_read(script) {
         return Err(ProgramFault::Session(SessionFault::ReadFault));
     }
     if mode == Mode::Write {
-        run_held(alloc, disk, path, how, script, out)
+        run_held(alloc, disk, path, how, until, script, out)
     } else {
-        answered(run_opened(alloc, disk, path, mode, how, script, out))
+        answered(run_opened(alloc, disk, path, mode, how, until, script, out))
     }
 }
 
 /// Runs a script on an empty segment of `size` bytes, gives out its answers, and then writes the image to a new file.
-fn run_made<D: Disk, S: Source, O: Output>(
+fn run_made<D: Disk, S: Source, O: Lined>(
     alloc: Global,
     disk: &mut D,
     path: &str,
     size: u64,
+    until: Until,
     script: &mut S,
     out: &mut O,
-) -> Result<(), SessionFault>
+) -> Result<End, SessionFault>
     requires script { (S.history script.old).failures < 2 ^ 64 - 1 }
     requires out { (O.history out.old).failures < 2 ^ 64 - 1 }
-    ensures { MakesRun D.step disk.old disk.new path.now size (S.history script.old) (S.history script.new)
+    ensures { MakesRun D.step disk.old disk.new path.now size until (S.history script.old) (S.history script.new)
         O.history (IsFlushed O.history O.flushes out.new) out.old out.new result }
 {
     match new_segment(alloc, size) {
-        Ok(mut segment) => answer_and_save(disk, path, Making::New, &mut segment, script, out),
+        Ok(mut segment) => answer_and_save(
+            disk,
+            path,
+            Making::New,
+            &mut segment,
+            until,
+            script,
+            out,
+        ),
         Err(fault) => Err(fault),
     }
 }
@@ -127,23 +142,24 @@ fn run_made<D: Disk, S: Source, O: Output>(
 ///
 /// `Exists` where something is there, whatever the size. `BadSize` where no segment has it, and else those of
 /// [`run_on_file`].
-pub fn run_in_new_file<D: Disk, S: Source, O: Output>(
+pub fn run_in_new_file<D: Disk, S: Source, O: Lined>(
     alloc: Global,
     disk: &mut D,
     path: &str,
     size: u64,
+    until: Until,
     script: &mut S,
     out: &mut O,
 ) -> Result<(), ProgramFault>
     requires script { (S.history script.old).failures < 2 ^ 64 - 1 }
     requires out { (O.history out.old).failures < 2 ^ 64 - 1 }
-    ensures { RunsNewFile D.step disk.old disk.new path.now size (S.history script.old) (S.history script.new)
+    ensures { RunsNewFile D.step disk.old disk.new path.now size until (S.history script.old) (S.history script.new)
         O.history (IsFlushed O.history O.flushes out.new) out.old out.new result }
 {
     if disk.look(path) == Presence::There {
         return Err(ProgramFault::Exists);
     }
-    answered(run_made(alloc, disk, path, size, script, out))
+    answered(run_made(alloc, disk, path, size, until, script, out))
 }
 
 /// Runs a script on the segment in a file, as [`run_on_file`] in mode `Write`, and where nothing is there as
@@ -152,32 +168,34 @@ pub fn run_in_new_file<D: Disk, S: Source, O: Output>(
 /// # Errors
 ///
 /// Those of the two, but for `Exists`.
-pub fn run_on_file_or_new<D: Disk, S: Source, O: Output>(
+pub fn run_on_file_or_new<D: Disk, S: Source, O: Lined>(
     alloc: Global,
     disk: &mut D,
     path: &str,
     size: u64,
     how: Making,
+    until: Until,
     script: &mut S,
     out: &mut O,
 ) -> Result<(), ProgramFault>
     requires script { (S.history script.old).failures < 2 ^ 64 - 1 }
     requires out { (O.history out.old).failures < 2 ^ 64 - 1 }
-    ensures { RunsAnyFile D.step disk.old disk.new path.now size how (S.history script.old) (S.history script.new)
+    ensures { RunsAnyFile D.step disk.old disk.new path.now size how until (S.history script.old) (S.history script.new)
         O.history (IsFlushed O.history O.flushes out.new) out.old out.new result }
 {
     if disk.look(path) == Presence::Absent {
-        return answered(run_made(alloc, disk, path, size, script, out));
+        return answered(run_made(alloc, disk, path, size, until, script, out));
     }
-    run_on_file(alloc, disk, path, Mode::Write, how, script, out)
+    run_on_file(alloc, disk, path, Mode::Write, how, until, script, out)
 }
 
 /// What a run answered, as the program answers it.
-pub(crate) fn answered(answer: Result<(), SessionFault>) -> Result<(), ProgramFault>
+pub(crate) fn answered(answer: Result<End, SessionFault>) -> Result<(), ProgramFault>
     ensures { result ≡ as_program answer }
 {
     match answer {
-        Ok(()) => Ok(()),
+        Ok(End::Whole) => Ok(()),
+        Ok(End::Refused) => Err(ProgramFault::Stopped),
         Err(fault) => Err(ProgramFault::Session(fault)),
     }
 }

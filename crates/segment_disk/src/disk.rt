@@ -32,7 +32,8 @@ pub trait Disk {
         ensures { step self.old (Looked path.now result) self.new };
 
     /// Takes the right to write a file, which no other has until it is given back. Where another has it, the answer is
-    /// `InUse`, at once or after a wait that ends. A file that can't be held, or is not there, is nobody's, and the answer is Ok.
+    /// `InUse`, at once or after a wait that ends. A file that can't be held, or is not there, is nobody's, and the
+    /// answer is Ok.
     fn hold(&mut self, path: &str) -> Result<Self::Hold, InUse>
         ensures { step self.old (Held path.now (is_ok result)) self.new };
 
@@ -86,13 +87,4 @@ pub trait Output: Sink {
     fn flush(&mut self) -> Result<(), DeviceFault>
         ensures same { Self.history self.new ≡ Self.history self.old }
         ensures flushes { flushes self.old (is_ok result) self.new };
-
-    // What the writer is when the next line is answered.
-    ghost turns: { Self → Self → Type 0 };
-
-    /// The next line of a script is answered from here on, if it has an answer. Nothing is written; an output that
-    /// tells lines apart takes note of it.
-    fn next_line(&mut self)
-        ensures same { Self.history self.new ≡ Self.history self.old }
-        ensures turns { turns self.old self.new };
 }

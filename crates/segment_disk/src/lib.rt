@@ -8,16 +8,12 @@ mod durable;
 mod host;
 mod limits;
 mod locks;
-mod numbering;
 mod outlet;
 mod presence;
 mod sparse;
-mod stopping;
 mod troubles;
 
 pub use disk::{Disk, Opened, Output};
 pub use host::{HostDisk, HostHold};
-pub use numbering::Numbered;
-pub use outlet::Outlet;
+pub use outlet::{Outlet, Passing};
 pub use presence::{InUse, Making, Presence, Trouble};
-pub use stopping::{Stopping, StopsAtError};

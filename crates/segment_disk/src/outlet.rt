@@ -10,7 +10,7 @@ use std::marker::Model;
 
 /// Takes all bytes, and does nothing with them: what went to a writer is counted by what came by here.
 #[derive(Drop)]
-pub(crate) struct Passing;
+pub struct Passing;
 
 impl WriteOnce for Passing {
     ghost write_gives = { λ old answer bytes new. answer ≡ Ok (length bytes) };
@@ -89,8 +89,6 @@ impl<W: Write> Sink for Outlet<W> {
 impl<W: Write> Output for Outlet<W> {
     ghost flushes = { λ old ok new. ⊤ };
 
-    ghost turns = { λ old new. new ≡ old };
-
     fn flush(&mut self) -> Result<(), DeviceFault> {
         match self.inner.flush() {
             Ok(()) => Ok(()),
@@ -100,6 +98,4 @@ impl<W: Write> Output for Outlet<W> {
             }
         }
     }
-
-    fn next_line(&mut self) {}
 }

@@ -89,7 +89,6 @@ pub use Rattle.segment_manager.specs.declared.errors.CreateError.{CreateError}
 pub use Rattle.segment_manager.specs.declared.errors.CreateRefused.{CreateRefused}
 pub use Rattle.segment_manager.specs.declared.modes.Mode.TheVariants.{Write}
 pub use Rattle.segment_manager.specs.declared.objects.telling.Instance.{Instance}
-pub use Rattle.segment_dump.specs.Asked.{element_part, element_text, length_in, pair_part, string_part, text_part}
 pub use Rattle.segment_dump.specs.Builders.{AddsElement, AreLeft, Builds, Collects, FillsNew, HasPlace, IsBegun}
 pub use Rattle.segment_dump.specs.Builders.{IsFillable, IsNext, IsVectorKind, PiecesLeft, ReadsElement, ReadsLength}
 pub use Rattle.segment_dump.specs.Builders.{ReadsPair, ReadsPiece, ReadsShape, StartsNext, StartsUnder, content_need}
@@ -120,8 +119,10 @@ pub use Rattle.segment_dump.specs.Need.{only_room, text_needs, texts_needs}
 unfoldable pub use Rattle.segment_dump.specs.Need.{block_room, front_room, object_room}
 pub use Rattle.segment_dump.specs.Notes.{are_notes, before_notes, ends_line, is_line, without_notes}
 pub use Rattle.segment_dump.specs.Order.{all_items}
-pub use Rattle.segment_dump.specs.Owed.{WritesOf, all_text, count_at, object_count, where_anonymous}
-pub use Rattle.segment_dump.specs.Parts.{part_of, parts_until}
+pub use Rattle.segment_dump.specs.Owed.{WritesOf, all_text, where_anonymous}
+pub use Rattle.segment_manager.specs.Parts.{part_of, parts_until}
+pub use Rattle.segment_values.specs.Asked.{length_in}
+pub use Rattle.segment_values.specs.Layouts.{count_at, object_count}
 pub use Rattle.segment_dump.specs.Places.{place_behind}
 pub use Rattle.segment_dump.specs.Reads.{Any, AreLines, Breaks, HasNoEnd, IsWord, Reads, Skips, ended, itself}
 pub use Rattle.segment_dump.specs.Reads.{lines_text, seen, seen_rest}

@@ -16,7 +16,6 @@ mod Owed
 mod Members
 mod Laid
 mod Elements
-mod WalkedPairs
 mod Sections
 mod KindWords
 mod Readers

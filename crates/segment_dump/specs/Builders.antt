@@ -25,7 +25,7 @@ use Rattle.segment_dump.specs.Building.{AreNew, IsRest, Site, count_class, has_i
 use Rattle.segment_dump.specs.Filling.{AreBytes, Fill, FillsAt, IsBuildable, IsBuildableContent, IsCounted, IsPairOf, StandsBuilt, StandsFilling, filled_item, head_of}
 use Rattle.segment_dump.specs.Items.{Content, Item, count_of_content, kind_of_content}
 use Rattle.segment_dump.specs.Need.{all_needs, elements_room, item_needs, texts_needs}
-use Rattle.segment_dump.specs.Parts.{parts_until}
+use Rattle.segment_manager.specs.Parts.{parts_until}
 use Rattle.segment_dump.specs.Texts.{content_text, element_line, end_text, items_text, pair_line, piece_lead, piece_line, piece_of, pieces_text, text_lines}
 
 -- ---- lines of elements

@@ -10,7 +10,7 @@ use Rattle.segment_manager.specs.Directory.{Value, Numbers, Elements, Bytes, Pai
 use Rattle.segment_dump.specs.Building.{class_words}
 use Rattle.segment_dump.specs.Items.{anonymous_objects}
 use Rattle.segment_dump.specs.Owed.{where_anonymous}
-use Rattle.segment_dump.specs.Parts.{part_of}
+use Rattle.segment_manager.specs.Parts.{part_of}
 
 -- ---- which there are
 

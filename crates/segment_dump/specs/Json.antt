@@ -13,7 +13,7 @@ use Rattle.segment_lang.specs.Texts.{kind_text, value_text}
 use Rattle.segment_manager.specs.Directory.{Directory, Object, object_at}
 use Rattle.segment_dump.specs.Items.{Content, Scalars, Vector, String, Map, Strings, Item, Items, item_of_object, kind_of_content}
 use Rattle.segment_dump.specs.Layouts.{Spelling, laid_from}
-use Rattle.segment_dump.specs.Parts.{part_of}
+use Rattle.segment_manager.specs.Parts.{part_of}
 
 -- ---- texts: a string where the bytes are UTF-8, and else an object with their base64
 

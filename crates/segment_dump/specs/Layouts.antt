@@ -1,36 +1,6 @@
 -- How the elements of an object are laid out in a text.
-use Rattle.std.specs.Prelude.{ℕ, suc, ℤ, List, [], ◌∷◌, ◌++◌}
-use Rattle.seg_types.specs.declared.kinds.ScalarKind.{ScalarKind}
-use Rattle.seg_types.specs.Names.{Key}
-use Rattle.segment_manager.specs.Directory.{Directory, Object, object_at}
-use Rattle.segment_dump.specs.Items.{Content, Scalars, Vector, String, Map, Strings, content_of}
-use Rattle.segment_dump.specs.Parts.{part_of}
 use Rattle.segment_dump.specs.Texts.{element_line, pair_line, text_lines}
-
--- the text of each element, by its place among them from 0 on and its value
-pub record Spelling : Type 0 where
-  pub scalar : ℕ → ScalarKind → ℤ → List ℕ
-  pub text : ℕ → List ℕ → List ℕ
-  pub pair : ℕ → ScalarKind → ScalarKind → ℤ × ℤ → List ℕ
-
--- the texts of elements, one behind another, the first of which has this place
-abbrev pub laid_from : {X : Type 0} → (ℕ → X → List ℕ) → ℕ → List X → List ℕ
-laid_from f n [] = []
-laid_from f n (x ∷ xs) = f n x ++ laid_from f (suc n) xs
-
--- all elements of an object; a string is one text
-abbrev pub laid_out : Spelling → Content → List ℕ
-laid_out s (Scalars k zs) = laid_from (λ i z. s.scalar i k z) 0 zs
-laid_out s (Vector k zs) = laid_from (λ i z. s.scalar i k z) 0 zs
-laid_out s (String bs) = s.text 0 bs
-laid_out s (Map k v ps) = laid_from (λ i p. s.pair i k v p) 0 ps
-laid_out s (Strings ts) = laid_from s.text 0 ts
-
-abbrev pub laid_object : Spelling → Object → List ℕ
-laid_object s o = laid_out s (content_of o.value)
-
-abbrev pub laid_at : Spelling → Directory → Key → List ℕ
-laid_at s d key = part_of (laid_object s) (object_at d key)
+pub use Rattle.segment_values.specs.Layouts.{Spelling, laid_at, laid_from, laid_object, laid_out}
 
 -- as a dump has them: lines, wherever they stand
 abbrev pub in_lines : Spelling

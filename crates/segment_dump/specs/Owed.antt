@@ -1,24 +1,19 @@
 -- What a call writes of a segment: of each directory that its bytes denote.
-use Rattle.std.specs.Prelude.{◌≡◌, ◌+◌, ◌++◌, List, [], ℕ, Some, None, Result, if◌then◌else◌}
+use Rattle.std.specs.Prelude.{◌++◌, List, [], ℕ, Result, if◌then◌else◌}
 use Rattle.std.specs.List.{flat_map}
-use Rattle.raw_region.specs.Answers.{failures_in}
-use Rattle.raw_region.specs.Device.{Took, Writes}
+use Rattle.raw_region.specs.Device.{Took}
 use Rattle.seg_types.specs.declared.kinds.Class.TheVariants.{Anonymous}
 use Rattle.seg_types.specs.Names.{Key}
 use Rattle.segment_manager.specs.Directory.{Directory, Object, is_class, named_objects, object_at, unique_objects}
 use Rattle.segment_manager.specs.State.{State, StandsFor}
-use Rattle.segment_dump.specs.Items.{anonymous_objects, content_of, count_of_content, item_of_object}
-use Rattle.segment_dump.specs.Parts.{part_of}
+use Rattle.segment_values.specs.Writing.{WritesFor}
+use Rattle.segment_dump.specs.Items.{anonymous_objects, item_of_object}
+use Rattle.segment_manager.specs.Parts.{part_of}
 use Rattle.segment_dump.specs.Texts.{end_text, item_text}
 
--- the text that is owed of each directory; and whichever it is, a failure is counted once
-pub record WritesOf {A E : Type 0} (s : State) (old new : Took) (result : Result A E) (owed : Directory → List ℕ) : Type 0 where
-  pub writes : (d : Directory) → StandsFor s.cut.bytes d → Writes old new result (owed d)
-  pub counted : new.failures ≡ old.failures + failures_in result
-
--- how many elements a dump says that an object has
-abbrev pub object_count : Object → ℕ
-object_count o = count_of_content (content_of o.value)
+-- the text that is owed of each directory
+abbrev pub WritesOf : {A E : Type 0} → State → Took → Took → Result A E → (Directory → List ℕ) → Type 0
+WritesOf s old new result owed = WritesFor old new result (StandsFor s.cut.bytes) owed
 
 -- all lines of an object
 abbrev pub object_text : Object → List ℕ
@@ -37,10 +32,6 @@ anonymous_text = where_anonymous object_text
 
 abbrev pub anonymous_at : Directory → Key → List ℕ
 anonymous_at d key = part_of anonymous_text (object_at d key)
-
--- how many elements a dump says that the object of a key has
-abbrev pub count_at : Directory → Key → ℕ
-count_at d key = elim (object_at d key) [ None ↦ 0 | Some o ↦ object_count o ]
 
 -- all lines of some objects
 abbrev pub objects_text : List Object → List ℕ

@@ -7,7 +7,7 @@ use Rattle.seg_types.specs.declared.kinds.Kind.{Kind}
 use Rattle.seg_types.specs.declared.kinds.ScalarKind.{ScalarKind}
 use Rattle.segment_lang.specs.Texts.{kind_text, name_text, number_text, quoted_text, value_text}
 use Rattle.segment_dump.specs.Items.{Content, Scalars, Vector, String, Map, Strings, Item, Items, kind_of_content, count_of_content}
-use Rattle.segment_dump.specs.Parts.{parts_until}
+use Rattle.segment_manager.specs.Parts.{parts_until}
 
 -- ---- lines of elements: each behind two blanks
 

@@ -6,13 +6,13 @@ ghost use Rattle.segment_manager.specs.objects.Instances.{SaysOf};
 ghost use Rattle.segment_dump.specs.Owed.{WritesOf, text_at};
 ghost use Rattle.segment_dump.specs.Texts.{head_line};
 
-use crate::contents::{count_of, put_content};
 use crate::layouts::InLines;
 use crate::objects::Telling;
 use raw_region::{DeviceFault, Sink};
 use seg_types::Class;
 use segment_lang::{Piece, put_pieces};
 use segment_manager::{Instance, Object, Segment};
+use segment_values::{count_of, put_content};
 
 /// Tells an object by its lines in a dump.
 pub(crate) struct Entries;

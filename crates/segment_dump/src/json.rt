@@ -8,17 +8,16 @@ ghost use Rattle.segment_manager.specs.objects.Located.{IsLocated};
 ghost use Rattle.segment_manager.specs.State.{Answers};
 ghost use Rattle.segment_dump.specs.Items.{portable};
 ghost use Rattle.segment_dump.specs.Json.{closing, comma_before, in_json, json_at, json_dump, json_key, json_kind, opening};
-ghost use Rattle.segment_dump.specs.Layouts.{laid_at};
-ghost use Rattle.segment_dump.specs.Owed.{WritesOf, count_at};
+ghost use Rattle.segment_dump.specs.Owed.{WritesOf};
+ghost use Rattle.segment_values.specs.Layouts.{count_at, laid_at};
 
-use crate::contents::{count_of, put_content};
 use crate::json_texts::{put_bytes, put_string};
-use crate::layouts::Layout;
 use crate::objects::{Telling, put_anonymous, put_named, put_unique};
 use raw_region::{DeviceFault, Sink, write_all};
 use seg_types::{Class, Kind, ScalarValue};
 use segment_lang::{Piece, put_pieces};
 use segment_manager::{Instance, Object, Segment};
+use segment_values::{Layout, count_of, put_content};
 
 /// Writes all objects of a segment as lines of JSON, in the order of a [`dump`](crate::dump), an object a line:
 /// `{"class":"named","name":"a","kind":"i64","value":[1,2]}`. The name of an object that has none is `null`. Scalars

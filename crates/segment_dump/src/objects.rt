@@ -6,7 +6,7 @@ ghost use Rattle.segment_manager.specs.Directory.{named_objects, object_at, uniq
 ghost use Rattle.segment_manager.specs.objects.Instances.{SaysOf};
 ghost use Rattle.segment_dump.specs.Items.{anonymous_objects};
 ghost use Rattle.segment_dump.specs.Owed.{WritesOf, where_anonymous};
-ghost use Rattle.segment_dump.specs.Parts.{part_of};
+ghost use Rattle.segment_manager.specs.Parts.{part_of};
 
 use raw_region::{DeviceFault, Sink};
 use seg_types::Class;

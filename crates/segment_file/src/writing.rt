@@ -85,6 +85,13 @@ fn make_image<D: Disk>(
     }
 }
 
+/// The same of a new file, which is compared with none.
+fn write_new<D: Disk>(disk: &mut D, path: &str, segment: &Segment) -> Result<(), DeviceFault>
+    ensures { WritesImage D.step disk.old disk.new New path.now segment.now.cut.bytes result }
+{
+    make_image(disk, path, Making::New, segment)
+}
+
 /// The same of a file that is emptied or replaced. It is left alone where another has taken its name.
 fn overwrite_image<D: Disk>(
     disk: &mut D,
@@ -111,7 +118,7 @@ pub fn write_image<D: Disk>(
     ensures { WritesImage D.step disk.old disk.new how path.now segment.now.cut.bytes result }
 {
     if how == Making::New {
-        make_image(disk, path, how, segment)
+        write_new(disk, path, segment)
     } else {
         overwrite_image(disk, path, how, segment)
     }

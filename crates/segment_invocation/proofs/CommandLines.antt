@@ -12,13 +12,13 @@ use Rattle.clap.specs.Takes.{built_takes, default_passes, entered_passes, is_val
 use Rattle.clap.specs.Faults.{built_fault, fault_of, is_simple_and_free}
 use Rattle.clap.specs.declared.error.kind.ErrorKind.TheVariants.{DisplayVersion}
 use Rattle.segment_lang.specs.Words.{between, is_digit, is_numeral, number_after, number_of}
-use Rattle.segment_invocation.specs.Invocations.{Asked, Origin, create, run, run_with, ran, is_plain_run, check, check_all, explain, grow, grow_with, shrink, shrink_with, migrate, migrate_with, stat, draw, draw_page, dump, dump_capacities, dump_json, names, load, lint, language, version, input, from_file, from_lines, IsModePart, IsMostPart, IsOriginPart, IsPart, IsRunWritten, IsSizePart, IsWritten, RunWords, asked_in, asked_of, asked_of_run, command_line, flag_words, is_path, is_set, lacks_size, line_words, mode_called, mode_of, mode_word, run_sized, saving_of, saving_part, seconds_of, size_of, wants_size}
+use Rattle.segment_invocation.specs.Invocations.{Asked, Origin, create, run, run_with, ran, is_plain_run, check, check_all, explain, grow, grow_with, shrink, shrink_with, migrate, migrate_with, stat, draw, draw_page, dump, dump_capacities, dump_json, names, load, lint, language, version, input, from_file, from_lines, IsModePart, IsMostPart, IsOriginPart, IsPart, IsRunWritten, IsSizePart, IsWritten, RunWords, asked_of, asked_of_run, command_line, flag_words, is_path, is_set, lacks_size, mode_called, mode_of, mode_word, saving_of, saving_part, size_of, wants_size}
 use Rattle.segment_invocation.specs.declared.invocations.ModeName.{ModeName}
 use Rattle.segment_invocation.specs.declared.invocations.ModeName.TheVariants.{CreateOnly, OpenOnly, OpenOrCreate, OpenReadOnly, OpenCopyOnWrite}
 use Rattle.segment_invocation.specs.declared.invocations.Saving.{Saving}
 use Rattle.segment_invocation.specs.declared.invocations.Saving.TheVariants.{InPlace, Replacing}
 use Rattle.segment_invocation.proofs.PlainWords.{IsPlain}
-use Rattle.segment_invocation.proofs.Leaves.{ArePlain, IsAsk, run_leaf, said, said_with, saving_word, truth_word, capacities-asks, check-asks, create-asks, draw-asks, dump-asks, explain-asks, grow-asks, html-asks, json-asks, lines-ask, load-asks, migrate-asks, most-asks, names-asks, prefix-asks, prefix-most-asks, quiet-asks, run-both, run-file, run-mode, run-size, script-asks, shrink-asks, sized-asks, stat-asks}
+use Rattle.segment_invocation.proofs.Leaves.{ArePlain, IsAsk, run_leaf, said, saving_word, truth_word, capacities-asks, check-asks, create-asks, draw-asks, dump-asks, explain-asks, grow-asks, html-asks, json-asks, lines-ask, load-asks, migrate-asks, most-asks, names-asks, prefix-asks, prefix-most-asks, quiet-asks, run-both, run-file, run-mode, run-size, script-asks, shrink-asks, sized-asks, stat-asks}
 use Rattle.segment_invocation.specs.Invocations.{run_words}
 
 -- ---- words that are no options

@@ -1,9 +1,10 @@
 -- What is asked for by the name of a command, by its file and without one.
-use Rattle.std.proofs.Common.{◌≡◌, ◌∙◌, ap, Bool, true, false, List, [], Option, Some, None, codes, refl}
+use Rattle.std.proofs.Common.{◌≡◌, ◌∙◌, ◌++◌, ap, map, Bool, true, false, List, [], Option, Some, None, codes, refl}
 use Rattle.std.specs.Prelude.{option_map, unwrap_or}
 use Rattle.std.specs.Prelude.{if◌then◌else◌}
 use Rattle.std.specs.Str.{bytes_eq}
 use Rattle.std.proofs.lemmas.Slice.Eq.{bytes_eq-Decides}
+use denote.Ref.{Bor}
 use Rattle.clap.specs.Matches.{matched_of, raw_values}
 use Rattle.clap.specs.Walk.{Row, Text, first_of, rows_of}
 use Rattle.clap.specs.declared.parser.matches.Found.{Found}
@@ -24,11 +25,12 @@ neither false x y h k = k
 -- ---- the values of a word that may stand there more than once
 
 module _ (f : Found) (id : Text) where
-  pub values_listed : (v : List Text) → Some v ≡ option_map raw_values (matched_of f id) → v ≡ list_of id (rows_of f)
-  values_listed v e = ap (λ o. unwrap_or o []) (e ∙ raw_values-rows f id)
+  pub all_listed : (old new values : List (Bor Text)) → old ≡ [] → new ≡ old ++ values → Some (map (λ s. s.now) values) ≡ option_map raw_values (matched_of f id)
+      → map (λ s. s.now) new ≡ list_of id (rows_of f)
+  all_listed old new values o n e = ap (map (λ (s : Bor Text). s.now)) (n ∙ ap (λ l. l ++ values) o) ∙ ap (λ l. unwrap_or l []) (e ∙ raw_values-rows f id)
 
-  pub none_listed : None ≡ option_map raw_values (matched_of f id) → [] ≡ list_of id (rows_of f)
-  none_listed e = ap (λ o. unwrap_or o []) (e ∙ raw_values-rows f id)
+  pub none_listed : (old : List (Bor Text)) → old ≡ [] → None ≡ option_map raw_values (matched_of f id) → map (λ s. s.now) old ≡ list_of id (rows_of f)
+  none_listed old o e = ap (map (λ (s : Bor Text). s.now)) o ∙ ap (λ l. unwrap_or l []) (e ∙ raw_values-rows f id)
 
 -- every other command wants a file
 pub without_file : (name : Text) (rows : List Row) → bytes_eq name (codes "lint") ≡ false → bytes_eq name (codes "language") ≡ false

@@ -1,17 +1,17 @@
 -- What a parse makes of the words behind each command of the program.
-use Rattle.std.proofs.Common.{◌≡◌, refl, sym, ap, ap₂, ◌∙◌, ℕ, Bool, true, false, ◌&&◌, List, [], ◌∷◌, ◌++◌, Option, Some, None, codes, fold}
+use Rattle.std.proofs.Common.{◌≡◌, refl, ap, ap₂, ◌∙◌, ℕ, Bool, true, false, ◌&&◌, List, [], ◌∷◌, ◌++◌, Option, Some, None, codes, fold}
 use Rattle.std.specs.List.{list_all}
 use Rattle.std.specs.Prelude.{⊤, option_and_then, option_map}
 use Rattle.std.proofs.lemmas.Bool.{and_parts}
 use Rattle.std.proofs.lemmas.List.{append_assoc}
 use Rattle.clap.proofs.OnLiterals.{clap_on_literals}
-use Rattle.clap.specs.Walk.{Held, Row, Rule, Text, Waiting, Walk, finished, idle, option as waits, nothing_held, plain_word, rows_after, settled, walk, walk_from, walked}
+use Rattle.clap.specs.Walk.{Held, Row, Text, Waiting, Walk, finished, idle, option as waits, nothing_held, plain_word, rows_after, settled, walk_from, walked}
 use Rattle.clap.specs.Simple.{Shape, built_leaf, inherited}
 use Rattle.clap.specs.Takes.{default_passes, is_valid, level_passes, settle_passes, step_passes, turn_passes, walk_passes}
 use Rattle.clap.specs.declared.builder.value_parser.Reading.TheVariants as reading
 use Rattle.clap.specs.declared.parser.matches.ValueSource.TheVariants.{CommandLine}
 use Rattle.segment_lang.specs.Words.{number_of}
-use Rattle.segment_invocation.specs.Invocations.{Asked, RunWords, asked_in, check, check_all, check_command, create, create_command, draw, draw_command, draw_page, dump, dump_capacities, dump_command, dump_json, explain, file_command, flag_words, grow, grow_command, grow_with, kept_as, kept_command, line_words, load, load_command, migrate, migrate_with, names, names_command, program, run_command, run_words, saving_part, shrink, shrink_with, size_of, stat}
+use Rattle.segment_invocation.specs.Invocations.{RunWords, asked_in, check, check_all, check_command, create, create_command, draw, draw_command, draw_page, dump, dump_capacities, dump_command, dump_json, explain, file_command, flag_words, grow, grow_command, grow_with, kept_as, kept_command, line_words, load, load_command, migrate, migrate_with, names, names_command, program, run_command, run_words, saving_part, shrink, shrink_with, size_of, stat}
 use Rattle.segment_invocation.specs.declared.invocations.Saving.{Saving}
 use Rattle.segment_invocation.specs.declared.invocations.Saving.TheVariants.{InPlace, Replacing}
 use Rattle.segment_invocation.proofs.PlainWords.{IsPlain, plain_step, turn-plain, walked-plain}

@@ -21,7 +21,6 @@ use Rattle.segment_invocation.specs.declared.invocations.ModeName.{ModeName}
 use Rattle.segment_invocation.specs.declared.invocations.ModeName.TheVariants.{CreateOnly, OpenOnly, OpenOrCreate, OpenReadOnly, OpenCopyOnWrite}
 use Rattle.segment_invocation.specs.declared.invocations.Saving.{Saving}
 use Rattle.segment_invocation.specs.declared.invocations.Saving.TheVariants.{InPlace, Replacing}
-use Rattle.segment_invocation.specs.declared.invocations.Keeping.{Keeping}
 use Rattle.segment_invocation.specs.declared.invocations.Script.{Script}
 use Rattle.segment_invocation.specs.declared.invocations.Script.TheVariants as script
 use Rattle.segment_invocation.specs.declared.usage.UsageError.{UsageError}

@@ -28,23 +28,16 @@ fn word_of<'a>(words: &ArgMatches<'a>, id: &str) -> Option<&'a str>
     words.get_str(id)
 }
 
-/// The values of an operand or an option that may stand there more than once, as they are lent.
-#[tactic(auto, using(crate::proofs::Filed::values_listed, crate::proofs::Filed::none_listed))]
-fn values_in<'b, 'a>(words: &'b ArgMatches<'a>, id: &str) -> &'b [&'a str]
-    ensures { map (λ s. s.now) result.now ≡ list_of id.now (rows_of (found_of words.now)) }
-{
-    match words.get_strs(id) {
-        Some(values) => values,
-        None => &[],
-    }
-}
-
-/// The same, as values of their own.
+/// The values of an operand or an option that may stand there more than once.
+#[tactic(auto, using(crate::proofs::Filed::all_listed, crate::proofs::Filed::none_listed))]
 fn texts_in<'a>(alloc: Global, words: &ArgMatches<'a>, id: &str) -> Result<Vec<&'a str>, AllocError>
     ensures { IfOk result (λ texts. map (λ s. s.now) texts.items ≡ list_of id.now (rows_of (found_of words.now))) }
 {
     let mut texts = Vec::new(alloc);
-    texts.extend_from_slice(values_in(words, id))?;
+    let Some(values) = words.get_strs(id) else {
+        return Ok(texts);
+    };
+    texts.extend_from_slice(values)?;
     Ok(texts)
 }
 

@@ -1,23 +1,23 @@
 -- The names that go out one by one are those that begin with the text.
-use Rattle.std.proofs.Common.{◌≡◌, ◌++◌, ◌∙◌, ◌==◌, ◌&&◌, ℕ, ◌+◌, ◌-◌, Bool, true, false, List, [], ◌∷◌, Option, Some, None, slice_get, take, drop, refl, sym, ap, subst, append_assoc, arith}
-use Rattle.std.specs.Prelude.{Result, Ok, Err, filter, if◌then◌else◌, not}
+use Rattle.std.proofs.Common.{◌≡◌, ◌++◌, ◌∙◌, ◌==◌, ℕ, ◌+◌, ◌-◌, Bool, true, false, List, [], ◌∷◌, suc, zero, Some, None, slice_get, take, drop, refl, sym, ap, subst, append_assoc, arith}
+use Rattle.std.specs.Prelude.{Result, Ok, Err, filter}
 use Rattle.std.specs.List.{flat_map}
 use Rattle.std.specs.Result.{IsErr}
+use Rattle.std.proofs.lemmas.Bool.Decides.{nat_tests}
 use Rattle.std.proofs.lemmas.List.{append-nil, drop_more}
 use Rattle.std.proofs.lemmas.Option.{get_or_from_slice_get, slice_get_within}
-use Rattle.raw_region.specs.Answers.{failures_in}
 use Rattle.raw_region.specs.Device.{Took, Writes}
 use Rattle.raw_region.proofs.Laws.{writes-cut, writes-then}
 use Rattle.segment_manager.specs.Directory.{Directory}
 use Rattle.segment_manager.specs.indexes.Iterating.{names_of}
 use Rattle.segment_manager.specs.State.{State, StandsFor}
-use Rattle.segment_report.specs.Names.{begins_with, is_listed, left_behind, listed_line, name_line, names_text}
+use Rattle.segment_report.specs.Names.{begins_with, left_behind, listed_line, name_line, names_text}
 use Rattle.segment_report.specs.Telling.{Tells}
 use Rattle.segment_report.proofs.Telling.{failures_in-err}
 
 -- ---- the lines of the rest of the names
 
-listed : List ℕ → ℕ → List (List ℕ) → List ℕ
+abbrev pub listed : List ℕ → ℕ → List (List ℕ) → List ℕ
 listed prefix left [] = []
 listed prefix left (x ∷ xs) = listed_line prefix left x ++ listed prefix (left_behind prefix left x) xs
 
@@ -27,6 +27,9 @@ first_lines prefix left xs = flat_map name_line (take left (filter (λ name. beg
 one-less : (n : ℕ) → suc n - 1 ≡ n
 one-less n = omega arith
 
+some-left : (n : ℕ) → (suc n == 0) ≡ false
+some-left n = grind (arith, nat_tests)
+
 listed-none : (prefix : List ℕ) (xs : List (List ℕ)) → listed prefix 0 xs ≡ []
 listed-none prefix [] = refl
 listed-none prefix (x ∷ xs) = listed-none prefix xs
@@ -35,11 +38,12 @@ listed-none prefix (x ∷ xs) = listed-none prefix xs
 listed-first : (prefix : List ℕ) (left : ℕ) (xs : List (List ℕ)) → listed prefix left xs ≡ first_lines prefix left xs
 listed-first prefix zero xs = listed-none prefix xs
 listed-first prefix (suc n) [] = refl
-listed-first prefix (suc n) (x ∷ xs) = go (begins_with x prefix) refl
+listed-first prefix (suc n) (x ∷ xs) = go (begins_with x prefix) refl (listed-first prefix n xs) (listed-first prefix (suc n) xs)
   where
-    go : (b : Bool) → begins_with x prefix ≡ b → listed prefix (suc n) (x ∷ xs) ≡ first_lines prefix (suc n) (x ∷ xs)
-    go true e = rw (e, one-less n) (ap (λ l. name_line x ++ l) (listed-first prefix n xs))
-    go false e = rw e (listed-first prefix (suc n) xs)
+    go : (b : Bool) → begins_with x prefix ≡ b → listed prefix n xs ≡ first_lines prefix n xs → listed prefix (suc n) xs ≡ first_lines prefix (suc n) xs
+        → listed prefix (suc n) (x ∷ xs) ≡ first_lines prefix (suc n) (x ∷ xs)
+    go true e less same = rw (some-left n, e, one-less n) (ap (λ l. name_line x ++ l) less)
+    go false e less same = rw (some-left n, e) same
 
 drop-here : (xs : List (List ℕ)) (i : ℕ) (x : List ℕ) → slice_get xs i ≡ Some x → drop i xs ≡ x ∷ drop (i + 1) xs
 drop-here xs i x e = drop_more xs i x (slice_get_within xs i x e) ∙ ap (λ y. y ∷ drop (i + 1) xs) (get_or_from_slice_get xs i x x e)
@@ -52,10 +56,10 @@ drop-none (x ∷ xs) (suc i) e = drop-none xs i e
 
 -- ---- what has gone out before the name at a place
 
-record IsSaid (old mid : Took) (prefix : List ℕ) (most left at : ℕ) (xs : List (List ℕ)) : Type 0 where
-  said : List ℕ
-  bytes : mid.bytes ≡ old.bytes ++ said
-  rest : said ++ listed prefix left (drop at xs) ≡ listed prefix most xs
+pub record IsSaid (old mid : Took) (prefix : List ℕ) (most left at : ℕ) (xs : List (List ℕ)) : Type 0 where
+  pub said : List ℕ
+  pub bytes : mid.bytes ≡ old.bytes ++ said
+  pub rest : said ++ listed prefix left (drop at xs) ≡ listed prefix most xs
 
 pub record IsListed (b : List ℕ) (old mid : Took) (prefix : List ℕ) (most left at : ℕ) : Type 0 where
   pub told : (d : Directory) → StandsFor b d → IsSaid old mid prefix most left at (names_of d)

@@ -18,7 +18,7 @@ use Rattle.segment_scripts.specs.Replies.{told_at, told_of}
 use Rattle.segment_scripts.specs.Parts.{part_of, said_words}
 use Rattle.segment_scripts.specs.Shown.{length_in, number_words}
 use Rattle.segment_scripts.proofs.Listings.{line_part}
-use Rattle.segment_scripts.proofs.ShownObjects.{sizes_of_object}
+use Rattle.segment_values.proofs.LaidElements.{sizes_of_object}
 
 -- what is said of an object is printed as the object's words
 pub entry-said : (o : Object) (said : Instance) → IsInstance o said → said_words said ≡ entry_words o

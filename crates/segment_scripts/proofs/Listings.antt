@@ -12,7 +12,7 @@ use Rattle.segment_manager.proofs.PartLaws.{parts-all, parts-taken, well}
 use Rattle.segment_scripts.specs.Answer.{line, listing}
 use Rattle.segment_scripts.specs.Parts.{part_of, parts_until}
 use Rattle.segment_scripts.specs.Writing.{WritesFor}
-use Rattle.segment_scripts.proofs.Owed.{parts-cut, parts-more, writes_owed}
+use Rattle.segment_scripts.proofs.Owed.{of-cut_in, of-more, writes_owed}
 
 -- the line of what is at a place in a list
 abbrev pub line_part : {A : Type 0} → (A → List (List ℕ)) → List A → ℕ → List ℕ
@@ -39,7 +39,7 @@ module _ {A : Type 0} (s : State) (words : A → List (List ℕ)) (items : Direc
     pub listing-more : {B F : Type 0} {new : Took} {y : B} → Writes {E = F} mid new (Ok y) text
         → WritesFor old new well (StandsFor s.cut.bytes) (λ d. parts_until (line_part words (items d)) (i + 1))
     listing-more {new = new} {y = y} w =
-        parts-more (λ d. line_part words (items d)) i before
+        of-more (λ d. line_part words (items d)) before
         (writes_owed w same)
 
     -- it is cut
@@ -47,7 +47,7 @@ module _ {A : Type 0} (s : State) (words : A → List (List ℕ)) (items : Direc
         → Writes {A = B} mid new (Err x) text → IsErr result → WritesFor old new result (StandsFor s.cut.bytes) (λ d. listing words (items d))
     listing-cut {new = new} {x = x} {result = result} within w failed =
         let cut : WritesFor old new result (StandsFor s.cut.bytes) (λ d. parts_until (line_part words (items d)) (length (items d))) =
-        parts-cut (λ d. line_part words (items d)) i before (λ d. length (items d)) within
+        of-cut_in (λ d. line_part words (items d)) (λ d. length (items d)) before within
         (writes_owed w same) failed in
         record {
           writes = λ d k.

@@ -17,4 +17,3 @@ pub mod Parts
 pub mod Shown
 pub mod Changes
 pub mod TextRows
-pub mod ShownPairs

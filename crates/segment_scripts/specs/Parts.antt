@@ -1,17 +1,10 @@
 -- A text of numbered parts, one behind another.
 use Rattle.std.specs.Prelude.{ℕ, List, [], ◌∷◌}
-use Rattle.segment_lang.specs.Texts.{kind_text, number_text, quoted_text, value_text}
+use Rattle.segment_lang.specs.Texts.{kind_text, number_text}
 use Rattle.segment_manager.specs.declared.objects.telling.Instance.{Instance}
-use Rattle.segment_manager.specs.Answers.{Answer, Element, TextElement}
 use Rattle.segment_scripts.specs.Answer.{handle_text}
 -- the first n of them, and one of what there may be
 pub use Rattle.segment_manager.proofs.PartLaws.{part_of, parts_until}
-
--- an element behind others, and nothing where there is none
-abbrev pub element_part : Answer → List ℕ
-element_part (Element k z) = 0x20 ∷ value_text k z
-element_part (TextElement bs) = 0x20 ∷ quoted_text bs
-element_part answer = []
 
 -- kind, count and handle, as an object says them of itself
 abbrev pub said_words : Instance → List (List ℕ)

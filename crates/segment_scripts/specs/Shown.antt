@@ -1,19 +1,13 @@
 -- What is written of an object that is shown, part by part.
-use Rattle.std.specs.Prelude.{ℕ, List, [], ◌∷◌, ◌++◌, ◌==◌, if◌then◌else◌, Option, Some, None, Result, Ok, Err, codes}
+use Rattle.std.specs.Prelude.{ℕ, List, [], ◌∷◌, ◌++◌, ◌==◌, if◌then◌else◌, Option, Some, None, codes}
 use Rattle.seg_types.specs.declared.kinds.Class.{Class}
 use Rattle.seg_types.specs.declared.kinds.Class.TheVariants.{Anonymous, Named, Unique}
 use Rattle.seg_types.specs.declared.kinds.Kind.{Kind}
-use Rattle.seg_types.specs.declared.kinds.Kind.TheVariants.{Scalar, String, Strings}
-use Rattle.seg_types.specs.declared.refusals.Refusal.{Refusal}
-use Rattle.seg_types.specs.Names.{Key}
-use Rattle.seg_types.specs.Commands.{Get}
-use Rattle.segment_lang.specs.Texts.{kind_text, name_text, number_text, quoted_text}
-use Rattle.segment_manager.specs.declared.modes.Mode.{Mode}
-use Rattle.segment_manager.specs.Directory.{Directory}
-use Rattle.segment_manager.specs.Step.{step}
-use Rattle.segment_scripts.specs.Answer.{line}
-use Rattle.segment_scripts.specs.Replies.{text_at}
-use Rattle.segment_scripts.specs.Parts.{element_part, parts_until}
+use Rattle.seg_types.specs.declared.kinds.Kind.TheVariants.{Scalar}
+use Rattle.segment_lang.specs.Texts.{kind_text, name_text, number_text, quoted_text, value_text}
+use Rattle.segment_values.specs.Layouts.{Spelling}
+-- the length of a container, where there is one
+pub use Rattle.segment_values.specs.Asked.{length_in}
 
 -- a kind, and how many there are where there is not one alone
 abbrev pub counted_text : Kind → ℕ → List ℕ
@@ -24,23 +18,13 @@ abbrev pub front_text : Kind → ℕ → List ℕ
 front_text (Scalar k) n = counted_text (Scalar k) n
 front_text kind n = kind_text kind
 
--- the first n elements of the object of a key, each behind a blank
-abbrev pub elements_text : Mode → Directory → Key → ℕ → List ℕ
-elements_text mode d key n = parts_until (λ i. element_part (step mode d (Get key i)).0) n
-
--- both, and the end of the line
-abbrev pub value_line : Kind → ℕ → Mode → Directory → Key → List ℕ
-value_line kind n mode d key = front_text kind n ++ (elements_text mode d key n ++ 0x0A ∷ [])
-
--- the length, where there is one
-abbrev pub length_in : Result (ℕ × ℕ) Refusal → ℕ
-length_in (Ok (len, capacity)) = len
-length_in (Err r) = 0
-
--- a string, where there is one
-abbrev pub string_line : Result (List ℕ) Refusal → List ℕ
-string_line (Ok bs) = line (kind_text String ∷ quoted_text bs ∷ [])
-string_line (Err r) = []
+-- elements as an answer has them, each behind a blank
+abbrev pub in_line : Spelling
+in_line = record {
+  scalar = λ i k z. 0x20 ∷ value_text k z;
+  text = λ i bs. 0x20 ∷ quoted_text bs;
+  pair = λ i k v p. 0x20 ∷ value_text k p.0 ++ 0x3D ∷ value_text v p.1;
+}
 
 -- a number, where there is one
 abbrev pub number_words : Option ℕ → List (List ℕ)
@@ -57,11 +41,3 @@ abbrev pub class_text : Class → List ℕ → List ℕ
 class_text Named name = codes "named " ++ name_text name
 class_text Unique name = codes "unique -"
 class_text Anonymous name = codes "anonymous -"
-
--- the first n texts of the vector of strings of a key, each behind a blank
-abbrev pub texts_text : Directory → Key → ℕ → List ℕ
-texts_text d key n = parts_until (λ i. element_part (text_at d key i)) n
-
--- the kind, them, and the end of the line
-abbrev pub texts_line : Directory → Key → ℕ → List ℕ
-texts_line d key n = kind_text Strings ++ (texts_text d key n ++ 0x0A ∷ [])

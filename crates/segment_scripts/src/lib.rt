@@ -19,7 +19,6 @@ mod rows;
 mod scripts;
 mod segments;
 mod showing;
-mod showing_maps;
 mod telling;
 mod text_rows;
 

@@ -13,11 +13,11 @@ ghost use Rattle.segment_scripts.specs.Refusing.{AnswersFor};
 use crate::answered::Answered;
 use crate::printing::{put_answer, put_refusal_line};
 use crate::replies::element;
-use crate::showing::{length_of, put_text_at};
+use crate::showing::put_text_at;
 use raw_region::{DeviceFault, Sink};
 use seg_types::{Key, Kind, Refusal, ScalarKind, ScalarValue, by_kind};
 use segment_manager::{Object, Segment};
-use segment_values::object_to_change;
+use segment_values::{length_of, object_to_change};
 
 /// Takes the last element out of the vector of a key, and writes it, or why there is none: `ReadOnly` where the segment
 /// is open for reading, and else `NotFound` where no object has the key, `WrongKind` where it is no vector,

@@ -3,7 +3,9 @@
 #![tactic(auto)]
 
 mod arrays;
+mod contents;
 mod elements;
+mod layouts;
 mod objects;
 mod pairs;
 mod reads;
@@ -11,7 +13,9 @@ mod vectors;
 mod writes;
 
 pub use arrays::construct_array;
+pub use contents::{count_of, length_of, put_content};
 pub use elements::set;
+pub use layouts::Layout;
 pub use objects::object_to_change;
 pub use pairs::{erase_pair, look_up, put_pair};
 pub use reads::read_elements;

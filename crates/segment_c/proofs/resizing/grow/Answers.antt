@@ -9,14 +9,14 @@ returns-in-Ok-clause-code c = grown_code c.args.segment.now c.grow_or_move.new.s
 pub returns-in-Ok-clause-grown : goal.returns-in-Ok-clause-grown
 returns-in-Ok-clause-grown c = λ _. record { mode = c.in-Ok.ensures.mode; denotes = c.in-Ok.ensures.denotes }
 
-pub returns-clause-code : goal.returns-clause-code
-returns-clause-code c = λ d st.
+pub returns-in-Err-clause-code : goal.returns-in-Err-clause-code
+returns-in-Err-clause-code c = λ d st.
     subst (λ n. IsGrowthCode c.args.segment.now.mode c.args.extra n d) (sym c.code_of_growing.ensures)
     (refused_code c.args.segment.now c.grow_or_move.new.segment c.args.extra c.in-Err.why c.in-Err.ensures d st)
 
-pub returns-clause-grown : goal.returns-clause-grown
-returns-clause-grown c = λ e.
+pub returns-in-Err-clause-grown : goal.returns-in-Err-clause-grown
+returns-in-Err-clause-grown c = λ e.
     let some = is_code c.in-Err.why in let same = c.code_of_growing.ensures in absurd (omega arith)
 
-pub returns-clause-kept : goal.returns-clause-kept
-returns-clause-kept c = λ _. kept_same c.args.segment.now c.grow_or_move.new.segment c.args.extra c.in-Err.why c.in-Err.ensures
+pub returns-in-Err-clause-kept : goal.returns-in-Err-clause-kept
+returns-in-Err-clause-kept c = λ _. kept_same c.args.segment.now c.grow_or_move.new.segment c.args.extra c.in-Err.why c.in-Err.ensures

@@ -3,8 +3,8 @@ use Rattle.std.proofs.Common.{arith}
 use Rattle.segment_c.proofs.Rooms.{segment-small}
 use Rattle.segment_c.proofs.transactions.copy_of.Goals as goal
 
-pub copied-requires-clause-room : goal.copied-requires-clause-room
-copied-requires-clause-room c =
+pub copy_into-requires : goal.copy_into-requires
+copy_into-requires c =
     let small = segment-small c.args.segment.now.cut.bytes c.size_of.ensures.denotes in
-    let size = c.size_of.ensures.size in let room = c.capacity_for.ensures.room in
+    let size = c.size_of.ensures.size in let room = c.in-Ok.ensures.room in
     omega (arith, small, size, room)

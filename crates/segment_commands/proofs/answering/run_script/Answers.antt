@@ -5,9 +5,7 @@ pub returns-in-Err : goal.returns-in-Err
 returns-in-Err g c =
     let same = c.flush-flushed.ensures.same in
     inl (record {
-      stop = c.in-Err.fault;
-      why = c.from.ensures;
-      left = λ at is. rw same (c.in-Err.ensures.leaves at is);
+      unserved = rw same c.in-Err.ensures.serves;
       ok = is_ok c.flush-flushed.result;
-      flushed = record { before = c.run_followed-answered.new.out; flush = c.flush-flushed.ensures.flushes; same = same };
+      flushed = record { before = c.serve-served.new.out; flush = c.flush-flushed.ensures.flushes; same = same };
     })

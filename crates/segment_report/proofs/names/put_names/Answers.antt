@@ -19,8 +19,8 @@ names-init g c =
           (none_listed s.cut.bytes old c.args.prefix.now c.args.most);
     }
 
-pub returns-in_err-put_listed : goal.returns-in_err-put_listed
-returns-in_err-put_listed g c =
+pub returns-in_err-left : goal.returns-in_err-left
+returns-in_err-left g c =
     let s = c.args.segment.now in
     let walk = c.names.name-iterator in
     let next : (d : Directory) → StandsFor s.cut.bytes d → Some c.in-Some.name.now ≡ slice_get (names_of d) walk.at =
@@ -28,7 +28,7 @@ returns-in_err-put_listed g c =
     c.in-Some.ensures.steps.says.answers in
     listed-cut s (g.W.Sink.history c.args.out.now) (g.W.Sink.history c.names.out) (g.W.Sink.history c.put_listed.new.out)
     c.args.prefix.now c.args.most c.names.left walk.at c.names.invariant.told c.in-Some.name.now next _ c.from_residual.result
-    c.from_residual.ensures.0 c.in_err-put_listed.ensures.writes
+    c.from_residual.ensures.0 c.in_err-left.ensures.writes
 
 pub names-preserved : goal.names-preserved
 names-preserved g c =
@@ -45,9 +45,9 @@ names-preserved g c =
       finite = tt;
       segment = steps.segment ∙ c.names.invariant.segment;
       told =
-          subst (λ n. IsListed s.cut.bytes old new c.args.prefix.now c.args.most c.in_ok-put_listed.field-0 n) (sym steps.place)
+          subst (λ n. IsListed s.cut.bytes old new c.args.prefix.now c.args.most c.in_ok-left.left n) (sym steps.place)
           (listed-more s old (g.W.Sink.history c.names.out) new c.args.prefix.now c.args.most c.names.left walk.at c.names.invariant.told
-          c.in-Some.name.now next _ c.in_ok-put_listed.field-0 c.in_ok-put_listed.ensures.left c.in_ok-put_listed.ensures.writes);
+          c.in-Some.name.now next _ c.in_ok-left.left c.in_ok-left.ensures.left c.in_ok-left.ensures.writes);
     }
 
 pub returns : goal.returns
@@ -57,5 +57,5 @@ returns g c =
     let none : (d : Directory) → StandsFor s.cut.bytes d → None ≡ slice_get (names_of d) walk.at =
     subst (λ (t : State). (d : Directory) → StandsFor t.cut.bytes d → None ≡ slice_get (names_of d) walk.at) c.names.invariant.segment
     c.in-None.ensures.steps.says.answers in
-    listed-all s (g.W.Sink.history c.args.out.now) (g.W.Sink.history c.names.out) c.args.prefix.now c.args.most c.names.left walk.at
+    listed-all s (g.W.Sink.history c.args.out.now) (g.W.Sink.history c.names.out) (g.W.Sink.history c.names.out) c.args.prefix.now c.args.most c.names.left walk.at
     c.names.invariant.told tt none

@@ -4,12 +4,12 @@ use Rattle.segment_manager.specs.Directory.{live}
 use Rattle.segment_scripts.specs.Answer.{block_words}
 use Rattle.segment_scripts.proofs.BlockLines.{IsEnd, end_is, ends_by_size, next_line, next_within, tile_stands}
 use Rattle.segment_scripts.proofs.Listings.{listing-cut, listing-done, listing-more, line_part}
-use Rattle.segment_scripts.proofs.Owed.{parts-start}
+use Rattle.segment_scripts.proofs.Owed.{of-start}
 use Rattle.segment_scripts.proofs.listing.put_blocks.Goals as goal
 use Rattle.segment_scripts.proofs.listing.put_blocks.Goals.{else-tiles-test, then-tiles-test+in_default}
 
 pub tiles-init : goal.tiles-init
-tiles-init g c = record { next = c.first_tile-ahead.ensures; told = parts-start (λ d. line_part block_words (spans (live d))) }
+tiles-init g c = record { next = c.first_tile-ahead.ensures; told = of-start (λ d. line_part block_words (spans (live d))) }
 
 pub next_tile-ahead-requires : goal.next_tile-ahead-requires
 next_tile-ahead-requires g c = tile_stands c.args.segment.now c.tiles.counter c.in-Some.tile c.tiles.ahead c.tiles.invariant.next c.in-Some.is

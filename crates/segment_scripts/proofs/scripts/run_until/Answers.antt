@@ -3,7 +3,7 @@ use Rattle.raw_region.specs.Device.{given_since, taken_since}
 use Rattle.segment_scripts.specs.Behind.{LeavesEnded}
 use Rattle.segment_scripts.specs.Lines.{ended_lines, open_line, executable}
 use Rattle.segment_scripts.specs.Stopping.{stops_at}
-use Rattle.segment_scripts.proofs.Cuts.{none_failed, one_failed, printed_part, executable-whole, until_last}
+use Rattle.segment_scripts.proofs.Cuts.{none_failed, one_failed, printed_part, executable-whole, grows_last, grows_stopped, until_last}
 use Rattle.segment_scripts.proofs.scripts.run_until.Goals as goal
 
 pub returns-in-Refused-clause-leaves : goal.returns-in-Refused-clause-leaves
@@ -43,3 +43,20 @@ returns-in-Err-clause-leaves g c = λ place s.
       };
       on = p.on;
     }
+
+pub returns-in-Ok-clause-out_grows : goal.returns-in-Ok-clause-out_grows
+returns-in-Ok-clause-out_grows g c = λ place s.
+    let before = (g.W.Sink.history c.args.out.now).bytes in
+    let script = given_since (g.S.Source.history c.args.script.now) (g.S.Source.history c.read_lines.new.script) in
+    let read = subst (LeavesEnded g.M.Machine.respond (stops_at c.args.until g.M.Machine.refuses) place before script (g.M.Machine.stands c.read_lines.new.machine) c.read_lines.new.line (g.W.Sink.history c.read_lines.new.out).bytes (taken_since (g.W.Sink.history c.args.out.now) (g.W.Sink.history c.read_lines.new.out)))
+    c.in-Whole.is (c.in_ok-read_lines.ensures.end place s) in
+    grows_last g.M.Machine.respond (stops_at c.args.until g.M.Machine.refuses) place before script.bytes (g.M.Machine.stands c.answer_last.new.machine) (g.W.Sink.history c.answer_last.new.out).bytes c.in-Ok.end
+    (c.in-Ok.ensures.ok place before script.bytes (record { behind = read.end.behind; on = read.on }))
+
+pub returns-in-Err-clause-out_grows : goal.returns-in-Err-clause-out_grows
+returns-in-Err-clause-out_grows g c = λ place s.
+    let before = (g.W.Sink.history c.args.out.now).bytes in
+    let script = given_since (g.S.Source.history c.args.script.now) (g.S.Source.history c.read_lines.new.script) in
+    let read = subst (LeavesEnded g.M.Machine.respond (stops_at c.args.until g.M.Machine.refuses) place before script (g.M.Machine.stands c.read_lines.new.machine) c.read_lines.new.line (g.W.Sink.history c.read_lines.new.out).bytes (taken_since (g.W.Sink.history c.args.out.now) (g.W.Sink.history c.read_lines.new.out)))
+    c.in-Whole.is (c.in_ok-read_lines.ensures.end place s) in
+    grows_stopped g.M.Machine.respond place before _ _ (g.M.Machine.stands c.answer_last.new.machine) (g.W.Sink.history c.answer_last.new.out).bytes (c.in-Err.ensures.err place before script.bytes (record { behind = read.end.behind; on = read.on })).stopped

@@ -4,11 +4,11 @@ use Rattle.segment_scripts.specs.Answer.{entry_words}
 use Rattle.segment_scripts.proofs.Answering.{unique_is}
 use Rattle.segment_scripts.proofs.ListedObjects.{unique-said, said-part}
 use Rattle.segment_scripts.proofs.Listings.{listing-cut, listing-done, listing-more, line_part}
-use Rattle.segment_scripts.proofs.Owed.{parts-start}
+use Rattle.segment_scripts.proofs.Owed.{of-start}
 use Rattle.segment_scripts.proofs.telling.put_kinds.Goals as goal
 
 pub kinds-init : goal.kinds-init
-kinds-init g c = parts-start (λ d. line_part entry_words (unique_objects d))
+kinds-init g c = of-start (λ d. line_part entry_words (unique_objects d))
 
 pub unique_instance-requires : goal.unique_instance-requires
 unique_instance-requires g c = record {

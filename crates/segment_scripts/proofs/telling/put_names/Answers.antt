@@ -5,11 +5,11 @@ use Rattle.segment_scripts.specs.Answer.{entry_words}
 use Rattle.segment_scripts.proofs.Answering.{named_is}
 use Rattle.segment_scripts.proofs.ListedObjects.{named-said, said-part}
 use Rattle.segment_scripts.proofs.Listings.{listing-cut, listing-done, listing-more, line_part}
-use Rattle.segment_scripts.proofs.Owed.{parts-start}
+use Rattle.segment_scripts.proofs.Owed.{of-start}
 use Rattle.segment_scripts.proofs.telling.put_names.Goals as goal
 
 pub names-init : goal.names-init
-names-init g c = parts-start (λ d. line_part (λ (o : Object). name_text o.name ∷ entry_words o) (named_objects d))
+names-init g c = of-start (λ d. line_part (λ (o : Object). name_text o.name ∷ entry_words o) (named_objects d))
 
 pub named_instance-requires : goal.named_instance-requires
 named_instance-requires g c = record {

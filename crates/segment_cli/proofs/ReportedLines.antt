@@ -1,0 +1,43 @@
+-- What the program says of its faults, and the status that it ends with.
+use Rattle.std.proofs.Common.{◌≡◌, refl, [], codes}
+use Rattle.image_check.specs.declared.classes.ImageClass.TheVariants.{BadTag}
+use Rattle.grow_shrink.specs.declared.refusals.GrowError.TheVariants.{BadGrow}
+use Rattle.segment_cli.specs.declared.faults.SessionFault.TheVariants.{Image, RegionTooSmall, OutOfMemory}
+use Rattle.segment_cli.specs.declared.program_faults.ProgramFault.TheVariants.{Usage, Exists, Growth, Session}
+use Rattle.segment_cli.specs.Reports.{fault_text, status_of}
+
+image : fault_text (Session (Image BadTag)) ≡ codes "segment: image refused: 6 BadTag\n"
+image = refl
+
+image_status : status_of (Session (Image BadTag)) ≡ 1
+image_status = refl
+
+growth : fault_text (Growth BadGrow) ≡ codes "segment: growth refused: BadGrow\n"
+growth = refl
+
+growth_status : status_of (Growth BadGrow) ≡ 1
+growth_status = refl
+
+exists : fault_text Exists ≡ codes "segment: file exists\n"
+exists = refl
+
+exists_status : status_of Exists ≡ 3
+exists_status = refl
+
+region : fault_text (Session RegionTooSmall) ≡ codes "segment: size refused\n"
+region = refl
+
+region_status : status_of (Session RegionTooSmall) ≡ 1
+region_status = refl
+
+memory : fault_text (Session OutOfMemory) ≡ codes "segment: out of memory\n"
+memory = refl
+
+memory_status : status_of (Session OutOfMemory) ≡ 4
+memory_status = refl
+
+usage : fault_text Usage ≡ []
+usage = refl
+
+usage_status : status_of Usage ≡ 2
+usage_status = refl

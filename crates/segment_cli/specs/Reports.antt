@@ -1,0 +1,81 @@
+-- What the program says of a fault, and the status that it ends with.
+use Rattle.std.specs.Prelude.{◌≡◌, ◌⊎◌, ◌∷◌, ◌+◌, ◌++◌, ℕ, List, [], codes}
+use Rattle.raw_region.specs.Answers.{AddsFront}
+use Rattle.raw_region.specs.Device.{Took}
+use Rattle.image_check.specs.declared.classes.ImageClass.{ImageClass}
+use Rattle.image_check.specs.declared.classes.ImageClass.TheVariants as class
+use Rattle.grow_shrink.specs.declared.refusals.GrowError.{GrowError}
+use Rattle.grow_shrink.specs.declared.refusals.GrowError.TheVariants as growth
+use Rattle.segment_cli.specs.declared.faults.SessionFault.{SessionFault}
+use Rattle.segment_cli.specs.declared.faults.SessionFault.TheVariants as session
+use Rattle.segment_cli.specs.declared.program_faults.ProgramFault.{ProgramFault}
+use Rattle.segment_cli.specs.declared.program_faults.ProgramFault.TheVariants.{Usage, Exists, Growth, Session}
+
+-- ---- the line of a fault
+
+-- a class by its number and its name
+abbrev pub class_words : ImageClass → List ℕ
+class_words class.Truncated = codes "1 Truncated"
+class_words class.BadMagic = codes "2 BadMagic"
+class_words class.UnsupportedVersion = codes "3 UnsupportedVersion"
+class_words class.BadSize = codes "4 BadSize"
+class_words class.BadReserved = codes "5 BadReserved"
+class_words class.BadTag = codes "6 BadTag"
+class_words class.BadFreeTree = codes "7 BadFreeTree"
+class_words class.BadIndex = codes "8 BadIndex"
+class_words class.BadObject = codes "9 BadObject"
+class_words class.SharedBlock = codes "10 SharedBlock"
+class_words class.BadContainer = codes "11 BadContainer"
+class_words class.OrphanBlock = codes "12 OrphanBlock"
+
+abbrev pub growth_name : GrowError → List ℕ
+growth_name growth.ReadOnly = codes "ReadOnly"
+growth_name growth.BadGrow = codes "BadGrow"
+growth_name growth.TooLarge = codes "TooLarge"
+growth_name growth.RegionTooSmall = codes "RegionTooSmall"
+
+-- what stands behind `segment: `
+abbrev pub session_words : SessionFault → List ℕ
+session_words (session.Image c) = codes "image refused: " ++ class_words c
+session_words session.BadSize = codes "size refused"
+session_words session.RegionTooSmall = codes "size refused"
+session_words session.OutOfMemory = codes "out of memory"
+session_words session.ReadFault = codes "read fault"
+session_words session.WriteFault = codes "write fault"
+session_words session.ScriptTooLong = codes "script too long"
+
+-- a line of the program, which ends with a line end
+abbrev pub line : List ℕ → List ℕ
+line words = codes "segment: " ++ words ++ 0x0A ∷ []
+
+-- a wrong command line has been told of by whoever read it
+abbrev pub fault_text : ProgramFault → List ℕ
+fault_text Usage = []
+fault_text Exists = line (codes "file exists")
+fault_text (Growth e) = line (codes "growth refused: " ++ growth_name e)
+fault_text (Session f) = line (session_words f)
+
+-- ---- its status
+
+abbrev pub session_status : SessionFault → ℕ
+session_status (session.Image c) = 1
+session_status session.BadSize = 1
+session_status session.RegionTooSmall = 1
+session_status session.OutOfMemory = 4
+session_status session.ReadFault = 3
+session_status session.WriteFault = 3
+session_status session.ScriptTooLong = 3
+
+abbrev pub status_of : ProgramFault → ℕ
+status_of Usage = 2
+status_of Exists = 3
+status_of (Growth e) = 1
+status_of (Session f) = session_status f
+
+-- ---- what goes out
+
+-- all of the text went out and no write failed, or one failed and some of the text went out, from the first byte on,
+-- but not all
+abbrev pub Puts : Took → Took → List ℕ → Type 0
+Puts old new text = ((new.failures ≡ old.failures) × (new.bytes ≡ old.bytes ++ text))
+    ⊎ ((new.failures ≡ old.failures + 1) × AddsFront old.bytes new.bytes text)

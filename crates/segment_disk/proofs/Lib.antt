@@ -1,2 +1,0 @@
-mod ErrorLaws
-mod NumberLaws

@@ -1,0 +1,32 @@
+-- What the value of an object is, wherever its blocks are and however much room they have.
+use Rattle.std.specs.Prelude.{ℕ, ℤ, List, map, length}
+use Rattle.seg_types.specs.declared.kinds.ScalarKind.{ScalarKind}
+use Rattle.seg_map.specs.Places.{item_of}
+use Rattle.seg_vector.specs.Vector.{OwnedText}
+use Rattle.segment_manager.specs.Directory as directory
+
+-- scalars of one kind; a vector of them; a string; a map, by rising keys; a vector of strings
+pub data Content : Type 0 where
+  Scalars : ScalarKind → List ℤ → Content
+  Vector : ScalarKind → List ℤ → Content
+  String : List ℕ → Content
+  Map : ScalarKind → ScalarKind → List (ℤ × ℤ) → Content
+  Strings : List (List ℕ) → Content
+
+abbrev pub bytes_in : OwnedText → List ℕ
+bytes_in p = p.bytes
+
+abbrev pub content_of : directory.Value → Content
+content_of (directory.Numbers k zs) = Scalars k zs
+content_of (directory.Elements k zs t) = Vector k zs
+content_of (directory.Bytes bs t) = String bs
+content_of (directory.Pairs k v ps) = Map k v (map item_of ps)
+content_of (directory.Texts ps t) = Strings (map bytes_in ps)
+
+-- how many scalars, texts or pairs it has; a string is one text
+abbrev pub count_of_content : Content → ℕ
+count_of_content (Scalars k zs) = length zs
+count_of_content (Vector k zs) = length zs
+count_of_content (String bs) = 1
+count_of_content (Map k v ps) = length ps
+count_of_content (Strings ts) = length ts

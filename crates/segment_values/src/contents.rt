@@ -1,0 +1,200 @@
+//! What an object has: its elements, one after another, whatever their layout.
+ghost use Rattle.std.specs.Prelude.{◌≡◌, ◌-◌, ◌^◌, ◌<◌, option_map, true};
+ghost use Rattle.seg_types.specs.Names.{ByHandle};
+ghost use Rattle.seg_types.specs.Values.{kind_of_scalar, value_of_scalar};
+ghost use Rattle.segment_manager.specs.Calls.{HasScalars};
+ghost use Rattle.segment_manager.specs.containers.Contents.{bytes_at, sizes_at};
+ghost use Rattle.segment_manager.specs.containers.Maps.{pair_above};
+ghost use Rattle.segment_manager.specs.containers.Walks.{IsMap, item_of_kinds, item_seen, pairs_at};
+ghost use Rattle.segment_manager.specs.objects.Located.{IsLocated, IsObject};
+ghost use Rattle.segment_manager.specs.State.{Answers, StandsFor};
+ghost use Rattle.segment_manager.specs.Parts.{parts_until};
+ghost use Rattle.segment_values.specs.Asked.{element_part, length_in, pair_part, string_part, text_part};
+ghost use Rattle.segment_values.specs.Layouts.{count_at, laid_at};
+ghost use Rattle.segment_values.specs.Writing.{WritesFor};
+
+use crate::layouts::Layout;
+use raw_region::{DeviceFault, Sink};
+use seg_types::{Kind, ScalarKind, ScalarValue};
+use segment_manager::conditioned::{first_pair, next_pair};
+use segment_manager::{Object, Segment};
+
+/// How many scalars, texts or pairs an object has. A string is one text.
+pub fn count_of(segment: &Segment, object: Object) -> u64
+    requires { IsLocated segment.now (ByHandle object.handle) object }
+    ensures { Answers segment.now (λ d. count_at d (ByHandle object.handle)) result }
+{
+    match object.kind {
+        Kind::Scalar(_) => u64::from(object.count),
+        Kind::String => 1,
+        _ => length_of(segment, object),
+    }
+}
+
+/// How many elements a vector, string or map has, and 0 where the object is none of these.
+pub fn length_of(segment: &Segment, object: Object) -> u64
+    requires { IsObject object segment.now }
+    ensures { Answers segment.now (λ d. length_in (sizes_at d (ByHandle object.handle))) result }
+{
+    match segment.measure(&object) {
+        Ok((len, _)) => len,
+        Err(_) => 0,
+    }
+}
+
+/// Writes what an object has; `count` is how many elements there are.
+pub fn put_content<L: Layout, W: Sink>(
+    layout: &L,
+    segment: &Segment,
+    object: Object,
+    count: u64,
+    out: &mut W,
+) -> Result<(), DeviceFault>
+    requires writer { (W.history out.old).failures < 2 ^ 64 - 1 }
+    requires object { IsLocated segment.now (ByHandle object.handle) object }
+    requires count { Answers segment.now (λ d. count_at d (ByHandle object.handle)) count }
+    ensures { WritesFor (W.history out.old) (W.history out.new) result (StandsFor segment.now.cut.bytes) (λ d. laid_at (L.spelling layout.now) d (ByHandle object.handle)) }
+{
+    match object.kind {
+        Kind::Scalar(_) => put_elements(layout, segment, object, count, out),
+        Kind::Vector(_) => put_elements(layout, segment, object, count, out),
+        Kind::String => put_string(layout, segment, object, out),
+        Kind::Strings => put_strings(layout, segment, object, count, out),
+        Kind::Map(keys, values) => put_pairs(layout, segment, object, keys, values, count, out),
+    }
+}
+
+/// Writes as many scalars of an object.
+fn put_elements<L: Layout, W: Sink>(
+    layout: &L,
+    segment: &Segment,
+    object: Object,
+    count: u64,
+    out: &mut W,
+) -> Result<(), DeviceFault>
+    requires writer { (W.history out.old).failures < 2 ^ 64 - 1 }
+    requires object { IsObject object segment.now }
+    requires elements { HasScalars segment.now (ByHandle object.handle) }
+    ensures { WritesFor (W.history out.old) (W.history out.new) result (StandsFor segment.now.cut.bytes) (λ d. parts_until (element_part (L.spelling layout.now) segment.now.mode d (ByHandle object.handle)) count) }
+{
+    'elements: for index in 0..count {
+        put_element(layout, segment, object, index, out)?;
+    }
+    Ok(())
+}
+
+/// Writes the scalar at an index, and nothing where there is none.
+fn put_element<L: Layout, W: Sink>(
+    layout: &L,
+    segment: &Segment,
+    object: Object,
+    index: u64,
+    out: &mut W,
+) -> Result<(), DeviceFault>
+    requires writer { (W.history out.old).failures < 2 ^ 64 - 1 }
+    requires object { IsObject object segment.now }
+    requires elements { HasScalars segment.now (ByHandle object.handle) }
+    ensures { WritesFor (W.history out.old) (W.history out.new) result (StandsFor segment.now.cut.bytes) (λ d. element_part (L.spelling layout.now) segment.now.mode d (ByHandle object.handle) index) }
+{
+    match segment.get_any(&object, index) {
+        Ok(value) => layout.put_scalar(index, value, out),
+        Err(_) => Ok(()),
+    }
+}
+
+/// Writes the text of a string, and nothing where the object is none.
+fn put_string<L: Layout, W: Sink>(
+    layout: &L,
+    segment: &Segment,
+    object: Object,
+    out: &mut W,
+) -> Result<(), DeviceFault>
+    requires writer { (W.history out.old).failures < 2 ^ 64 - 1 }
+    requires object { IsObject object segment.now }
+    ensures { WritesFor (W.history out.old) (W.history out.new) result (StandsFor segment.now.cut.bytes) (λ d. string_part (L.spelling layout.now) (bytes_at d (ByHandle object.handle))) }
+{
+    match segment.string_bytes(&object) {
+        Ok(bytes) => layout.put_text(0, bytes, out),
+        Err(_) => Ok(()),
+    }
+}
+
+/// Writes as many texts of a vector of strings.
+fn put_strings<L: Layout, W: Sink>(
+    layout: &L,
+    segment: &Segment,
+    object: Object,
+    count: u64,
+    out: &mut W,
+) -> Result<(), DeviceFault>
+    requires writer { (W.history out.old).failures < 2 ^ 64 - 1 }
+    requires object { IsObject object segment.now }
+    ensures { WritesFor (W.history out.old) (W.history out.new) result (StandsFor segment.now.cut.bytes) (λ d. parts_until (text_part (L.spelling layout.now) segment.now.mode d (ByHandle object.handle)) count) }
+{
+    'texts: for index in 0..count {
+        put_one_of_strings(layout, segment, object, index, out)?;
+    }
+    Ok(())
+}
+
+/// Writes the text at an index in a vector of strings, and nothing where there is none.
+fn put_one_of_strings<L: Layout, W: Sink>(
+    layout: &L,
+    segment: &Segment,
+    object: Object,
+    index: u64,
+    out: &mut W,
+) -> Result<(), DeviceFault>
+    requires writer { (W.history out.old).failures < 2 ^ 64 - 1 }
+    requires object { IsObject object segment.now }
+    ensures { WritesFor (W.history out.old) (W.history out.new) result (StandsFor segment.now.cut.bytes) (λ d. text_part (L.spelling layout.now) segment.now.mode d (ByHandle object.handle) index) }
+{
+    match segment.texts_get(&object, index) {
+        Ok(text) => layout.put_text(index, text, out),
+        Err(_) => Ok(()),
+    }
+}
+
+/// Writes as many pairs of a map by rising keys.
+fn put_pairs<L: Layout, W: Sink>(
+    layout: &L,
+    segment: &Segment,
+    object: Object,
+    keys: ScalarKind,
+    values: ScalarKind,
+    count: u64,
+    out: &mut W,
+) -> Result<(), DeviceFault>
+    requires writer { (W.history out.old).failures < 2 ^ 64 - 1 }
+    requires object { IsObject object segment.now }
+    requires map { IsMap segment.now (ByHandle object.handle) keys values }
+    ensures { WritesFor (W.history out.old) (W.history out.new) result (StandsFor segment.now.cut.bytes) (λ d. parts_until (pair_part (L.spelling layout.now) keys values d (ByHandle object.handle)) count) }
+{
+    let mut next = first_pair(segment, &object, keys, values);
+    'pairs: for index in 0..count {
+        if let Some((key, value)) = next {
+            layout.put_pair(index, key, value, out)?;
+            next = pair_behind(segment, object, key, values, index + 1 < count);
+        }
+    }
+    Ok(())
+}
+
+/// The pair above a key of a map, where there is one more to write.
+fn pair_behind(
+    segment: &Segment,
+    object: Object,
+    key: ScalarValue,
+    values: ScalarKind,
+    more: bool,
+) -> Option<(ScalarValue, ScalarValue)>
+    requires object { IsObject object segment.now }
+    requires map { IsMap segment.now (ByHandle object.handle) (kind_of_scalar key) values }
+    ensures { more ≡ true → Answers segment.now (λ d. option_map (item_of_kinds (kind_of_scalar key) values) (pair_above (value_of_scalar key) (pairs_at d (ByHandle object.handle)))) (option_map item_seen result) }
+{
+    if more {
+        next_pair(segment, &object, key, values)
+    } else {
+        None
+    }
+}

@@ -1,6 +1,6 @@
 -- What the rows of the map say of their owners is what the tiles say of theirs.
 use Rattle.std.proofs.Common.{◌≡◌, refl, ap, ◌∙◌, ℕ, ◌+◌, ◌-◌, ◌*◌, ◌/◌, ◌≤◌, Bool, true, false, not, ◌||◌, List, [], ◌∷◌, length, arith, cond}
-use Rattle.std.specs.Prelude.{Option, Some, None, is_some}
+use Rattle.std.specs.Prelude.{Option, Some, None, count_by, if◌then◌else◌, is_some}
 use Rattle.std.specs.List.{cons_option}
 use Rattle.raw_region.specs.Memory.{bytes_of}
 use Rattle.raw_region.specs.Format.{current}
@@ -66,3 +66,17 @@ rows-weigh b es h f =
     h.tags).row in
     let same = few-rows b es f in
     omega arith
+
+-- there is a row for each tile in use
+used-count : (o : Option Role) (offset len : ℕ) (es : Blocks) (n : ℕ) → length es ≡ n
+    → length (cons_option (elim o [ None ↦ None | Some role ↦ Some (offset + 16, new_block role len) ]) es) ≡ (if is_some o then 1 else 0) + n
+used-count None offset len es n e = omega arith
+used-count (Some role) offset len es n e = omega arith
+
+entries-count : (ts : List Tile) → length (entries_of ts) ≡ count_by (λ (t : Tile). is_some t.use_of) ts
+entries-count [] = refl
+entries-count (t ∷ ts) = used-count t.use_of t.offset t.len (entries_of ts) _ (entries-count ts)
+
+pub rows-count : (b : List ℕ) (es : Blocks) → frames es ≡ frames (entries_of (tiles_in b))
+    → length es ≡ count_by (λ (t : Tile). is_some t.use_of) (tiles_in b)
+rows-count b es f = few-rows b es f ∙ entries-count (tiles_in b)

@@ -4,10 +4,11 @@ use Rattle.std.specs.Prelude.{IsTrue, if◌then◌else◌}
 use Rattle.std.proofs.lemmas.Bool.{both_ways, cond-true, eqb-true}
 use Rattle.std.proofs.lemmas.List.{append-nil}
 use Rattle.raw_region.specs.Format.{current}
-use Rattle.raw_region.specs.Memory.{Cut, whole}
+use Rattle.raw_region.specs.Memory.{Cut, SamePlace, whole}
 use Rattle.block_tags.specs.Format.{is_legal_size}
 use Rattle.segment_manager.specs.declared.modes.Mode.{Mode}
 use Rattle.segment_manager.specs.declared.modes.Mode.TheVariants.{ReadOnly}
+use Rattle.segment_manager.specs.State.{State}
 use Rattle.image_check.specs.declared.classes.ImageClass.{ImageClass}
 use Rattle.image_check.specs.declared.classes.ImageClass.TheVariants.{Truncated, BadMagic, UnsupportedVersion, BadSize}
 use Rattle.image_check.specs.declared.errors.OpenError.{OpenError}
@@ -26,8 +27,9 @@ use Rattle.image_check.specs.Examining.{ExaminesBytes}
 use Rattle.image_check.specs.Formats.{format_in, version_word}
 use Rattle.image_check.specs.HeaderPlaces.{IsFrontPlace}
 use Rattle.image_check.specs.Opening.{IsHandedBack, IsImage, IsTooSmallFor, has_early_class}
+use Rattle.image_check.specs.OpeningAny.{IsRenewed}
 use Rattle.image_check.specs.OpeningBytes.{IsMisfit, IsNotOpenedOf, IsNotPlaced, IsWhyNotOf, OpensBytes, as_given}
-use Rattle.image_check.specs.Passes.{has_block}
+use Rattle.image_check.specs.Passes.{IsRefusalFor, has_block}
 use Rattle.image_check.specs.Reading.{HasFront, IsImageRead, front_of}
 use Rattle.image_check.proofs.Deciding.{decided-some, first_class}
 use Rattle.image_check.proofs.Early.{cut-Truncated}
@@ -35,7 +37,7 @@ use Rattle.image_check.proofs.Filled.{HasFront-IsRight}
 use Rattle.image_check.proofs.Fronts.{IsRight, front-decided, front-wrong, has_front-IsRight}
 use Rattle.image_check.specs.Verdicts.{Shows}
 use Rattle.image_check.proofs.ReadFormats.{format_of-few}
-use Rattle.image_check.proofs.Refused.{back-from, no-room, shown-why, verified}
+use Rattle.image_check.proofs.Refused.{back-from, no-room, opened, shown-why, verified}
 use Rattle.image_check.proofs.Stopping.{front-early, more-decided}
 use Rattle.image_check.proofs.ToldPlaces.{front-shown}
 
@@ -140,14 +142,23 @@ module _ (format : ℕ) (b region : List ℕ) (base : ℕ) (w : Cut) (h : IsImag
   why-not-of RegionTooSmall x = absurd x
   why-not-of ReadFault x = absurd x
   why-not-of (Judged v) x = subst (λ (y : List ℕ). class_of format y ≡ Some v.class) h.bytes x.0
-  why-not-of (OutOfMemory refusal) x = record {
-    read = h.read;
-    early = subst (λ (y : List ℕ). has_early_class format y ≡ false) h.bytes x.0;
-    used = subst (λ (y : List ℕ). IsTrue (has_block y)) h.bytes x.1;
-  }
+  why-not-of (OutOfMemory refusal) x = (
+    record {
+      read = h.read;
+      early = subst (λ (y : List ℕ). has_early_class format y ≡ false) h.bytes x.0;
+      used = subst (λ (y : List ℕ). IsTrue (has_block y)) h.bytes x.1;
+    },
+    subst (λ (y : List ℕ). IsRefusalFor y refusal) h.bytes x.2,
+  )
 
   as-long : length b ≡ size_word b
   as-long = sym (ap length h.bytes) ∙ sym h.front.says ∙ ap size_word h.bytes
+
+  pub opened-bytes : (mode : Mode) (s : State) → format ≡ current → IsImage format w.bytes → SamePlace w s.cut
+      → IsRenewed format w.bytes s.cut.bytes → s.mode ≡ mode → OpensBytes format b region base mode (Ok s)
+  opened-bytes mode s now d place r f =
+      let o = opened format (as_given b) region base w h mode s now d place r f in
+      record { answers = o.answers; too_small = o.too_small }
 
   pub refused-bytes : (mode : Mode) (why : ExamineError) (cause : OpenError) (back : List ℕ) → IsWhyRefused format w.bytes why → cause ≡ error_for why → back ≡ whole w
       → OpensBytes format b region base mode (Err (record { region = back; cause = cause }))

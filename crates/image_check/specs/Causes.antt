@@ -16,7 +16,7 @@ use Rattle.image_check.specs.Verdicts.{Shows}
 abbrev pub error_for : ExamineError → OpenError
 error_for (Image v) = OfClass v.class
 error_for RegionTooSmall = TooSmall
-error_for (OutOfMemory refusal) = NoMemory
+error_for (OutOfMemory refusal) = NoMemory refusal
 error_for ReadFault = Fault
 
 abbrev pub opened_as : ExamineRefused → OpenRefused

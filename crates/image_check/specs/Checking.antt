@@ -6,11 +6,15 @@ use Rattle.image_check.specs.declared.classes.ImageClass.{ImageClass}
 use Rattle.image_check.specs.declared.classes.ImageClass.TheVariants.{BadIndex, BadObject, SharedBlock, BadContainer, OrphanBlock}
 use Rattle.image_check.specs.ObjectTests.{has_indexes, has_objects}
 use Rattle.image_check.specs.Fields.{is_shared, is_orphaned, has_containers}
-use Rattle.image_check.specs.Passes.{has_block}
+use Rattle.best_fit.specs.WayPoints.{LeadToBlocks}
+use Rattle.best_fit.specs.declared.way_points.WayPoints.{WayPoints}
+use Rattle.image_check.specs.Owners.{Blocks, entries_of, frames}
+use Rattle.image_check.specs.Passes.{CountsTiles, HasTiles, IsRefusalFor, Spends, tiles_in, has_block}
 use Rattle.image_check.specs.declared.errors.ExamineError.{ExamineError}
 use Rattle.image_check.specs.declared.errors.ExamineError.TheVariants.{Image, RegionTooSmall, OutOfMemory, ReadFault}
-use Rattle.image_check.specs.Opening.{has_early_class}
+use Rattle.image_check.specs.Opening.{IsImage, has_early_class}
 use Rattle.image_check.specs.Verdicts.{IsVerdict}
+use Rattle.image_check.specs.Visits.{all_rates}
 
 -- the first class from the eighth on, by the five tests
 abbrev pub late_by : Bool → Bool → Bool → Bool → Bool → Option ImageClass
@@ -25,6 +29,19 @@ late_class format m ts = late_by (has_indexes m ts) (has_objects format m ts) (i
 -- why an image that stands in its window is refused
 abbrev pub IsWhyRefused : ℕ → List ℕ → ExamineError → Type 0
 IsWhyRefused format b (Image v) = IsVerdict format b v
-IsWhyRefused format b (OutOfMemory refusal) = (has_early_class format b ≡ false) × IsTrue (has_block b)
+IsWhyRefused format b (OutOfMemory refusal) =
+    (has_early_class format b ≡ false) × IsTrue (has_block b) × IsRefusalFor b refusal
 IsWhyRefused format b RegionTooSmall = ⊥
 IsWhyRefused format b ReadFault = ⊥
+
+-- it denotes a directory, and the way-points lead to its blocks
+pub record IsImageNoted (format : ℕ) (b : List ℕ) (points : WayPoints) : Type 0 where
+  pub image : IsImage format b
+  pub lead : LeadToBlocks points b
+
+-- all passes over an image went well: the map has its blocks, and they spent no more than they may
+pub record ArePassed (b : List ℕ) (es : Blocks) (old new : ℕ) : Type 0 where
+  pub tiles : HasTiles b
+  pub frame : frames es ≡ frames (entries_of (tiles_in b))
+  pub spent : Spends all_rates 115 b old new
+  pub counted : CountsTiles b old new

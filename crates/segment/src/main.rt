@@ -112,6 +112,9 @@ fn check_all<W: Write>(
                 };
             }
             Err(fault) => {
+                let Ok(()) = out.flush() else {
+                    return Err(WRITE_FAULT);
+                };
                 let _ = put_pieces(
                     &mut Writing::new(rt.stderr()),
                     &[front, Piece::Bytes(b": ")],

@@ -25,7 +25,9 @@ use crate::handle::{Handle, Holder, put, put_new, take};
 use crate::resizing::is_capacity;
 use block_tags::is_legal_size;
 use grow_shrink::region_for;
-use image_check::{ExamineError, FRONT, ImageClass, OpenError, examine_bytes, open_bytes, size_in};
+use image_check::{
+    ExamineError, FRONT, ImageClass, OpenError, Versions, examine_bytes, open_bytes, size_in,
+};
 use raw_region::{RawRegion, Steps};
 use segment_manager::{Mode, Segment};
 use std::alloc::Global;
@@ -240,7 +242,14 @@ fn examine_in(alloc: Global, image: &[u8], region: RawRegion, place: &mut u64) -
     ensures why { 1 ≤ result → IsExplained image.now result place.old place.new }
     ensures kept { result ≡ 0 → place.new ≡ place.old }
 {
-    match examine_bytes(alloc, image, region, 0, &mut Steps::new()) {
+    match examine_bytes(
+        Versions::Current,
+        alloc,
+        image,
+        region,
+        0,
+        &mut Steps::new(),
+    ) {
         Ok(_) => DONE,
         Err(refused) => match refused.cause {
             ExamineError::Image(verdict) => {
@@ -301,7 +310,7 @@ fn open_in(alloc: Global, image: &[u8], region: RawRegion, mode: Mode) -> Result
         Err(refused) => match refused.cause {
             OpenError::Image(class) => Err(class_code(class)),
             OpenError::RegionTooSmall => Err(SHORT_REGION),
-            OpenError::OutOfMemory => Err(NO_MEMORY),
+            OpenError::OutOfMemory(_) => Err(NO_MEMORY),
             OpenError::ReadFault => unreachable!(),
         },
     }

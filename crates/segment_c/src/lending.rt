@@ -98,7 +98,7 @@ fn open_over(
             let code = match refused.cause {
                 OpenError::Image(class) => class_code(class),
                 OpenError::RegionTooSmall => SHORT_REGION,
-                OpenError::OutOfMemory => NO_MEMORY,
+                OpenError::OutOfMemory(_) => NO_MEMORY,
                 OpenError::ReadFault => unreachable!(),
             };
             Err((code, refused.region))

@@ -32,7 +32,7 @@ created_fault NoRoom = RegionTooSmall
 abbrev pub opened_fault : OpenError → SessionFault
 opened_fault (NoImage c) = Refused c
 opened_fault NoRoomForImage = RegionTooSmall
-opened_fault NoMemory = OutOfMemory
+opened_fault (NoMemory refusal) = OutOfMemory
 opened_fault NotRead = ReadFault
 
 abbrev pub run_fault : RunFault → SessionFault

@@ -60,7 +60,7 @@ impl From<OpenRefused> for SessionFault {
         match refused.cause {
             OpenError::Image(class) => SessionFault::Image(class),
             OpenError::RegionTooSmall => SessionFault::RegionTooSmall,
-            OpenError::OutOfMemory => SessionFault::OutOfMemory,
+            OpenError::OutOfMemory(_) => SessionFault::OutOfMemory,
             OpenError::ReadFault => SessionFault::ReadFault,
         }
     }

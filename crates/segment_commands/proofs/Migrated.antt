@@ -92,7 +92,7 @@ no-memory image e = cc
 is-room : (cause : OpenError) → let answer : Result State SessionFault = Err RegionTooSmall in answer ≡ Err (opened_fault cause) → cause ≡ NoRoom
 is-room (NoImage c) e = absurd (cc)
 is-room NoRoom e = refl
-is-room NoMemory e = absurd (cc)
+is-room (NoMemory refusal) e = absurd (cc)
 is-room NotRead e = absurd (cc)
 
 too-small-in : (image : Given) (region : List ℕ) (opened : Result State OpenRefused) → OpensAny image region 0 Write opened

@@ -165,7 +165,7 @@ module _ (mode : Mode) (text region : List ℕ) where
   why_not : (cause : OpenError) → IsWhyNotOf current text 0 (length region) cause → IsWhyNotBegun OfImage (as_given text) 0 (length region) (opened_fault cause)
   why_not (NoImage c) why = (refl, record { sound = refl; right = inl (refl, why) })
   why_not NoRoom why = why
-  why_not NoMemory why = (refl, why)
+  why_not (NoMemory refusal) why = (refl, why.0)
   why_not NotRead why = absurd why
 
   abbrev no_segment : OpenError → Result State SessionFault

@@ -9,6 +9,7 @@ use crate::file_steps::{
 };
 use crate::writing::write_image;
 use grow_shrink::{grow_or_move, shrink_to_fit};
+use raw_region::copy_text;
 use segment_disk::{Disk, Making, Presence};
 use segment_manager::{Mode, Segment};
 use std::alloc::Global;
@@ -41,7 +42,7 @@ impl SegmentFile {
     ) -> Result<SegmentFile, FileError>
         ensures { KeepsFile disk.old disk.new path.now (CreatesSegment D.step disk.old disk.new path.now size) result }
     {
-        let kept = String::from_str(alloc, path)?;
+        let kept = copy_text(alloc, path)?;
         if disk.look(path) == Presence::There {
             return Err(FileError::Exists);
         }
@@ -69,7 +70,7 @@ impl SegmentFile {
     ) -> Result<SegmentFile, FileError>
         ensures { KeepsFile disk.old disk.new path.now (ReadsSegment D.step disk.old disk.new path.now mode) result }
     {
-        let kept = String::from_str(alloc, path)?;
+        let kept = copy_text(alloc, path)?;
         let segment = read_segment(alloc, disk, path, mode)?;
         Ok(SegmentFile {
             segment,
@@ -94,7 +95,7 @@ impl SegmentFile {
     ) -> Result<SegmentFile, FileError>
         ensures { KeepsFile disk.old disk.new path.now (OpensOrCreates D.step disk.old disk.new path.now size) result }
     {
-        let kept = String::from_str(alloc, path)?;
+        let kept = copy_text(alloc, path)?;
         let segment = if disk.look(path) == Presence::Absent {
             make_segment_file(alloc, disk, path, size)?
         } else {

@@ -5,7 +5,7 @@ use Rattle.std.specs.Prelude.{⊤, option_and_then, option_map}
 use Rattle.std.proofs.lemmas.Bool.{and_parts}
 use Rattle.std.proofs.lemmas.List.{append_assoc}
 use Rattle.clap.proofs.OnLiterals.{clap_on_literals}
-use Rattle.clap.specs.Walk.{Held, Row, Text, Waiting, Walk, finished, idle, option as waits, nothing_held, plain_word, rows_after, settled, walk, walk_from, walked}
+use Rattle.clap.specs.Walk.{Held, Row, Text, Waiting, Walk, finished, idle, option as waits, nothing_held, plain_word, rows_after, settled, walk_from, walked}
 use Rattle.clap.specs.Simple.{Shape, built_leaf, inherited}
 use Rattle.clap.specs.Takes.{default_passes, is_valid, level_passes, settle_passes, step_passes, turn_passes, walk_passes}
 use Rattle.clap.specs.declared.builder.value_parser.Reading.TheVariants as reading

@@ -1,4 +1,4 @@
-//! What people want to see of a segment: how its bytes are used, in figures and as a picture.
+//! What people want to see of a segment: how its bytes are used, in figures and as a picture, and what its names are.
 #![tactic(auto)]
 
 mod entries;

@@ -1,5 +1,5 @@
 -- What a lint answers, by what a line reads as.
-use Rattle.std.proofs.Common.{◌≡◌, ℕ, ◌+◌, Bool, List, [], Ok, refl, sym, ap, subst, ◌∙◌, arith}
+use Rattle.std.proofs.Common.{◌≡◌, ℕ, ◌+◌, Bool, true, List, [], Ok, refl, sym, ap, subst, ◌∙◌, arith}
 use Rattle.std.specs.Prelude.{Result, min}
 use Rattle.std.proofs.lemmas.List.{append-nil}
 use Rattle.raw_region.specs.Device.{Took, Writes}
@@ -11,7 +11,7 @@ use Rattle.seg_types.specs.declared.refusals.LineError.TheVariants.{UnknownComma
 use Rattle.segment_lang.specs.Language.{whole}
 use Rattle.segment_lang.specs.Reading.{reading, without_return}
 use Rattle.segment_lang.specs.Seen.{wrong_reading}
-use Rattle.segment_scripts.specs.Linting.{Place, finding_text, is_at, lint_line, respond, tells}
+use Rattle.segment_scripts.specs.Linting.{Place, finding_text, is_at, is_missed, lint_line, misses_line, respond, tells}
 use Rattle.segment_scripts.specs.Writing.{WritesFor}
 use Rattle.segment_scripts.specs.declared.language.CommandRow.{CommandRow}
 
@@ -44,11 +44,20 @@ module _ (line : ℕ) (found : Bool) (rows : List CommandRow) (after : ℕ) (byt
     pub quiet_leads : (at : Place) → is_at line found rows at → is_at after found rows (lint_line at bytes).1
     quiet_leads at s = subst (is_at after found rows) (sym (ap (λ r. r.1) (same at))) (counted at s, s.1, s.2)
 
-    pub quiet_writes : (old : Took) → WritesFor {A = Unit {0}} {E = DeviceFault} old old (Ok tt) (is_at line found rows) (λ at. (lint_line at bytes).0)
-    quiet_writes old = record {
-      writes = λ at s. subst (Writes {A = Unit {0}} {E = DeviceFault} old old (Ok tt)) (sym (ap (λ r. r.0) (same at))) (record { ok = sym (append-nil old.bytes); err = tt; counted = omega arith });
+    pub quiet_writes : {A : Type 0} (a : A) (old : Took) → WritesFor {A = A} {E = DeviceFault} old old (Ok a) (is_at line found rows) (λ at. (lint_line at bytes).0)
+    quiet_writes {A} a old = record {
+      writes = λ at s. subst (Writes {A = A} {E = DeviceFault} old old (Ok a)) (sym (ap (λ r. r.0) (same at))) (record { ok = sym (append-nil old.bytes); err = tt; counted = omega arith });
       counted = omega arith;
     }
+
+missed : (e : LineError) → true ≡ is_missed (wrong_reading e)
+missed UnknownCommand = refl
+missed LineTooLong = refl
+missed BadSyntax = refl
+
+-- a line that is told of is no command
+pub told_missed : (e : LineError) (bytes : List ℕ) → wrong_reading e ≡ reading (whole current) bytes → true ≡ misses_line bytes
+told_missed e bytes h = missed e ∙ ap is_missed h
 
 pub nothing : (bytes : List ℕ) → Nothing ≡ reading (whole current) bytes → (at : Place) → lint_line at bytes ≡ ([], next at)
 nothing bytes h at = ap (respond (next at) bytes) (sym h)

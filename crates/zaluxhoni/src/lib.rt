@@ -26,8 +26,8 @@ pub use best_fit::{Heap, NoSpace};
 pub use block_tags::Role;
 pub use grow_shrink::{GrowError, grow, shrink_to_fit};
 pub use image_check::{
-    ExamineError, ExamineRefused, ImageClass, NoMemory, OpenError, OpenRefused, Verdict, Versions,
-    examine, examine_bytes, open, open_any, open_bytes, verify,
+    ExamineError, ExamineRefused, ImageClass, MemoryFault, NoMemory, OpenError, OpenRefused,
+    Verdict, Versions, examine, examine_bytes, open, open_any, open_bytes, verify,
 };
 pub use naming::named;
 pub use raw_region::stream::{Reading, Writing};

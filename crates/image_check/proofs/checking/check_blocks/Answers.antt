@@ -115,6 +115,9 @@ returns-clause-visits c =
     (spend-both b container_rates orphan_rates 20 2 _ _ _ c.in_default-check_containers.ensures.visits
     (c.check_orphans.ensures.visits b (frame-tiles c.args.format b c.requires.frame) c.in_default-check_sharing.ensures.whole.marking.frame))))
 
+pub returns-clause-frame : goal.returns-clause-frame
+returns-clause-frame c = c.in_default-check_sharing.ensures.whole.marking.frame
+
 pub returns-in-Err-check_orphans-clause-visits : goal.returns-in-Err-check_orphans-clause-visits
 returns-in-Err-check_orphans-clause-visits c =
     let b = c.args.window.now.bytes in

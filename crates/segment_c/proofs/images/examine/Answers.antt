@@ -1,5 +1,20 @@
 -- Fewer bytes than they say are cut off.
-use Rattle.std.proofs.Common.{◌<◌, inr, length, refl, subst, ℕ}
+use Rattle.std.proofs.Common.{◌<◌, ◌≤◌, arith, inl, inr, length, refl, subst, ℕ}
+use Rattle.std.specs.Prelude.{min}
 use Rattle.image_check.specs.declared.classes.ImageClass.TheVariants.{Truncated}
 use Rattle.segment_c.proofs.OpenedImages.{said_more}
 use Rattle.segment_c.proofs.images.examine.Goals as goal
+
+pub returns-then-len-size-clause-why : goal.returns-then-len-size-clause-why
+returns-then-len-size-clause-why c = λ _.
+    inr (
+      Truncated,
+      c.class_code.ensures,
+      said_more c.args.image.now
+          (subst (λ (n : ℕ). length c.args.image.now < n) c.size_said-size.ensures c.if-len-size.true),
+      refl,
+    )
+
+pub examine_in-requires : goal.examine_in-requires
+examine_in-requires c =
+    subst (λ (n : ℕ). min n 1073741824 ≤ length c.in-Ok.region) c.size_said-size.ensures c.in-Ok.ensures.room

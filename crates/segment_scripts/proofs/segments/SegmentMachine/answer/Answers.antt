@@ -1,5 +1,6 @@
 use Rattle.std.proofs.Common.{◌∙◌, ap, refl, sym}
 use Rattle.segment_lang.specs.Seen.{reading_by}
+use Rattle.segment_scripts.specs.Refusing.{refuses}
 use Rattle.segment_scripts.proofs.Meant.{asked-meant}
 use Rattle.segment_scripts.proofs.WrongLines.{responds-form, responds-wrong}
 use Rattle.segment_scripts.proofs.segments.SegmentMachine.answer.Goals as goal
@@ -39,3 +40,6 @@ pub returns-in_default : goal.returns-in_default
 returns-in_default g c =
     let r = responds-form c.in-Form.rest.now refl c.in-Form.ensures c.answer_form.ensures in
     record { leads = r.leads; writes = r.writes; tells = r.tells }
+
+pub returns-in-Nothing-clause-tells : goal.returns-in-Nothing-clause-tells
+returns-in-Nothing-clause-tells g c = λ at s. ap (refuses at.mode at.directory) c.in-Nothing.ensures

@@ -1,8 +1,8 @@
 -- The frame, the blocks in use and their classes, one after another, and what each of them spends.
-use Rattle.image_check.proofs.Budget.{blocks-raised, gathered-raised}
+use Rattle.image_check.proofs.Budget.{blocks-raised, blocks-spent, gathered-raised}
 use Rattle.image_check.proofs.Early.{frame-no_early_class}
 use Rattle.image_check.proofs.Checked.{no-memory-used, blocks-image, frame-tiles}
-use Rattle.image_check.proofs.checking.check_counted.Goals as goal
+use Rattle.image_check.proofs.checking.pass_all.Goals as goal
 
 pub gather-requires : goal.gather-requires
 gather-requires c = record {
@@ -15,6 +15,7 @@ pub returns-in-Err-gather-clause-answers : goal.returns-in-Err-gather-clause-ans
 returns-in-Err-gather-clause-answers c = (
   frame-no_early_class c.args.format c.args.window.now.bytes c.in-Ok.ensures.finds,
   no-memory-used c.args.window.now.bytes c.gather.result c.in-Err-gather.refusal c.gather.ensures.memory c.in-Err-gather.is,
+  c.in-Err-gather.ensures.refused,
 )
 
 pub returns-in-Err-gather-clause-visits : goal.returns-in-Err-gather-clause-visits
@@ -44,3 +45,17 @@ returns-clause-visits c =
     blocks-raised c.args.window.now _ _ _ (frame-tiles c.args.format c.args.window.now.bytes c.in-Ok.ensures.finds)
     c.in-Ok.ensures.visits c.in-Ok-gather.ensures.visits
     _ c.in_default.ensures.visits
+
+pub returns-clause-passed : goal.returns-clause-passed
+returns-clause-passed c =
+    let tiles = frame-tiles c.args.format c.args.window.now.bytes c.in-Ok.ensures.finds in
+    let raised = c.in_default.ensures.visits.0 in
+    let before = c.in-Ok.ensures.visits.0 in
+    let counted = c.in-Ok-gather.ensures.tiles in
+    record {
+      tiles = tiles;
+      frame = c.in_default.ensures.frame;
+      spent = blocks-spent c.args.window.now _ _ _ tiles c.in-Ok.ensures.visits c.in-Ok-gather.ensures.visits _
+          c.in_default.ensures.visits;
+      counted = omega arith;
+    }

@@ -2,7 +2,7 @@
 //! C, C++ and Python have the same in `crates/segment_c/c/examples`: each goes on with what another has saved.
 use anyhow::Result;
 use std::alloc::Global;
-use zaluxhoni::{Disk, Segment, SegmentFile, VectorView, named};
+use zaluxhoni::{Disk, Name, Segment, SegmentFile, VectorView, named};
 
 /// What is kept of an article, as the bytes of a struct of C.
 #[derive(Clone, Copy)]
@@ -83,18 +83,29 @@ fn fill(alloc: Global, shop: &mut Segment) -> Result<()> {
     add(alloc, shop, figs, "figs", 1999, "north")
 }
 
+/// The article at an index.
+fn article_at(shop: &Segment, articles: &Name, index: u64) -> Result<Article> {
+    let mut bytes = [0u8; 16];
+    let mut place = index.saturating_mul(16);
+    for byte in bytes.iter_mut() {
+        *byte = shop.vec_get(articles, place)?;
+        place = place.saturating_add(1);
+    }
+    Ok(Article::of_bytes(bytes))
+}
+
 /// Sells one of the first article, while there are any: its count and what was earned change.
 fn sell(shop: &mut Segment) -> Result<()> {
     let (articles, earned) = (named("articles")?, named("earned")?);
-    let mut bytes = [0u8; 16];
-    VectorView::<u8>::of(shop, &articles)?.copy_to(&mut bytes)?;
-    let mut sold = Article::of_bytes(bytes);
+    let mut sold = article_at(shop, &articles, 0)?;
     if sold.count <= 0 {
         return Ok(());
     }
     sold.count -= 1;
-    for (place, byte) in (0u64..).zip(sold.to_bytes()) {
+    let mut place = 0u64;
+    for byte in sold.to_bytes() {
         shop.vec_set(&articles, place, byte)?;
+        place = place.saturating_add(1);
     }
     let price: Option<i64> = shop.map_get(&named("prices")?, sold.number)?;
     let sum: i64 = shop.get(&earned, 0)?;
@@ -119,12 +130,8 @@ fn tell_of(rt: &HostRuntime, shop: &Segment, article: Article) -> Result<()> {
 /// Tells of all articles.
 fn tell_of_articles(rt: &HostRuntime, shop: &Segment) -> Result<()> {
     let articles = named("articles")?;
-    for first in (0..shop.vec_len::<u8, _>(&articles)?).step_by(16) {
-        let mut bytes = [0u8; 16];
-        for (byte, place) in bytes.iter_mut().zip(first..) {
-            *byte = shop.vec_get(&articles, place)?;
-        }
-        tell_of(rt, shop, Article::of_bytes(bytes))?;
+    for index in 0..shop.vec_len::<u8, _>(&articles)? / 16 {
+        tell_of(rt, shop, article_at(shop, &articles, index)?)?;
     }
     Ok(())
 }

@@ -33,15 +33,16 @@ behind-live h (Some x) xs l = or_right (handle x == h) (has_handle h xs) l
 tile-live : (ts : List Tile) (role : Role) (h : ℕ) (t : Tile) → tile_of ts role h ≡ Some t
     → IsTrue (has_handle h (filter_map as_extent ts))
 tile-live [] role h t e = absurd (cc)
-tile-live (u ∷ ts) role h t e = by (is_use role u && (u.offset + 16 == h)) refl e
+tile-live (u ∷ ts) role h t e = by (is_use role u && (u.offset + 16 == h)) refl e (tile-live ts role h t)
   where
     by : (b : Bool) → (is_use role u && (u.offset + 16 == h)) ≡ b → cond b (Some u) (tile_of ts role h) ≡ Some t
+        → (tile_of ts role h ≡ Some t → IsTrue (has_handle h (filter_map as_extent ts)))
         → IsTrue (has_handle h (filter_map as_extent (u ∷ ts)))
-    by true e f =
+    by true e f rest =
         let p = and_parts (is_use role u) (u.offset + 16 == h) e in
         here-live u.offset u.len h role u.red (filter_map as_extent ts) u.use_of (use-of u.use_of role p.0)
         (eqb-true (u.offset + 16) h p.1)
-    by false e f = behind-live h (as_extent u) (filter_map as_extent ts) (tile-live ts role h t f)
+    by false e f rest = behind-live h (as_extent u) (filter_map as_extent ts) (rest f)
 
 pub block_live : (b : List ℕ) (es : Blocks) (h : ℕ) (block : Block) → AreBlocks (tiles_in b) es
     → block_at es h ≡ Some block → IsTrue (is_live_in (live_of b) h)

@@ -1,6 +1,6 @@
 -- What the rows of the map say of their owners is what the tiles say of theirs.
 use Rattle.std.proofs.Common.{◌≡◌, refl, ap, ◌∙◌, ℕ, ◌+◌, ◌-◌, ◌*◌, ◌/◌, ◌≤◌, Bool, true, false, not, ◌||◌, List, [], ◌∷◌, length, arith, cond}
-use Rattle.std.specs.Prelude.{Option, Some, None, count_by, if◌then◌else◌, is_some}
+use Rattle.std.specs.Prelude.{Option, Some, None, filter_map, is_some}
 use Rattle.std.specs.List.{cons_option}
 use Rattle.raw_region.specs.Memory.{bytes_of}
 use Rattle.raw_region.specs.Format.{current}
@@ -14,7 +14,7 @@ use Rattle.image_check.specs.declared.owners.Owner.{Owner}
 use Rattle.image_check.specs.ObjectTests.{payload}
 use Rattle.image_check.specs.Orphans.{is_owned}
 use Rattle.image_check.specs.Owners.{Blocks, block_at, entries_of, frames, has_owner, new_block, owner_at, owner_in}
-use Rattle.image_check.specs.Passes.{HasTiles, tiles_in}
+use Rattle.image_check.specs.Passes.{HasTiles, blocks_in, tiles_in}
 use Rattle.image_check.specs.Visits.{orphan_rates, rate_of, weigh}
 use Rattle.image_check.proofs.RowWalks.{few-rows}
 use Rattle.image_check.proofs.Tags.{has_tags-AreWholeTiles}
@@ -68,15 +68,14 @@ rows-weigh b es h f =
     omega arith
 
 -- there is a row for each tile in use
-used-count : (o : Option Role) (offset len : ℕ) (es : Blocks) (n : ℕ) → length es ≡ n
-    → length (cons_option (elim o [ None ↦ None | Some role ↦ Some (offset + 16, new_block role len) ]) es) ≡ (if is_some o then 1 else 0) + n
-used-count None offset len es n e = omega arith
-used-count (Some role) offset len es n e = omega arith
+used-count : (o : Option Role) (offset len : ℕ) (es : Blocks) (rs : List Role) → length es ≡ length rs
+    → length (cons_option (elim o [ None ↦ None | Some role ↦ Some (offset + 16, new_block role len) ]) es) ≡ length (cons_option o rs)
+used-count None offset len es rs e = e
+used-count (Some role) offset len es rs e = omega arith
 
-entries-count : (ts : List Tile) → length (entries_of ts) ≡ count_by (λ (t : Tile). is_some t.use_of) ts
+pub entries-count : (ts : List Tile) → length (entries_of ts) ≡ length (filter_map (λ (t : Tile). t.use_of) ts)
 entries-count [] = refl
-entries-count (t ∷ ts) = used-count t.use_of t.offset t.len (entries_of ts) _ (entries-count ts)
+entries-count (t ∷ ts) = used-count t.use_of t.offset t.len (entries_of ts) (filter_map (λ (u : Tile). u.use_of) ts) (entries-count ts)
 
-pub rows-count : (b : List ℕ) (es : Blocks) → frames es ≡ frames (entries_of (tiles_in b))
-    → length es ≡ count_by (λ (t : Tile). is_some t.use_of) (tiles_in b)
+pub rows-count : (b : List ℕ) (es : Blocks) → frames es ≡ frames (entries_of (tiles_in b)) → length es ≡ blocks_in b
 rows-count b es f = few-rows b es f ∙ entries-count (tiles_in b)

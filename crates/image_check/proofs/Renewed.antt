@@ -49,6 +49,7 @@ image-heap format b image = denotes-heap format b image.0 image.1
 
 -- a heap stays one
 pub rebuilt-same : (c : Cut) → IsHeap current c.bytes → IsRebuilt current c c
+unfolding current
 rebuilt-same c h = record {
   live = h;
   keeps = keeps-refl c (live_of c.bytes).extents;

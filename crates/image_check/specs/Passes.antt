@@ -1,5 +1,5 @@
 -- What a pass over an image answers.
-use Rattle.std.specs.Prelude.{◌≡◌, ℕ, ◌+◌, ◌≤◌, Bool, true, false, List, count_by, length, is_some, IsTrue, Result, MatchResult}
+use Rattle.std.specs.Prelude.{◌≡◌, ℕ, ◌+◌, ◌≤◌, Bool, true, false, List, filter_map, length, is_some, IsTrue, Result, MatchResult}
 use Rattle.std.specs.List.{list_any}
 use Rattle.raw_region.specs.Memory.{bytes_of}
 use Rattle.raw_region.specs.Format.{current}
@@ -20,7 +20,7 @@ has_block b = list_any (λ (t : Tile). is_some t.use_of) (tiles_in b)
 
 -- how many are
 abbrev pub blocks_in : List ℕ → ℕ
-blocks_in b = count_by (λ (t : Tile). is_some t.use_of) (tiles_in b)
+blocks_in b = length (filter_map (λ (t : Tile). t.use_of) (tiles_in b))
 
 -- the tags of an image of a legal size are good
 pub record HasTiles (b : List ℕ) : Type 0 where

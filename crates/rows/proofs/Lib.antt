@@ -9,3 +9,4 @@ mod Directories
 mod Containers
 mod Entries
 mod Requests
+mod Told

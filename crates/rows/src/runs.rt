@@ -1,10 +1,11 @@
 //! Scripts run by the library's `run` alone: on a machine that is no segment, and on a segment whose writer fails.
 ghost use Rattle.std.specs.Prelude.{◌≡◌, ◌+◌, ◌/◌, ◌%◌, ◌==◌, ◌∷◌, [], ℕ, min, length, take};
 ghost use Rattle.std.proofs.Common.{ap, arith, length-take};
+ghost use Rattle.segment_scripts.specs.Refusing.{was_refused};
 
 use memory_devices::{Last, MemorySink, MemorySource};
 use raw_region::{DeviceFault, RawRegion, Sink, write_all};
-use segment_cli::{Answered, End, Machine, RunFault, Scratch, Until, run, serve};
+use segment_cli::{Answered, Machine, RunFault, Scratch, run};
 use segment_manager::{Mode, Segment};
 use std::alloc::{AllocError, Global};
 
@@ -26,6 +27,7 @@ impl Machine for Lengths {
 
     ghost stands = { λ machine count. machine.count ≡ count };
 
+    #[tactic(auto, using(crate::proofs::Told::writes_ok, crate::proofs::Told::writes_err))]
     fn answer<W: Sink>(
         &mut self,
         _scratch: &mut Scratch,
@@ -35,11 +37,11 @@ impl Machine for Lengths {
         let len = line.len().min(4098);
         let answer = [self.count, (len / 256) as u8, (len % 256) as u8];
         self.count = self.count.wrapping_add(1);
-        write_all(out, &answer)?;
-        if len == 4098 {
-            return Ok(Answered::Refused);
+        let told = told_of(len);
+        match write_all(out, &answer) {
+            Ok(()) => Ok(told),
+            Err(fault) => Err(fault),
         }
-        Ok(Answered::Done)
     }
 
     ghost long_lines = { λ count line long.
@@ -51,6 +53,17 @@ impl Machine for Lengths {
         let same : min (length line) 4098 ≡ min (length (take 4098 line)) 4098 =
         Prim.omega (arith, length-take 4098 line) in
         ap (λ (len : ℕ). len == 4098) same };
+}
+
+/// What becomes of a line of so many bytes.
+fn told_of(len: usize) -> Answered
+    ensures { was_refused result ≡ (len == 4098) }
+{
+    if len == 4098 {
+        Answered::Refused
+    } else {
+        Answered::Done
+    }
 }
 
 const SCRIPT: &[u8] = b"ab\n\ncde\nf";

@@ -1,5 +1,5 @@
 -- A dump that fits is loaded, if memory is given.
-use Rattle.std.proofs.Common.{◌≡◌, ℕ, ◌+◌, ◌≤◌, Bool, true, false, nat_lt, List, length, Option, Some, None, Err, if◌then◌else◌, refl, sym, ap, subst, ◌∙◌, inl, inr, arith}
+use Rattle.std.proofs.Common.{◌≡◌, ℕ, ◌+◌, ◌≤◌, Bool, true, false, nat_lt, List, length, Option, Some, None, Ok, Err, if◌then◌else◌, refl, sym, ap, subst, ◌∙◌, inl, inr, arith}
 use Rattle.std.specs.Prelude.{Result, min, not}
 use Rattle.std.proofs.lemmas.Bool.{false≢true, ltb-true}
 use Rattle.std.proofs.lemmas.Bool.Decides.{nat_tests}
@@ -9,6 +9,8 @@ use Rattle.segment_manager.specs.State.{State}
 use Rattle.segment_dump.specs.declared.faults.LoadError.{LoadError}
 use Rattle.segment_dump.specs.declared.faults.LoadError.TheVariants as load
 use Rattle.segment_dump.specs.declared.faults.LoadRefused.{LoadRefused}
+use Rattle.segment_dump.specs.Counting.{CountsDump}
+use Rattle.segment_dump.specs.declared.counting.Count.{Count}
 use Rattle.segment_dump.specs.Items.{portable}
 use Rattle.segment_dump.specs.Loading.{IsExact, asked_of, cause_but_bad}
 use Rattle.segment_dump.specs.Need.{items_needs}
@@ -18,7 +20,7 @@ use Rattle.segment_cli.specs.declared.faults.SessionFault.{SessionFault}
 use Rattle.segment_cli.specs.declared.faults.SessionFault.TheVariants.{Image as Refused, BadSize, RegionTooSmall, OutOfMemory, ReadFault, WriteFault, ScriptTooLong}
 use Rattle.segment_commands.specs.declared.program_faults.ProgramFault.{ProgramFault}
 use Rattle.segment_commands.specs.declared.program_faults.ProgramFault.TheVariants.{Session}
-use Rattle.segment_commands.specs.Loading.{IsFitting, IsReadWhole, IsWanted, IsWhyUnread, LoadsDump, load_fault}
+use Rattle.segment_commands.specs.Loading.{IsFitting, IsReadWhole, IsWanted, IsWhyUnread, LoadsDump, NeedsRoom, load_fault}
 
 -- ---- a segment of a text
 
@@ -53,6 +55,25 @@ refused-fits needed text capacity size room wanted refused roomy w exact succeed
     refused-by needed refused.cause (is_legal_size asked) (nat_lt capacity (0 + asked)) (nat_lt asked needs.room) (nat_lt room needs.longest) f.legal
     (λ e. omega (arith, ltb-true capacity (0 + asked) e, roomy, same, legal-most asked f.legal)) (λ e. omega (arith, ltb-true asked needs.room e, f.room))
     (exact.exact f.bytes f.directory f.said f.stands f.small f.dump) (λ e. succeeds.succeeds f.bytes f.directory f.said f.stands f.small f.dump e)
+
+-- ---- what the objects of a dump need
+
+same-count : (a b : Count) → ◌≡◌ {A = Result Count ℕ} (Ok a) (Ok b) → a ≡ b
+same-count a b e = cc
+
+no-count : (left : ℕ) (a : Count) → ◌≡◌ {A = Result Count ℕ} (Err left) (Ok a) → ⊥
+no-count left a e = cc
+
+module _ (text bare : List ℕ) (is : bare ≡ without_notes text) where
+  pub needs_counted : (count : Count) → CountsDump bare (Ok count) → NeedsRoom text count.needs.room
+  needs_counted count c = record {
+    needs = λ n items small countable e. ap (λ (k : Count). k.needs.room) (same-count count (record { size = n; needs = items_needs items }) (c.counts n items small countable (is ∙ e)));
+  }
+
+  pub needs_uncounted : (left : ℕ) → CountsDump bare (Err left) → NeedsRoom text 0
+  needs_uncounted left c = record {
+    needs = λ n items small countable e. absurd (no-count left (record { size = n; needs = items_needs items }) (c.counts n items small countable (is ∙ e)));
+  }
 
 -- ---- a dump that is read
 

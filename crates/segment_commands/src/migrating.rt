@@ -41,15 +41,18 @@ fn begin_any_in<S: Source>(
     }
 }
 
-/// Why there is no segment of an image that says more bytes than there is room for: it is read on, and where it has as
-/// many as it says, there is no room.
-fn refused_behind<S: Source>(alloc: Global, reader: &mut Headed<S>) -> SessionFault
+/// The same of an image that says more bytes than there was room for: it is read on, and where it has as many as it
+/// says, there is no room.
+fn begin_any_behind<S: Source>(
+    alloc: Global,
+    reader: &mut Headed<S>,
+) -> Result<Segment, SessionFault>
     requires small { BeginsAny (given_since nothing_given (S.history reader.old.inner)) (Err RegionTooSmall) }
-    ensures { BeginsAny (given_since nothing_given (S.history reader.new.inner)) (Err result) }
+    ensures { BeginsAny (given_since nothing_given (S.history reader.new.inner)) result }
 {
     match read_on(alloc, reader) {
-        Ok(_) => SessionFault::RegionTooSmall,
-        Err(unfit) => unfit.into_fault(),
+        Ok(_text) => Err(SessionFault::RegionTooSmall),
+        Err(unfit) => Err(unfit.into_fault()),
     }
 }
 
@@ -63,7 +66,7 @@ fn begin_any_from<S: Source>(
     ensures { BeginsAny (given_since nothing_given (S.history reader.new.inner)) result }
 {
     match begin_any_in(alloc, reader, room_needed(len, 0)) {
-        Err(SessionFault::RegionTooSmall) => Err(refused_behind(alloc, reader)),
+        Err(SessionFault::RegionTooSmall) => begin_any_behind(alloc, reader),
         begun => begun,
     }
 }

@@ -40,6 +40,19 @@ pub(crate) fn begin_in<S: Source>(
     begin(alloc, start, mode, reader, region, 0)
 }
 
+/// The segment of the image of a reader, at the front of a region with room for so many bytes.
+fn begin_image<S: Source>(
+    alloc: Global,
+    mode: Mode,
+    reader: &mut Headed<S>,
+    bytes: u64,
+) -> Result<Segment, SessionFault>
+    requires fresh { S.history reader.old.inner ≡ nothing_given }
+    ensures { BeginsIn OfImage mode (given_since nothing_given (S.history reader.new.inner)) result }
+{
+    begin_in(alloc, Start::Image, mode, reader, bytes)
+}
+
 /// The segment of an image that was read whole, with room for so many bytes more.
 fn begin_text(alloc: Global, mode: Mode, text: &[u8], more: u64) -> Result<Segment, SessionFault>
     requires { decided current text.now ≡ None }
@@ -82,7 +95,7 @@ fn begin_from<S: Source>(
     requires fresh { S.history reader.old.inner ≡ nothing_given }
     ensures { BeginsIn OfImage mode (given_since nothing_given (S.history reader.new.inner)) result }
 {
-    match begin_in(alloc, Start::Image, mode, reader, room_needed(len, more)) {
+    match begin_image(alloc, mode, reader, room_needed(len, more)) {
         Err(SessionFault::RegionTooSmall) => begin_behind(alloc, mode, reader, more),
         begun => begun,
     }

@@ -90,16 +90,16 @@ module _ {D E : Type 0} (step : D → Event → D → Type 0) (old made new : D)
 
 -- ---- a file that is compared before
 
+with_comparison : {D : Type 0} (step : D → Event → D → Type 0) (old same new : D) (path : List ℕ) (how : Making) → how ≢ New → (b : Bool) (events : List Event)
+    → step old (Compared path b) same → After step same events new → After step old (compares how path b events) new
+with_comparison step old same new path New n b events asked rest = absurd (n refl)
+with_comparison step old same new path Emptied n b events asked rest = (same, asked, rest)
+with_comparison step old same new path Beside n b events asked rest = (same, asked, rest)
+
 module _ {D E : Type 0} (step : D → Event → D → Type 0) (old same new : D) (path image : List ℕ) where
   -- one that is new is not
   pub made_anew : (result : Result (Unit {0}) E) → MakesImage {E = E} step old new New path image result → WritesImage {E = E} step old new New path image result
   made_anew result m = record { written = m.written; asked = m.asked; fate = m.fate; accepted = m.accepted }
-
-  with_comparison : (how : Making) → how ≢ New → (b : Bool) (events : List Event) → step old (Compared path b) same → After step same events new
-      → After step old (compares how path b events) new
-  with_comparison New n b events asked rest = absurd (n refl)
-  with_comparison Emptied n b events asked rest = (same, asked, rest)
-  with_comparison Beside n b events asked rest = (same, asked, rest)
 
   -- it is the same
   pub made_over : (how : Making) → how ≢ New → (result : Result (Unit {0}) E) → step old (Compared path true) same → MakesImage {E = E} step same new how path image result
@@ -107,7 +107,7 @@ module _ {D E : Type 0} (step : D → Event → D → Type 0) (old same new : D)
   made_over how n result asked m = record {
     written = m.written;
     asked = subst (λ (b : Bool). After step old (compares how path b (makes how path m.written)) new) (sym m.same)
-        (with_comparison how n true (makes how path m.written) asked m.asked);
+        (with_comparison step old same new path how n true (makes how path m.written) asked m.asked);
     fate = m.fate;
     accepted = m.accepted;
   }
@@ -117,7 +117,7 @@ pub overtaken : {D E : Type 0} (step : D → Event → D → Type 0) (old new : 
     → WritesImage {E = E} step old new how path image (Err e)
 overtaken {E = E} step old new path image how n e asked = record {
   written = Overtaken;
-  asked = with_comparison {E = E} step old new new path image how n false [] asked refl;
+  asked = with_comparison step old new new path how n false [] asked refl;
   fate = inl (record { old = n; left = refl });
   accepted = λ m. absurd m;
 }

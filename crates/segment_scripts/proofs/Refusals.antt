@@ -21,19 +21,18 @@ once-tells a (Ok u) = refl
 once-tells a (Err e) = tt
 
 -- an answer that was written
-module _ {E : Type 0} {old new : Took} {a : Answered} {written : Result (Unit {0}) E} {result : Result Answered E} (is : result ≡ once a written) where
-  pub writes-once : {text : List ℕ} → Writes old new written text → Writes old new result text
-  writes-once {text} w = subst (λ r. Writes old new r text) (sym is) (once-writes a old new text written w)
+pub writes-once : {E : Type 0} (a : Answered) {old new : Took} {written : Result (Unit {0}) E} {result : Result Answered E} {text : List ℕ} → result ≡ once a written → Writes old new written text → Writes old new result text
+writes-once a {old = old} {new = new} {written = written} {text = text} is w = subst (λ r. Writes old new r text) (sym is) (once-writes a old new text written w)
 
-  pub tells-once : Tells result (was_refused a)
-  tells-once = subst (λ r. Tells r (was_refused a)) (sym is) (once-tells a written)
+pub tells-once : {E : Type 0} (a : Answered) (written : Result (Unit {0}) E) {result : Result Answered E} → result ≡ once a written → Tells result (was_refused a)
+tells-once a written is = subst (λ r. Tells r (was_refused a)) (sym is) (once-tells a written)
 
-  pub answers-once : {P : Type 0} {Stands : P → Type 0} {due : P → Answer} → WritesFor old new written Stands (λ p. answer_text (due p)) → ((p : P) → Stands p → was_refused a ≡ is_refusal (due p))
-      → AnswersFor old new result Stands due
-  answers-once w same = record {
-    writes = record { writes = λ p s. writes-once (w.writes p s); counted = w.counted ∙ ap (λ n. old.failures + n) (once-fails a written ∙ ap failures_in (sym is)) };
-    tells = λ p s. subst (Tells result) (same p s) tells-once;
-  }
+pub answers-once : {P E : Type 0} (a : Answered) {old new : Took} {written : Result (Unit {0}) E} {result : Result Answered E} {Stands : P → Type 0} {due : P → Answer} → result ≡ once a written
+    → WritesFor old new written Stands (λ p. answer_text (due p)) → ((p : P) → Stands p → was_refused a ≡ is_refusal (due p)) → AnswersFor old new result Stands due
+answers-once a {old = old} {written = written} {result = result} is w same = record {
+  writes = record { writes = λ p s. writes-once a is (w.writes p s); counted = w.counted ∙ ap (λ n. old.failures + n) (once-fails a written ∙ ap failures_in (sym is)) };
+  tells = λ p s. subst (Tells result) (same p s) (tells-once a written is);
+}
 
 module _ {P E : Type 0} {old new : Took} {result : Result Answered E} {Stands : P → Type 0} where
   -- one answer is due wherever the machine stands

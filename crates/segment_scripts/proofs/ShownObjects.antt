@@ -1,5 +1,5 @@
 -- What is shown of an object: its kind, and its numbers, texts or pairs one after another, or its bytes.
-use Rattle.std.proofs.Common.{◌≡◌, ℕ, false, List, [], ◌∷◌, ◌++◌, map, Option, refl, sym, ap, ◌∙◌, append_assoc}
+use Rattle.std.proofs.Common.{◌≡◌, ℕ, false, List, [], ◌∷◌, ◌++◌, length, map, Option, refl, sym, ap, ◌∙◌, append_assoc}
 use Rattle.std.specs.List.{flat_map}
 use Rattle.seg_types.specs.declared.kinds.Kind.TheVariants.{Map, Scalar, Strings as StringsKind, Vector}
 use Rattle.seg_types.specs.declared.refusals.Refusal.{Refusal}
@@ -38,7 +38,7 @@ laid-line text w xs = ap (λ l. w ++ (l ++ 0x0A ∷ [])) (laid-flat (λ x. 0x20 
 
 -- what is written of a value is what is shown of it
 shown-laid : (v : Value) → front_text (kind_of v) (count_of_content (content_of v)) ++ (laid_out in_line (content_of v) ++ 0x0A ∷ []) ≡ answer_text (Shown v)
-shown-laid (Numbers k zs) = laid-line (value_text k) _ zs
+shown-laid (Numbers k zs) = laid-line (value_text k) (front_text (Scalar k) (length zs)) zs
 shown-laid (Elements k zs t) = laid-line (value_text k) (kind_text (Vector k)) zs
 shown-laid (Bytes bs t) = refl
 shown-laid (Pairs k v ps) =

@@ -1,5 +1,7 @@
-use Rattle.std.proofs.Common.{arith}
+use Rattle.std.proofs.Common.{◌∙◌, arith}
+use Rattle.image_check.specs.Passes.{tiles_in}
 use Rattle.image_check.proofs.Gathered.{gathering-weigh}
+use Rattle.image_check.proofs.OwnedRows.{entries-count}
 use Rattle.image_check.proofs.gathering.gather.Goals as goal
 
 pub returns-in-Ok-clause-visits : goal.returns-in-Ok-clause-visits
@@ -8,3 +10,7 @@ returns-in-Ok-clause-visits c =
     let y = c.add_all.ensures.visits.0 in
     let z = c.add_all.ensures.visits.1 in
     (omega arith, omega arith)
+
+pub returns-in-Err-clause-refused : goal.returns-in-Err-clause-refused
+returns-in-Err-clause-refused c =
+    c.in-Err.ensures.refused ∙ c.requires.counted.used ∙ entries-count (tiles_in c.args.window.now.bytes)

@@ -11,12 +11,12 @@ returns-in-Ok-clause-grown c = λ _. record { mode = c.in-Ok.ensures.mode; denot
 
 pub returns-in-Err-clause-code : goal.returns-in-Err-clause-code
 returns-in-Err-clause-code c = λ d st.
-    subst (λ n. IsGrowthCode c.args.segment.now.mode c.args.extra n d) (sym c.code_of_growing.ensures)
+    subst (λ n. IsGrowthCode c.args.segment.now.mode c.args.extra n d) (sym c.code_of_growing.ensures.code)
     (refused_code c.args.segment.now c.grow_or_move.new.segment c.args.extra c.in-Err.why c.in-Err.ensures d st)
 
 pub returns-in-Err-clause-grown : goal.returns-in-Err-clause-grown
 returns-in-Err-clause-grown c = λ e.
-    let some = is_code c.in-Err.why in let same = c.code_of_growing.ensures in absurd (omega arith)
+    let some = is_code c.in-Err.why in let same = c.code_of_growing.ensures.code in absurd (omega arith)
 
 pub returns-in-Err-clause-kept : goal.returns-in-Err-clause-kept
 returns-in-Err-clause-kept c = λ _. kept_same c.args.segment.now c.grow_or_move.new.segment c.args.extra c.in-Err.why c.in-Err.ensures

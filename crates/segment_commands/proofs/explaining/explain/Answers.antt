@@ -14,8 +14,8 @@ returns-in-Ok-tell_verdict g c = inr (inl (record {
   answer = refl;
 }))
 
-pub returns-in-Err-Image : goal.returns-in-Err-Image
-returns-in-Err-Image g c = inr (inl (record {
+pub returns-in-Err-tell_verdict : goal.returns-in-Err-tell_verdict
+returns-in-Err-tell_verdict g c = inr (inl (record {
   verdict = c.in-Err-Image.verdict;
   why = subst (λ (u : Unfit). IsUnfitFile g.D.Disk.step c.args.disk.now c.examine_segment.new.disk c.args.path.now u) c.in-Err-Image.field-0-is c.in-Err-Image.ensures;
   said = Err (Session WriteFault);

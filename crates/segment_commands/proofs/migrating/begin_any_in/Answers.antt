@@ -12,8 +12,8 @@ returns-in-Ok-open_any g c =
     let opens : OpensAny given c.in-Ok.region 0 Write (Ok c.in-Ok-open_any.segment) = rw fresh at c.in-Ok-open_any.ensures.opens in
     inr (record { region = c.in-Ok.region; opened = Ok c.in-Ok-open_any.segment; opens_any = opens; answer = refl })
 
-pub returns : goal.returns
-returns g c =
+pub returns-in-Err : goal.returns-in-Err
+returns-in-Err g c =
     let fresh = c.requires.fresh in
     let given = given_since nothing_given (g.S.Source.history c.open_any.new.reader) in
     let opens : OpensAny given c.in-Ok.region 0 Write (Err c.in-Err.refused) = rw fresh at c.in-Err.ensures.opens in

@@ -3,6 +3,7 @@ use Rattle.seg_types.specs.declared.refusals.LineError.TheVariants.{BadSyntax}
 use Rattle.seg_types.specs.Commands.{Size}
 use Rattle.segment_lang.specs.Reading.{as_reading}
 use Rattle.segment_lang.proofs.Laws.{alone_at_end}
+use Rattle.segment_scripts.specs.declared.answered.Answered.TheVariants.{Done}
 use Rattle.segment_scripts.proofs.Refusals.{tells-once, writes-once}
 use Rattle.segment_scripts.proofs.WrongLines.{responds-wrong}
 use Rattle.segment_scripts.proofs.Zeros.{responds-number}
@@ -16,4 +17,4 @@ pub returns : goal.returns
 returns g c =
     responds-number c.args.segment.now Size refl
     (sym (ap as_reading (alone_at_end Size c.args.rest.now ∙ ap (λ (b : Bool). cond b (Some Size) None) (sym c.is_alone.ensures ∙ c.if-not-is_alone.false)))) c.size.ensures
-    (writes-once c.once.ensures c.put_number_line.ensures) (tells-once c.once.ensures)
+    (writes-once Done c.once.ensures c.put_number_line.ensures) (tells-once Done c.put_number_line.result c.once.ensures)

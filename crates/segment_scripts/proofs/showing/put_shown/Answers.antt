@@ -1,5 +1,6 @@
 use Rattle.seg_types.specs.Keys.{key_seen}
 use Rattle.segment_manager.proofs.Laws.{located-here}
+use Rattle.segment_scripts.specs.declared.answered.Answered.TheVariants.{Done}
 use Rattle.segment_scripts.proofs.Owed.{writes_same}
 use Rattle.segment_scripts.proofs.Refusals.{answers-once, answers-owed}
 use Rattle.segment_scripts.proofs.ShownObjects.{shown-by_key, shown-here, shown-missing}
@@ -12,7 +13,7 @@ pub returns-in-Ok : goal.returns-in-Ok
 returns-in-Ok g c =
     let s = c.args.segment.now in
     let key = key_seen c.args.key.now in
-    answers-once c.once.ensures (writes_same c.put_value.ensures (shown-by_key s key c.in-Ok.object c.in-Ok.ensures)) (shown-here s key c.in-Ok.object c.in-Ok.ensures)
+    answers-once Done c.once.ensures (writes_same c.put_value.ensures (shown-by_key s key c.in-Ok.object c.in-Ok.ensures)) (shown-here s key c.in-Ok.object c.in-Ok.ensures)
 
 pub returns-in-Err : goal.returns-in-Err
 returns-in-Err g c =

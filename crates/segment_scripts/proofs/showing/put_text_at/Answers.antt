@@ -1,4 +1,5 @@
 use Rattle.seg_types.specs.Names.{ByHandle}
+use Rattle.segment_scripts.specs.declared.answered.Answered.TheVariants.{Done}
 use Rattle.segment_scripts.proofs.Refusals.{answers-owed, tells-once, writes-once}
 use Rattle.segment_scripts.proofs.TextElements.{text-asked}
 use Rattle.segment_scripts.proofs.showing.put_text_at.Goals as goal
@@ -6,7 +7,7 @@ use Rattle.segment_scripts.proofs.showing.put_text_at.Goals as goal
 pub returns-in-Ok : goal.returns-in-Ok
 returns-in-Ok g c =
     let s = c.args.segment.now in
-    answers-owed (writes-once c.once.ensures c.put_pieces.ensures) (tells-once c.once.ensures)
+    answers-owed (writes-once Done c.once.ensures c.put_pieces.ensures) (tells-once Done c.put_pieces.result c.once.ensures)
     (λ d k. text-asked s (ByHandle c.args.object.handle) c.args.index _ c.in-Ok.ensures d k)
 
 pub returns-in-Err : goal.returns-in-Err

@@ -1,8 +1,10 @@
 -- So many pairs have gone out, and the next one is that at the next place.
-use Rattle.std.proofs.Common.{◌≡◌}
+use Rattle.std.proofs.Common.{◌≡◌, ◌<◌, slice_get}
 use Rattle.std.specs.Prelude.{option_map}
+use Rattle.seg_map.specs.Places.{item_of}
 use Rattle.seg_types.specs.Names.{ByHandle}
-use Rattle.segment_manager.specs.containers.Walks.{item_seen}
+use Rattle.segment_manager.specs.containers.Walks.{item_of_kinds, item_seen, pairs_at}
+use Rattle.segment_manager.specs.Directory.{Directory}
 use Rattle.segment_manager.specs.Parts.{parts_until}
 use Rattle.segment_manager.specs.State.{StandsFor}
 use Rattle.segment_manager.proofs.PartLaws.{well}

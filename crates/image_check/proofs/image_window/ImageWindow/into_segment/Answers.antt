@@ -1,9 +1,10 @@
-use Rattle.std.proofs.Common.{sym, subst}
+use Rattle.std.proofs.Common.{subst}
 use Rattle.raw_region.specs.Memory.{Cut}
-use Rattle.segment_manager.specs.State.{IsSegment}
+use Rattle.image_check.specs.OpeningAny.{IsRenewed}
 use Rattle.image_check.proofs.OpenedAny.{renewed-segment}
 use Rattle.image_check.proofs.image_window.ImageWindow.into_segment.Goals as goal
 
 pub segment_of-requires : goal.segment_of-requires
 segment_of-requires c =
-    renewed-segment c.args.format c.args.self.bytes c.renew.result.bytes c.requires.image c.renew.ensures.renewed
+    renewed-segment c.args.format c.args.self.bytes c.renew.result.bytes c.requires.image
+    (subst (λ (v : Cut). IsRenewed c.args.format v.bytes c.renew.result.bytes) c.self.view_is c.renew.ensures.renewed)

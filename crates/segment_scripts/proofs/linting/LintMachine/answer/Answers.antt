@@ -1,5 +1,5 @@
 use Rattle.std.proofs.Common.{ap, subst}
-use Rattle.segment_scripts.specs.declared.answered.Answered.TheVariants.{Done}
+use Rattle.segment_scripts.specs.declared.answered.Answered.TheVariants.{Done, Refused}
 use Rattle.segment_scripts.specs.Linting.{is_missed}
 use Rattle.segment_scripts.specs.Refusing.{Tells}
 use Rattle.segment_scripts.proofs.LintAnswers.{asked, finds, nothing, quiet_leads, quiet_writes, told_missed}
@@ -10,10 +10,10 @@ pub returns-in-Wrong-clause-writes : goal.returns-in-Wrong-clause-writes
 returns-in-Wrong-clause-writes g c =
     let was = c.args.self.now in
     finds was.line was.has_found was.rows.now c.saturating_add-self.result c.args.line.now c.saturating_add-self.ensures c.in-Wrong.error c.in-Wrong.ensures
-    (g.W.Sink.history c.args.out.now) (g.W.Sink.history c.put_finding-told.new.out) c.once.result c.without_return.result.now c.without_return.ensures (writes-once c.once.ensures c.put_finding-told.ensures)
+    (g.W.Sink.history c.args.out.now) (g.W.Sink.history c.put_finding-told.new.out) c.once.result c.without_return.result.now c.without_return.ensures (writes-once Refused c.once.ensures c.put_finding-told.ensures)
 
 pub returns-in-Wrong-clause-tells : goal.returns-in-Wrong-clause-tells
-returns-in-Wrong-clause-tells g c = λ at s. subst (Tells c.once.result) (told_missed c.in-Wrong.error c.args.line.now c.in-Wrong.ensures) (tells-once c.once.ensures)
+returns-in-Wrong-clause-tells g c = λ at s. subst (Tells c.once.result) (told_missed c.in-Wrong.error c.args.line.now c.in-Wrong.ensures) (tells-once Refused c.put_finding-told.result c.once.ensures)
 
 pub returns-in-Asked : goal.returns-in-Asked
 returns-in-Asked g c =

@@ -5,7 +5,7 @@ use Rattle.segment_cli.specs.declared.faults.SessionFault.{SessionFault}
 use Rattle.segment_disk.specs.Events.{nothing_given}
 use Rattle.segment_commands.specs.Migrating.{BeginsAny}
 use Rattle.segment_commands.proofs.Migrated.{any-behind, no-room-behind}
-use Rattle.segment_commands.proofs.migrating.refused_behind.Goals as goal
+use Rattle.segment_commands.proofs.migrating.begin_any_behind.Goals as goal
 
 pub returns-in-Ok : goal.returns-in-Ok
 returns-in-Ok g c =

@@ -4,17 +4,17 @@ use anyhow::Result;
 use std::alloc::Global;
 use zaluxhoni::{Disk, Name, Segment, SegmentFile, VectorView, named};
 
-/// What is kept of an article, as the bytes of a struct of C.
+/// What is kept of an article, as the bytes of a struct of C. Its weight is the bits of a double.
 #[derive(Clone, Copy)]
 struct Article {
     number: i32,
     count: i32,
-    weight: f64,
+    weight: u64,
 }
 
 impl Article {
-    /// So many of an article, of so many kilograms each.
-    fn new(number: i32, count: i32, weight: f64) -> Article {
+    /// So many of an article, of a weight each.
+    fn new(number: i32, count: i32, weight: u64) -> Article {
         Article {
             number,
             count,
@@ -36,8 +36,16 @@ impl Article {
         Article::new(
             i32::from_le_bytes([a, b, c, d]),
             i32::from_le_bytes([e, f, g, h]),
-            f64::from_le_bytes([i, j, k, l, m, n, o, p]),
+            u64::from_le_bytes([i, j, k, l, m, n, o, p]),
         )
+    }
+
+    /// Its kilograms; none where the bits are those of no number.
+    fn kilograms(self) -> Option<f64> {
+        if self.weight % 0x8000_0000_0000_0000 > 0x7ff0_0000_0000_0000 {
+            return None;
+        }
+        Some(f64::from_bits(self.weight))
     }
 }
 
@@ -76,8 +84,11 @@ fn fill(alloc: Global, shop: &mut Segment) -> Result<()> {
     shop.construct_vec::<u8, _>(&named("articles")?, &[])?;
     shop.construct_map::<i32, i64, _>(&named("prices")?)?;
     shop.construct(&named("earned")?, 1, 0i64)?;
-    let (apples, pears) = (Article::new(1, 10, 0.25), Article::new(2, 4, 0.5));
-    let figs = Article::new(3, 7, 0.125);
+    let (apples, pears) = (
+        Article::new(1, 10, 0.25f64.to_bits()),
+        Article::new(2, 4, 0.5f64.to_bits()),
+    );
+    let figs = Article::new(3, 7, 0.125f64.to_bits());
     add(alloc, shop, apples, "apples", 250, "north")?;
     add(alloc, shop, pears, "pears", 320, "south")?;
     add(alloc, shop, figs, "figs", 1999, "north")
@@ -114,11 +125,8 @@ fn sell(shop: &mut Segment) -> Result<()> {
 
 /// Tells of one article.
 fn tell_of(rt: &HostRuntime, shop: &Segment, article: Article) -> Result<()> {
-    let Article {
-        number,
-        count,
-        weight,
-    } = article;
+    let Article { number, count, .. } = article;
+    let weight = article.kilograms().unwrap_or(0.0);
     let called = format!(in rt.alloc(); "names/{number}")?;
     let name = str::from_utf8(shop.string_bytes(&named(called.as_str())?)?)?;
     let price: Option<i64> = shop.map_get(&named("prices")?, number)?;

@@ -10,4 +10,4 @@ returns-in-Ok-verify g c =
 pub returns : goal.returns
 returns g c =
     let given = given_since (g.S.Source.history c.args.reader.now) (g.S.Source.history c.verify.new.reader) in
-    rw c.from.ensures (not_verified_in c.args.bytes given c.in-Ok.region c.in-Err.refused c.in-Err.ensures.verifies)
+    rw c.from-in-Err-verify.ensures (not_verified_in c.args.bytes given c.in-Ok.region c.in-Err-verify.refused c.in-Err-verify.ensures.verifies)

@@ -1,7 +1,7 @@
 //! What a session does between the beginning of its segment and the saving.
 ghost use Rattle.std.specs.Prelude.{◌≤◌, ◌+◌, ◌-◌, ◌^◌, ◌<◌, length};
 ghost use Rattle.raw_region.specs.Device.{EndsAtMostOnce, Grows, given_since, taken_since};
-ghost use Rattle.segment_cli.specs.Serving.Serves;
+ghost use Rattle.segment_cli.specs.Serving.{Serves};
 ghost use Rattle.segment_scripts.specs.{Lines.script_limit, Segments.IsAt, Segments.Place};
 
 use crate::faults::SessionFault;

@@ -110,8 +110,8 @@ pub(crate) fn load_dump<S: Source>(
 ///
 /// `Exists` where something is there under the path. `BadSize` where no segment has the size. `ReadFault` where the
 /// dump can't be read, and `ScriptTooLong` where it has more than 17179869184 bytes. `BadDump` where it is no dump,
-/// with the place, and `NoSpace` where its objects do not fit the size, with what they need. `OutOfMemory`. No file is made then.
-/// `WriteFault` where the file can't be made, takes not the whole image, or need not last.
+/// with the place, and `NoSpace` where its objects do not fit the size, with what they need. `OutOfMemory`. No file is
+/// made then. `WriteFault` where the file can't be made, takes not the whole image, or need not last.
 pub fn load<D: Disk, S: Source>(
     alloc: Global,
     disk: &mut D,

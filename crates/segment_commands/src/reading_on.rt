@@ -46,8 +46,8 @@ fn read_up_to<S: Source>(reader: &mut S, text: &mut Vec<u8>, said: u64) -> Resul
 ///
 /// # Errors
 ///
-/// `Truncated` where it has fewer, and `BadSize` where it has more, with the place. `ReadFault` where the reader failed,
-/// and `OutOfMemory`.
+/// `Truncated` where it has fewer, and `BadSize` where it has more, with the place. `ReadFault` where the reader
+/// failed, and `OutOfMemory`.
 fn read_whole<S: Source>(
     alloc: Global,
     front: &[u8; FRONT],

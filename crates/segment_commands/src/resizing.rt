@@ -128,7 +128,8 @@ fn resize_file<D: Disk, O: Output>(
 /// # Errors
 ///
 /// Those of opening it; `Growth` where it does not grow; `WriteFault` where the size does not go out, or the file can't
-/// be emptied or replaced, takes not the whole image, or need not last. `InUse` where another has the right to write the file.
+/// be emptied or replaced, takes not the whole image, or need not last. `InUse` where another has the right to
+/// write it.
 pub fn grow<D: Disk, O: Output>(
     alloc: Global,
     disk: &mut D,

@@ -58,11 +58,11 @@ module _ {s : State} {objects : Directory → List Object} {text : Object → Li
       (λ d st. parts-all text (objects d))
 
 -- no object has a later place
-pub places-all : {B F : Type 0} {s : State} (objects : Directory → List Object) (text : Object → List ℕ) (i : ℕ)
+pub places-all : {B F : Type 0} (s : State) (objects : Directory → List Object) (text : Object → List ℕ) (i : ℕ)
     {old new : Took} {y : B} → WritesOf s old new well (λ d. parts_until (object_at_place text objects d) i)
     → ((d : Directory) → StandsFor s.cut.bytes d → length (objects d) ≤ i)
     → WritesOf {E = F} s old new (Ok y) (λ d. flat_map text (objects d))
-places-all objects text i w all = of-same (of-all (object_at_place text objects) i i w refl)
+places-all s objects text i w all = of-same (of-all (object_at_place text objects) i i w refl)
     (λ d st. parts-taken text (objects d) i ∙ ap (flat_map text) (take_all i (objects d) (all d st)))
 
 -- ---- the line of an object

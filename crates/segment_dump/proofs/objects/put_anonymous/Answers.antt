@@ -67,5 +67,5 @@ returns g c =
     let walk = c.objects.said-iterator in
     let none : (d : Directory) → StandsFor s.cut.bytes d → length d.objects ≤ walk.at =
     subst (λ (t : State). (d : Directory) → StandsFor t.cut.bytes d → length d.objects ≤ walk.at) c.objects.invariant.segment c.in-None.ensures.steps.says in
-    of-same (places-all (λ (d : Directory). d.objects) (where_anonymous (g.T.Telling.text c.args.telling.now)) walk.at
+    of-same (places-all s (λ (d : Directory). d.objects) (where_anonymous (g.T.Telling.text c.args.telling.now)) walk.at
     c.objects.invariant.told none) (λ d st. anonymous-filtered (g.T.Telling.text c.args.telling.now) d.objects)

@@ -1009,10 +1009,10 @@ static void is_shown(int line, const uint8_t *image, size_t len, zx_code code, u
 #define SHOWN(code, place) is_shown(__LINE__, image, sizeof image, code, place)
 #define SHOWN_BY(word, at, code, place) \
     do { \
-        const uint64_t before = word_of(image, at), other = (word); \
-        memcpy(image + (at), &other, sizeof other); \
+        const uint64_t old_word = word_of(image, at), new_word = (word); \
+        memcpy(image + (at), &new_word, sizeof new_word); \
         SHOWN(code, place); \
-        memcpy(image + (at), &before, sizeof before); \
+        memcpy(image + (at), &old_word, sizeof old_word); \
     } while (0)
 
 /* The byte that shows each class, in the image of two vectors. */

@@ -170,6 +170,7 @@ module _ {D : Type 0} (step : D → Event → D → Type 0) (how : Making) (path
       asked = asks_nothing step old mode how path (λ e. keeps (last_mode true answered ∙ e));
       ran = done_session start mode 0 capacity (record { image = image; script = script; out = out; saved = all_of [] }) s s' tt h (whole_run true answered)
           (λ d stands. saves_nothing s'.mode d keeps) (λ e. absurd (keeps e)) refl;
+      unrefused = unrefused true answered;
       flushed = answered.flushed;
     }
 

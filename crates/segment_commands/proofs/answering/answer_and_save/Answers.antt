@@ -1,8 +1,10 @@
-use Rattle.std.proofs.Common.{◌≡◌, rules, sym, ◌∙◌}
+use Rattle.std.proofs.Common.{◌≡◌, true, rules, subst, sym, ◌∙◌}
 use Rattle.std.proofs.lemmas.Result.{err_from_is_err_and}
 use Rattle.raw_region.specs.Device.{given_since, taken_since}
 use Rattle.segment_manager.specs.declared.modes.Mode.TheVariants.{Write}
 use Rattle.segment_disk.specs.Events.{IsFlushed}
+use Rattle.segment_scripts.specs.declared.ends.End.{End}
+use Rattle.segment_commands.specs.Running.{IsAnswered}
 use Rattle.segment_commands.proofs.Ran.{refusing_run, stopped, unsaving, saved, unsaved}
 use Rattle.segment_commands.proofs.answering.answer_and_save.Goals as goal
 
@@ -24,7 +26,10 @@ returns-then-ne g c start mode capacity image h =
     (given_since (Script.history c.args.script.now) (Script.history c.run_script.new.script))
     (taken_since (Answers.history c.args.out.now) (Answers.history c.run_script.new.out))
     (IsFlushed Answers.history g.O.Output.flushes c.run_script.new.out)
-    c.args.segment.now c.run_script.new.segment h c.args.disk.now c.in-Whole.ensures (λ e. keeps (c.mode.ensures ∙ e))
+    c.args.segment.now c.run_script.new.segment h c.args.disk.now (subst (λ (e : End). IsAnswered c.args.until c.args.segment.now c.run_script.new.segment
+    (given_since (Script.history c.args.script.now) (Script.history c.run_script.new.script))
+    (taken_since (Answers.history c.args.out.now) (Answers.history c.run_script.new.out))
+    (IsFlushed Answers.history g.O.Output.flushes c.run_script.new.out) e true) c.in-Whole.is c.in_ok-run_script.ensures) (λ e. keeps (c.mode.ensures ∙ e))
 
 pub returns-in-Ok : goal.returns-in-Ok
 returns-in-Ok g c start mode capacity image h =
@@ -34,7 +39,10 @@ returns-in-Ok g c start mode capacity image h =
     (given_since (Script.history c.args.script.now) (Script.history c.run_script.new.script))
     (taken_since (Answers.history c.args.out.now) (Answers.history c.run_script.new.out))
     (IsFlushed Answers.history g.O.Output.flushes c.run_script.new.out)
-    c.args.segment.now c.run_script.new.segment h c.args.disk.now c.in-Whole.ensures c.write_image.new.disk (sym c.mode.ensures ∙ is) c.in-Ok.ensures
+    c.args.segment.now c.run_script.new.segment h c.args.disk.now (subst (λ (e : End). IsAnswered c.args.until c.args.segment.now c.run_script.new.segment
+    (given_since (Script.history c.args.script.now) (Script.history c.run_script.new.script))
+    (taken_since (Answers.history c.args.out.now) (Answers.history c.run_script.new.out))
+    (IsFlushed Answers.history g.O.Output.flushes c.run_script.new.out) e true) c.in-Whole.is c.in_ok-run_script.ensures) c.write_image.new.disk (sym c.mode.ensures ∙ is) c.in-Ok.ensures
 
 pub returns-in-Err : goal.returns-in-Err
 returns-in-Err g c start mode capacity image h =
@@ -44,7 +52,10 @@ returns-in-Err g c start mode capacity image h =
     (given_since (Script.history c.args.script.now) (Script.history c.run_script.new.script))
     (taken_since (Answers.history c.args.out.now) (Answers.history c.run_script.new.out))
     (IsFlushed Answers.history g.O.Output.flushes c.run_script.new.out)
-    c.args.segment.now c.run_script.new.segment h c.args.disk.now c.in-Whole.ensures c.write_image.new.disk (sym c.mode.ensures ∙ is) c.in-Err.field-0 c.in-Err.ensures
+    c.args.segment.now c.run_script.new.segment h c.args.disk.now (subst (λ (e : End). IsAnswered c.args.until c.args.segment.now c.run_script.new.segment
+    (given_since (Script.history c.args.script.now) (Script.history c.run_script.new.script))
+    (taken_since (Answers.history c.args.out.now) (Answers.history c.run_script.new.out))
+    (IsFlushed Answers.history g.O.Output.flushes c.run_script.new.out) e true) c.in-Whole.is c.in_ok-run_script.ensures) c.write_image.new.disk (sym c.mode.ensures ∙ is) c.in-Err.field-0 c.in-Err.ensures
 
 pub returns-in-Refused : goal.returns-in-Refused
 returns-in-Refused g c start mode capacity image h =
@@ -53,4 +64,7 @@ returns-in-Refused g c start mode capacity image h =
     (given_since (Script.history c.args.script.now) (Script.history c.run_script.new.script))
     (taken_since (Answers.history c.args.out.now) (Answers.history c.run_script.new.out))
     (IsFlushed Answers.history g.O.Output.flushes c.run_script.new.out)
-    c.args.segment.now c.run_script.new.segment h c.args.disk.now c.in-Refused.ensures
+    c.args.segment.now c.run_script.new.segment h c.args.disk.now (subst (λ (e : End). IsAnswered c.args.until c.args.segment.now c.run_script.new.segment
+    (given_since (Script.history c.args.script.now) (Script.history c.run_script.new.script))
+    (taken_since (Answers.history c.args.out.now) (Answers.history c.run_script.new.out))
+    (IsFlushed Answers.history g.O.Output.flushes c.run_script.new.out) e true) c.in-Refused.is c.in_ok-run_script.ensures)

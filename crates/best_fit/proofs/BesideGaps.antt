@@ -2,11 +2,11 @@
 use Rattle.best_fit.proofs.Common.{◌≡◌, refl, sym, ap, subst, ◌∙◌, ℕ, zero, suc, ◌+◌, ◌-◌, ◌*◌, ◌<◌, ◌≤◌, ◌⊎◌, inl}
 use Rattle.best_fit.proofs.Common.{inr, List, [], ◌∷◌, length, arith, nat_lt, Some, map, AllByRecursion, cases_lt}
 use Rattle.best_fit.proofs.Common.{lt-ltb, or_left, Memory, Cut, Same, bytes_of, word_at, current, Role, Tile}
-use Rattle.best_fit.proofs.Common.{AreTags, is_free, tag_word, SaysTiles, gaps, gap_of, gaps_of, lies_in_block, plain}
-use Rattle.best_fit.proofs.Common.{tiles_in, Regrown, live_of, AreBytes}
+use Rattle.best_fit.proofs.Common.{AreTags, is_free, tag_word, SaysTiles, gaps, gap_of, gaps_of, lies_behind, plain}
+use Rattle.best_fit.proofs.Common.{true, tiles_in, Regrown, live_of, AreBytes, Gap, Option}
 use Rattle.best_fit.specs.Rebuilding.{IsBesideGap}
 use Rattle.best_fit.proofs.Laid.{SaysHeap, gaps-live_in, legal_size, said_row, says-live}
-use Rattle.best_fit.proofs.Regrowths.{empty_not, head_same, plain_used, regrown_block, tail_same}
+use Rattle.best_fit.proofs.Regrowths.{empty_not, head_same, plain_used, regrown_block, regrown_gap, tail_same}
 use Rattle.best_fit.proofs.Rows.{unused, used, use_cases, used-not_free, gaps_of-free, gaps_of-used}
 use Rattle.best_fit.proofs.Steps.{In}
 
@@ -104,10 +104,31 @@ module _ (old new : Cut) (says : SaysHeap old (tiles_in old)) (said : SaysTiles 
       tags = subst (λ n. AreTags current (bytes_of new.bytes) 128 0 (tiles_in new) (n - 16)) r.size said.tags
 
       by_place : (k < 128) ⊎ (128 ≤ k) → bytes_of new.bytes k ≡ bytes_of old.bytes k
-      by_place (inl l) = r.bytes k (or_left (nat_lt k 128) (lies_in_block (tiles_in old) k) (lt-ltb k 128 l)) away
+      by_place (inl l) = r.bytes k (or_left (nat_lt k 128) (lies_behind (tiles_in old) k) (lt-ltb k 128 l)) away
       by_place (inr l) =
           let least = (legal_size (length old.bytes) says.said.size).low in
           same_from (bytes_of old.bytes) (bytes_of new.bytes) small small' 128 0 (tiles_in old) (tiles_in new)
           (length old.bytes - 16) says.said.tags tags r.tiles
           (λ t role i e. (regrown_block old new says.said said r t i role e).payload) k l (omega arith)
           (subst (AllByRecursion (IsBesideGap k)) gaps_old beside)
+
+  -- the gaps of tiles, each of which has this
+  each_gap : (P : Gap → Type 0) (ts : List Tile) → ((t : Tile) → In t ts → is_free t ≡ true → P (gap_of t))
+      → AllByRecursion P (gaps_of ts)
+  each_gap P [] h = tt
+  each_gap P (t ∷ ts) h = elim (use_cases t) [
+    | unused e ↦ subst (AllByRecursion P) (sym (gaps_of-free t ts e)) (
+        h t (inl refl) (ap (λ (u : Option Role). is_free (record t { use_of = u })) e),
+        each_gap P ts (λ v i f. h v (inr i) f),
+      )
+    | used role e ↦ subst (AllByRecursion P) (sym (gaps_of-used t ts role e)) (each_gap P ts (λ v i f. h v (inr i) f))
+  ]
+
+  -- the free bytes of gaps stay
+  pub free_bytes : AllByRecursion (λ (g : Gap). Same (bytes_of old.bytes) (bytes_of new.bytes) (g.offset + 32)
+      (g.offset + g.len)) (gaps (live_of old.bytes))
+  free_bytes =
+      let P : Gap → Type 0 = λ (g : Gap). Same (bytes_of old.bytes) (bytes_of new.bytes) (g.offset + 32)
+      (g.offset + g.len) in
+      subst (AllByRecursion P) (sym gaps_old)
+      (each_gap P (tiles_in old) (λ t i f. regrown_gap old new says.said said r t i f))

@@ -51,7 +51,7 @@ pub use Rattle.best_fit.specs.FreeTree.{span}
 pub use Rattle.best_fit.specs.GapLaws.{GapNode, GapNode-is_gap_node, Good, Good-is_good, cells_at}
 pub use Rattle.best_fit.specs.GapLaws.{is_gap_node-GapNode, is_good-Good, links_at}
 pub use Rattle.best_fit.specs.GapNodes.{Kept, as_gap, comes_before, from_first, gap_cells, gap_of, gaps_in, gaps_of, is_kept}
-pub use Rattle.best_fit.specs.GapNodes.{len_in, lies_in_block, links_among, plain, stands_before, tiles_in}
+pub use Rattle.best_fit.specs.GapNodes.{len_in, lies_behind, own_from, links_among, plain, stands_before, tiles_in}
 unfoldable pub use Rattle.best_fit.specs.GapNodes.{is_gap_node, kept_of}
 pub use Rattle.best_fit.specs.GapTrees.{AreSome, Fits, HasTree, LacksOne, MayBegin, OutOfTree, Regrown, Rises, gap_offset}
 pub use Rattle.best_fit.specs.GapTrees.{is_long, node_of, of_option, offset_of, start_of}

@@ -1,5 +1,5 @@
 -- A block that comes in the place of another.
-use Rattle.best_fit.proofs.Common.{◌≡◌, refl, sym, ap, subst, ◌∙◌, inl, ℕ, ◌+◌, ◌-◌, ◌%◌, ◌<◌, ◌≤◌, Bool, true, false}
+use Rattle.best_fit.proofs.Common.{◌≡◌, ◌≢◌, refl, sym, ap, subst, ◌∙◌, inl, ℕ, ◌+◌, ◌-◌, ◌%◌, ◌<◌, ◌≤◌, Bool, true, false}
 use Rattle.best_fit.proofs.Common.{Option, Some, None, List, [], ◌∷◌, arith, if◌then◌else◌, IsTrue, IfSome}
 use Rattle.best_fit.proofs.Common.{option_map, min, Result, and_from, le-leb, leb-true, lt-leb, AllByRecursion}
 use Rattle.best_fit.proofs.Common.{both_ways, same_Some, none-some, Same-trans, SameBut-word, Memory, Cut, SameBut}
@@ -20,7 +20,9 @@ use Rattle.best_fit.proofs.Order.{AllByRecursion-insert_from}
 use Rattle.best_fit.proofs.Placing.{longer-IsLonger, place-holds}
 use Rattle.best_fit.proofs.Serving.{place-serves}
 use Rattle.best_fit.proofs.Spacing.{IsAlone, in_use, in_use-alone, in_use-all, exchange-back, exchange-moved}
-use Rattle.best_fit.proofs.Spacing.{live-spaced, spaced-insert, all_of-insert, keeps-of, written-keeps}
+use Rattle.best_fit.proofs.Spacing.{live-rises, live-spaced, rising-insert, spaced-insert, all_of-insert, keeps-of}
+use Rattle.best_fit.proofs.Spacing.{written-keeps}
+use Rattle.best_fit.proofs.Restoring.{placed_is_proper}
 
 -- the extent of a block with room
 pub record IsRoomy (l : LiveSet) (h n : ℕ) : Type 0 where
@@ -130,7 +132,7 @@ given-same c h n used heap t r e f =
         keeps = keeps-refl c (others (handle x) l.extents);
       };
       carried = refl;
-      enough = λ z f h. refl;
+      same = λ f. refl;
     } in
     subst (λ o. IsGivenRoom current c c o n used h) (sym q.found) given
 
@@ -149,10 +151,14 @@ is_short c h n used heap t r e f =
     let has : used + 16 ≤ x.len = q.room in
     record { roomy = q; short = lt-leb (n + 16) x.len (omega (arith, long, f, has)) }
 
--- no block in its place has the room
-not_enough : (x z : Extent) (n : ℕ) → holds x n ≡ false → Some x ≡ Some z → IsTrue (holds z n) → ⊥
-not_enough x z n short e h =
-    both_ways (holds x n) short (ap (λ (y : Extent). holds y n) (same_Some x z e) ∙ h)
+-- a new block is none of those in use
+placed-other : (l : LiveSet) (h n : ℕ) (x y : Extent) → IsTrue (is_proper l) → extent_at l h ≡ Some x
+    → place l n Storage ≡ Some y → Some x ≡ Some y → ⊥
+placed-other l h n x y proper found e same =
+    let up = live-rises (added l y) (placed_is_proper l n Storage y proper e) in
+    let differs = (rising-insert 128 y l.extents up).differs in
+    (in_use-all (λ (z : Extent). y.offset ≢ z.offset) l h x proper found differs).0
+    (ap (λ (z : Extent). z.offset) (sym (same_Some x y same)))
 
 pub regrow-short : (l : LiveSet) (x : Extent) (n : ℕ) (o : Option Extent) → holds x n ≡ false → longer l x n ≡ o
     → regrow l (Some x) n ≡ elim o as (λ _. Option Extent) [ Some y ↦ Some y | None ↦ place l n Storage ]
@@ -226,7 +232,7 @@ given-longer old new h n used result heap t r e f ext is =
       carried = ap (λ k. read (bytes_of new.bytes) (k + 16) used) begins
           ∙ Same-read (bytes_of old.bytes) (bytes_of new.bytes) (handle x) (x.offset + min x.len y.len) (handle x) used
           a.resized.still.payload (omega arith) (omega arith);
-      enough = λ z f h. absurd (not_enough x z n q.short f h);
+      same = λ f. let is = ap (λ (z : Extent). z.len) (same_Some x y f) in absurd (omega arith);
     })
 
 -- a block that was not lengthened is as it was
@@ -237,20 +243,20 @@ pub not_longer-same : (old new : Cut) (h n used : ℕ) (result : Bool) → IsHea
 not_longer-same old new h n used result heap t r e f x was =
     let q = roomy old h used heap t in (not_lengthened old new h n result q.extent q.found x was).1
 
-given-replaced : {E : Type 0} → (old new : Cut) (h n used : ℕ) (x : Extent) (r : Result ℕ E)
+given-replaced : {E : Type 0} → (old new : Cut) (h n used : ℕ) (x : Extent) (r : Result ℕ E) → IsHeap current old.bytes
     → extent_at (live_of old.bytes) h ≡ Some x → handle x ≡ h → holds x n ≡ false
     → longer (live_of old.bytes) x n ≡ None
     → Replaces current old new h n used r → MatchResult r (IsGivenRoom current old new (Some x) n used)
     (λ e. IsNotGivenRoom old new (Some x) n)
-given-replaced old new h n used x (Ok g) found at e f p = record {
+given-replaced old new h n used x (Ok g) heap found at e f p = record {
   extent = p.extent;
   regrown = regrow-short (live_of old.bytes) x n None e f ∙ p.placed;
   at = p.at;
   change = p.change x found;
   carried = p.carried ∙ ap (λ k. read (bytes_of old.bytes) k used) (sym at);
-  enough = λ z g h. absurd (not_enough x z n e g h);
+  same = λ g. absurd (placed-other (live_of old.bytes) h n x p.extent heap.proper found p.placed g);
 }
-given-replaced old new h n used x (Err e') found at e f p =
+given-replaced old new h n used x (Err e') heap found at e f p =
     record { none = regrow-short (live_of old.bytes) x n None e f ∙ p.none; same = p.same }
 
 -- a block that was replaced
@@ -266,7 +272,7 @@ regrows-replaced old mid new h n used result res heap t r e f x was p =
     subst (λ (c : Cut). Replaces current c new h n used res) both.1 p in
     subst (λ o. MatchResult res (IsGivenRoom current old new o n used) (λ e. IsNotGivenRoom old new o n))
     (sym q.roomy.found)
-    (given-replaced old new h n used q.roomy.extent res q.roomy.found q.roomy.at q.short both.0 p')
+    (given-replaced old new h n used q.roomy.extent res heap q.roomy.found q.roomy.at q.short both.0 p')
 
 -- a new block where there was none
 pub regrows-none : {E : Type 0} → (old new : Cut) (n used : ℕ) (r : Result ℕ E)
@@ -278,7 +284,7 @@ regrows-none old new n used (Ok h) a = record {
   at = a.at;
   change = record { live = a.live; keeps = a.keeps };
   carried = tt;
-  enough = λ x e h. absurd (none-some x e);
+  same = λ e. absurd (none-some a.extent e);
 }
 regrows-none old new n used (Err e) a = record { none = a.none; same = a.same }
 

@@ -1,15 +1,14 @@
 -- One field of a gap changes: the nodes, their order, the other cells and all else stay.
 use Rattle.best_fit.proofs.Common.{◌≡◌, refl, sym, ap, subst, ◌∙◌, ℕ, ◌+◌, ◌-◌, ◌<◌, ◌≤◌, ◌⊎◌, inl, inr, Bool, true}
 use Rattle.best_fit.proofs.Common.{false, ◌&&◌, ◌||◌, not, List, [], ◌∷◌, length, arith, nat_lt, nat_le, ◌==◌, IsTrue}
-use Rattle.best_fit.proofs.Common.{Option, None, map, if◌then◌else◌, list_all, cons_option, false≢true, both_ways}
+use Rattle.best_fit.proofs.Common.{Option, None, map, if◌then◌else◌, list_all, cons_option, false≢true}
 use Rattle.best_fit.proofs.Common.{cases_Bool, cases_eq, and_parts, or_cases, eq-eqb, ne_eqb, leb-true, ltb-true}
 use Rattle.best_fit.proofs.Common.{cond-true, cond-false, Cut, SamePlace, bytes_of, Tile, is_legal_size, IsBesideTags}
 use Rattle.best_fit.proofs.Common.{is_free, is_merged, SaysTiles, good_tags_say_tiles, tiles_are_read_off, Cell}
 use Rattle.best_fit.proofs.Common.{is_in, leads, all_from, Gap, cells_of, payloads, as_gap, comes_before, gap_cells}
-use Rattle.best_fit.proofs.Common.{gaps_of, gaps_in, is_gap_node, is_kept, kept_of, lies_in_block, stands_before}
+use Rattle.best_fit.proofs.Common.{gaps_of, gaps_in, is_gap_node, is_kept, kept_of, lies_behind, own_from, stands_before}
 use Rattle.best_fit.proofs.Common.{links_among, plain, tiles_in, Good, GapNode, GapNode-is_gap_node, Good-is_good}
 use Rattle.best_fit.proofs.Common.{is_gap_node-GapNode, links_at, cells_at}
-use Rattle.std.proofs.lemmas.Bool.{not-true}
 use Rattle.best_fit.specs.GapNodes.{is_good}
 use Rattle.best_fit.specs.GapLaws.{cells_off}
 use Rattle.best_fit.proofs.GapFacts.{Disjoint, NodeAt, node_at, row_disjoint}
@@ -28,11 +27,10 @@ merged-plain [] = refl
 merged-plain (t ∷ []) = refl
 merged-plain (t ∷ u ∷ ts) = ap (λ (b : Bool). not (is_free t && is_free u) && b) (merged-plain (u ∷ ts))
 
-block-plain : (ts : List Tile) (k : ℕ) → lies_in_block (map plain ts) k ≡ lies_in_block ts k
-block-plain [] k = refl
-block-plain (t ∷ ts) k =
-    ap (λ (b : Bool). (not (is_free t) && nat_le (t.offset + 16) k && nat_lt k (t.offset + t.len)) || b)
-    (block-plain ts k)
+behind-plain : (ts : List Tile) (k : ℕ) → lies_behind (map plain ts) k ≡ lies_behind ts k
+behind-plain [] k = refl
+behind-plain (t ∷ ts) k =
+    ap (λ (b : Bool). (nat_le (own_from t) k && nat_lt k (t.offset + t.len)) || b) (behind-plain ts k)
 
 pub same_gaps : (ts us : List Tile) → map plain us ≡ map plain ts → gaps_of us ≡ gaps_of ts
 same_gaps ts us e = sym (gaps_of-plain us) ∙ ap gaps_of e ∙ gaps_of-plain ts
@@ -40,66 +38,64 @@ same_gaps ts us e = sym (gaps_of-plain us) ∙ ap gaps_of e ∙ gaps_of-plain ts
 pub same_merged : (ts us : List Tile) → map plain us ≡ map plain ts → is_merged us ≡ is_merged ts
 same_merged ts us e = sym (merged-plain us) ∙ ap is_merged e ∙ merged-plain ts
 
-same_block : (ts us : List Tile) (k : ℕ) → map plain us ≡ map plain ts → lies_in_block us k ≡ lies_in_block ts k
-same_block ts us k e = sym (block-plain us k) ∙ ap (λ (vs : List Tile). lies_in_block vs k) e ∙ block-plain ts k
+same_behind : (ts us : List Tile) (k : ℕ) → map plain us ≡ map plain ts → lies_behind us k ≡ lies_behind ts k
+same_behind ts us k e = sym (behind-plain us k) ∙ ap (λ (vs : List Tile). lies_behind vs k) e ∙ behind-plain ts k
 
 pub kept_same : (ts us : List Tile) (k : ℕ) → map plain us ≡ map plain ts → is_kept us k ≡ is_kept ts k
-kept_same ts us k e = ap (λ (b : Bool). nat_lt k 128 || b) (same_block ts us k e)
+kept_same ts us k e = ap (λ (b : Bool). nat_lt k 128 || b) (same_behind ts us k e)
 
 -- ---- bytes that are kept
 
--- a byte in the payload of a block in use
-record InBlock (ts : List Tile) (k : ℕ) : Type 0 where
+-- a byte in the payload of a block in use, or a free one of a gap
+record InTile (ts : List Tile) (k : ℕ) : Type 0 where
   tile : Tile
   listed : In tile ts
-  in_use : is_free tile ≡ false
-  low : tile.offset + 16 ≤ k
+  low : own_from tile ≤ k
   high : k < tile.offset + tile.len
 
-block_step : (t : Tile) (ts : List Tile) (k : ℕ) → (lies_in_block ts k ≡ true → InBlock ts k)
-    → ((not (is_free t) && nat_le (t.offset + 16) k && nat_lt k (t.offset + t.len)) ≡ true)
-    ⊎ (lies_in_block ts k ≡ true) → InBlock (t ∷ ts) k
-block_step t ts k rest (inl e) =
-    let two = and_parts (not (is_free t) && nat_le (t.offset + 16) k) (nat_lt k (t.offset + t.len)) e in
-    let one = and_parts (not (is_free t)) (nat_le (t.offset + 16) k) two.0 in
+tile_step : (t : Tile) (ts : List Tile) (k : ℕ) → (lies_behind ts k ≡ true → InTile ts k)
+    → ((nat_le (own_from t) k && nat_lt k (t.offset + t.len)) ≡ true) ⊎ (lies_behind ts k ≡ true) → InTile (t ∷ ts) k
+tile_step t ts k rest (inl e) =
+    let two = and_parts (nat_le (own_from t) k) (nat_lt k (t.offset + t.len)) e in
     record {
       tile = t;
       listed = inl refl;
-      in_use = not-true (is_free t) one.0;
-      low = leb-true (t.offset + 16) k one.1;
+      low = leb-true (own_from t) k two.0;
       high = ltb-true k (t.offset + t.len) two.1;
     }
-block_step t ts k rest (inr e) = let i = rest e in record {
-  tile = i.tile;
-  listed = inr i.listed;
-  in_use = i.in_use;
-  low = i.low;
-  high = i.high;
-}
+tile_step t ts k rest (inr e) =
+    let i = rest e in record { tile = i.tile; listed = inr i.listed; low = i.low; high = i.high }
 
-in_block : (ts : List Tile) (k : ℕ) → lies_in_block ts k ≡ true → InBlock ts k
-in_block [] k h = absurd (false≢true h)
-in_block (t ∷ ts) k h = block_step t ts k (in_block ts k)
-    (or_cases (not (is_free t) && nat_le (t.offset + 16) k && nat_lt k (t.offset + t.len)) (lies_in_block ts k) h)
+in_tile : (ts : List Tile) (k : ℕ) → lies_behind ts k ≡ true → InTile ts k
+in_tile [] k h = absurd (false≢true h)
+in_tile (t ∷ ts) k h = tile_step t ts k (in_tile ts k)
+    (or_cases (nat_le (own_from t) k && nat_lt k (t.offset + t.len)) (lies_behind ts k) h)
 
--- it lies beside all tags, and not in a gap
+-- it stands behind the tag
+behind_tag : (b : Bool) (o k : ℕ) → o + (if b then 32 else 16) ≤ k → o + 16 ≤ k
+behind_tag true o k l = omega arith
+behind_tag false o k l = l
+
+-- it lies beside all tags, and beside the links of a gap
 record IsClear (c : Cut) (n k : ℕ) : Type 0 where
   beside : IsBesideTags (tiles_in c) k
   below : k < length c.bytes - 16
   away : (k < n) ⊎ (n + 16 ≤ k)
 
 kept_clear : (c : Cut) (n k : ℕ) → NodeAt c n → 144 ≤ length c.bytes → is_kept (tiles_in c) k ≡ true → IsClear c n k
-kept_clear c n k d least h = by_place (or_cases (nat_lt k 128) (lies_in_block (tiles_in c) k) h)
+kept_clear c n k d least h = by_place (or_cases (nat_lt k 128) (lies_behind (tiles_in c) k) h)
   where
-    off : (t : Tile) → is_free t ≡ false → d.free_tile.tile.use_of ≡ None → t.offset + 16 ≤ k → k < t.offset + t.len
+    off : (t : Tile) → d.free_tile.tile.use_of ≡ None → own_from t ≤ k → t.offset + 16 ≤ k → k < t.offset + t.len
         → Disjoint d.free_tile.tile t → (k < n) ⊎ (n + 16 ≤ k)
-    off t used free low high (inl e) =
-        absurd (both_ways (is_free t) used (ap is_free (sym e)
-        ∙ ap (λ (u : Option _). is_free (record d.free_tile.tile { use_of = u })) free))
-    off t used free low high (inr (inl l)) = let at = d.free_tile.at in let long = d.long in inr (omega arith)
-    off t used free low high (inr (inr l)) = let at = d.free_tile.at in inl (omega arith)
+    off t free own low high (inl e) =
+        let f : is_free t ≡ true = ap is_free (sym e)
+        ∙ ap (λ (u : Option _). is_free (record d.free_tile.tile { use_of = u })) free in
+        let links : t.offset + 32 ≤ k = subst (λ (b : Bool). t.offset + (if b then 32 else 16) ≤ k) f own in
+        let same = ap (λ (v : Tile). v.offset) e in let at = d.free_tile.at in inr (omega arith)
+    off t free own low high (inr (inl l)) = let at = d.free_tile.at in let long = d.long in inr (omega arith)
+    off t free own low high (inr (inr l)) = let at = d.free_tile.at in inl (omega arith)
 
-    by_place : (nat_lt k 128 ≡ true) ⊎ (lies_in_block (tiles_in c) k ≡ true) → IsClear c n k
+    by_place : (nat_lt k 128 ≡ true) ⊎ (lies_behind (tiles_in c) k ≡ true) → IsClear c n k
     by_place (inl e) =
         let l = ltb-true k 128 e in let low = d.low in
         record {
@@ -108,12 +104,13 @@ kept_clear c n k d least h = by_place (or_cases (nat_lt k 128) (lies_in_block (t
           away = inl (omega arith);
         }
     by_place (inr e) =
-        let b = in_block (tiles_in c) k e in
-        let i = inside 128 b.tile (tiles_in c) (length c.bytes - 16) k d.row b.listed b.low b.high in
+        let b = in_tile (tiles_in c) k e in
+        let low = behind_tag (is_free b.tile) b.tile.offset k b.low in
+        let i = inside 128 b.tile (tiles_in c) (length c.bytes - 16) k d.row b.listed low b.high in
         record {
           beside = i.beside;
           below = i.high;
-          away = off b.tile b.in_use d.free_tile.free b.low b.high
+          away = off b.tile d.free_tile.free b.low low b.high
               (row_disjoint 128 (tiles_in c) (length c.bytes - 16) d.free_tile.tile b.tile d.row d.is_in_list b.listed);
         }
 
@@ -125,7 +122,7 @@ module _ (c d : Cut) (n : ℕ) (node : NodeAt c n) (place : SamePlace c d) (size
   byte_stays : (k : ℕ) → (if is_kept (tiles_in d) k then bytes_of d.bytes k else 0)
       ≡ (if is_kept (tiles_in c) k then bytes_of c.bytes k else 0)
   byte_stays k = ap (λ (b : Bool). if (nat_lt k 128 || b) then bytes_of d.bytes k else 0)
-      (same_block (tiles_in c) (tiles_in d) k tiles) ∙ by_test (cases_Bool (is_kept (tiles_in c) k))
+      (same_behind (tiles_in c) (tiles_in d) k tiles) ∙ by_test (cases_Bool (is_kept (tiles_in c) k))
     where
       by_test : (is_kept (tiles_in c) k ≡ true) ⊎ (is_kept (tiles_in c) k ≡ false)
           → (if is_kept (tiles_in c) k then bytes_of d.bytes k else 0)

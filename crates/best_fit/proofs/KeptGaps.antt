@@ -114,3 +114,13 @@ gaps-trans a b c e p q = record {
 pub gaps-then : (a b c : Cut) (from n : ℕ) → IsChanged current a b from n → KeepsGaps a b → KeepsGaps b c
     → KeepsGaps a c
 gaps-then a b c from n x p q = gaps-trans a b c (changed-live current a b from n x) p q
+
+free-all : (m : Memory) (gs : List Gap)
+    → AllByRecursion (λ (g : Gap). Same m m (g.offset + 32) (g.offset + g.len)) gs
+free-all m [] = tt
+free-all m (g ∷ gs) = (Same-refl m (g.offset + 32) (g.offset + g.len), free-all m gs)
+
+-- the free bytes of gaps, where nothing changes
+pub free-refl : (c : Cut) → AllByRecursion (λ (g : Gap). Same (bytes_of c.bytes) (bytes_of c.bytes) (g.offset + 32)
+    (g.offset + g.len)) (gaps (live_of c.bytes))
+free-refl c = free-all (bytes_of c.bytes) (gaps (live_of c.bytes))

@@ -62,4 +62,4 @@ pub use Rattle.best_fit.proofs.Carrying.{ends-then}
 -- a change of header words lays out the same live set
 pub use Rattle.best_fit.proofs.Writes.{header_changed}
 -- no byte of a gap changes where bytes of the header or of a payload do, and through several such changes
-pub use Rattle.best_fit.proofs.KeptGaps.{gaps-header, gaps-payload, gaps-refl, gaps-then, gaps-trans}
+pub use Rattle.best_fit.proofs.KeptGaps.{free-refl, gaps-header, gaps-payload, gaps-refl, gaps-then, gaps-trans}

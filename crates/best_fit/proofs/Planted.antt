@@ -8,7 +8,7 @@ use Rattle.best_fit.proofs.Common.{gap_cells, gap_of, gaps_in, gaps_of, is_gap_n
 use Rattle.best_fit.proofs.Common.{GapNode-is_gap_node, is_good-Good, AreSome, Fits, HasTree, Regrown, Rises, node_of}
 use Rattle.best_fit.proofs.Common.{IsHeap, LaysOut, AreBytes}
 use Rattle.best_fit.specs.Rebuilding.{IsNextGap, IsRebuilt}
-use Rattle.best_fit.proofs.BesideGaps.{beside_gaps}
+use Rattle.best_fit.proofs.BesideGaps.{beside_gaps, free_bytes}
 use Rattle.best_fit.proofs.FreeTrees.{all_gaps, in_here}
 use Rattle.best_fit.proofs.GapFacts.{said_of}
 use Rattle.best_fit.proofs.GapSteps.{same_gaps}
@@ -187,4 +187,5 @@ module _ (old mid new : Cut) (says : SaysHeap old (tiles_in old)) (empty : Regro
     live = subst (LaysOut current new.bytes) (regrown_live old new whole_change) rebuilt_heap;
     keeps = regrown_keeps old new says.said says_new.said whole_change;
     rest = beside_gaps old new says says_new.said whole_change small small';
+    free = free_bytes old new says says_new.said whole_change small small';
   }

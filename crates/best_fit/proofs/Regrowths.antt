@@ -1,9 +1,10 @@
 -- What stays where only links and colours of gaps, and word 24, change.
+use Rattle.best_fit.proofs.Common.{if◌then◌else◌, Same}
 use Rattle.best_fit.proofs.Common.{◌≡◌, refl, sym, ap, subst, ◌∙◌, ℕ, ◌+◌, ◌-◌, ◌%◌, ◌<◌, ◌≤◌, ◌⊎◌, inl, inr, Bool}
 use Rattle.best_fit.proofs.Common.{true, false, ◌&&◌, not, List, [], ◌∷◌, ◌++◌, length, arith, nat_lt, nat_le, Some}
 use Rattle.best_fit.proofs.Common.{map, cons_option, and_from, or_left, or_right, le-leb, lt-ltb, Cut, bytes_of}
 use Rattle.best_fit.proofs.Common.{word_at, Role, Tile, current, Same-word, tile_in, is_free, SaysTiles}
-use Rattle.best_fit.proofs.Common.{SameBesideTags, target_of, Gap, cells_of, lies_in_block, plain, tiles_in}
+use Rattle.best_fit.proofs.Common.{SameBesideTags, target_of, Gap, cells_of, lies_behind, own_from, plain, tiles_in}
 use Rattle.best_fit.proofs.Common.{is_good-Good, HasTree, Regrown, Keeps, SameBlock, as_extent, live_of}
 use Rattle.best_fit.proofs.GapFacts.{apart_of, said_of, tile_colour}
 use Rattle.best_fit.proofs.GapSetters.{cell_stays}
@@ -50,19 +51,20 @@ used_stays t ts us e taken h =
     let plainly = subst (λ (v : Tile). In v (map plain ts)) (plain_used t taken) (in_plain t ts h) in
     from_plain t us (subst (λ (vs : List Tile). In t vs) (sym e) plainly) taken
 
-in_any : (t : Tile) (ts : List Tile) (k : ℕ) → In t ts → is_free t ≡ false → t.offset + 16 ≤ k → k < t.offset + t.len
-    → lies_in_block ts k ≡ true
-in_any t [] k h e low high = absurd h
-in_any t (u ∷ us) k (inl p) e low high =
-    let P : Tile → Type 0 =
-    λ (v : Tile). (not (is_free v) && nat_le (v.offset + 16) k && nat_lt k (v.offset + v.len)) ≡ true in
-    or_left (not (is_free u) && nat_le (u.offset + 16) k && nat_lt k (u.offset + u.len)) (lies_in_block us k)
-    (subst P (sym p) (and_from (not (is_free t) && nat_le (t.offset + 16) k) (nat_lt k (t.offset + t.len))
-    (and_from (not (is_free t)) (nat_le (t.offset + 16) k) (ap not e) (le-leb (t.offset + 16) k low))
+in_any : (t : Tile) (ts : List Tile) (k : ℕ) → In t ts → own_from t ≤ k → k < t.offset + t.len
+    → lies_behind ts k ≡ true
+in_any t [] k h low high = absurd h
+in_any t (u ∷ us) k (inl p) low high =
+    let P : Tile → Type 0 = λ (v : Tile). (nat_le (own_from v) k && nat_lt k (v.offset + v.len)) ≡ true in
+    or_left (nat_le (own_from u) k && nat_lt k (u.offset + u.len)) (lies_behind us k)
+    (subst P (sym p) (and_from (nat_le (own_from t) k) (nat_lt k (t.offset + t.len)) (le-leb (own_from t) k low)
     (lt-ltb k (t.offset + t.len) high)))
-in_any t (u ∷ us) k (inr h) e low high =
-    or_right (not (is_free u) && nat_le (u.offset + 16) k && nat_lt k (u.offset + u.len)) (lies_in_block us k)
-    (in_any t us k h e low high)
+in_any t (u ∷ us) k (inr h) low high =
+    or_right (nat_le (own_from u) k && nat_lt k (u.offset + u.len)) (lies_behind us k) (in_any t us k h low high)
+
+-- where the bytes of a tile begin
+own_at : (t : Tile) (b : Bool) (k : ℕ) → is_free t ≡ b → t.offset + (if b then 32 else 16) ≤ k → own_from t ≤ k
+own_at t b k e l = subst (λ (c : Bool). t.offset + (if c then 32 else 16) ≤ k) (sym e) l
 
 module _ (c d : Cut) (said : SaysTiles c (tiles_in c)) (says : SaysTiles d (tiles_in d)) (r : Regrown c d) where
   row : Row 128 (tiles_in c) (length c.bytes - 16)
@@ -86,15 +88,26 @@ module _ (c d : Cut) (said : SaysTiles c (tiles_in c)) (says : SaysTiles d (tile
         payload = record {
           at = λ k low high.
               let j = inside 128 t (tiles_in c) (length c.bytes - 16) k row i low high in let a = j.low in
-              let kept = or_right (nat_lt k 128) (lies_in_block (tiles_in c) k)
-              (in_any t (tiles_in c) k i used low high) in
+              let kept = or_right (nat_lt k 128) (lies_behind (tiles_in c) k)
+              (in_any t (tiles_in c) k i (own_at t false k used low) high) in
               r.bytes k kept (inr (omega arith));
         };
         colour = ap (λ w. w % 16) (tag t role i e);
       }
 
+  -- and the free bytes of a gap
+  pub regrown_gap : (t : Tile) → In t (tiles_in c) → is_free t ≡ true
+      → Same (bytes_of c.bytes) (bytes_of d.bytes) (t.offset + 32) (t.offset + t.len)
+  regrown_gap t i free = record {
+    at = λ k low high.
+        let j = inside 128 t (tiles_in c) (length c.bytes - 16) k row i (omega arith) high in let a = j.low in
+        let kept = or_right (nat_lt k 128) (lies_behind (tiles_in c) k)
+        (in_any t (tiles_in c) k i (own_at t true k free low) high) in
+        r.bytes k kept (inr (omega arith));
+  }
+
   header : (k : ℕ) → k < 128 → (k < 24) ⊎ (32 ≤ k) → bytes_of d.bytes k ≡ bytes_of c.bytes k
-  header k l away = r.bytes k (or_left (nat_lt k 128) (lies_in_block (tiles_in c) k) (lt-ltb k 128 l)) away
+  header k l away = r.bytes k (or_left (nat_lt k 128) (lies_behind (tiles_in c) k) (lt-ltb k 128 l)) away
 
   pub regrown_keeps : Keeps c d (live_of c.bytes).extents
   unfolding live_of

@@ -164,6 +164,7 @@ wide-longer old new h n result r heap f less e is =
       change = subst (λ (z : Extent). IsResized current old new x z) (sym g.same) a.resized;
       undone = undo l h x n heap.proper b g.short g.fits q;
       back = back-live l h x s b;
+      same = λ is. let less = ap (λ (z : Extent). z.len) is in absurd (omega (arith, more));
     }
 
 -- it was not
@@ -206,6 +207,7 @@ wide-held c h n (Some x) r heap e f g =
       undone = shorter_same (resized l x) x (x.len - 16) (let back : room (x.len - 16) ≡ x.len =
           room-back x.len long whole in omega (arith, back));
       back = ap (λ (k : LiveSet). resized k x) same ∙ same;
+      same = λ is. refl;
     }
 
 pub wide-same : (c : Cut) (h n r : ℕ) → IsHeap current c.bytes → option_map (λ (x : Extent). x.len - 16)

@@ -76,15 +76,20 @@ gap_cells c n = if is_good c && is_in n (payloads (gaps_in c)) then cells_of (by
 abbrev pub plain : Tile → Tile
 plain t = record t { red = not (is_free t) && t.red }
 
--- the byte lies in the payload of a block in use
-abbrev pub lies_in_block : List Tile → ℕ → Bool
-lies_in_block ts k = list_any (λ (t : Tile). not (is_free t) && nat_le (t.offset + 16) k && nat_lt k (t.offset + t.len)) ts
+-- where the bytes of a tile begin behind its tag, and behind the links of a free one
+abbrev pub own_from : Tile → ℕ
+own_from t = t.offset + (if is_free t then 32 else 16)
 
--- the byte lies in the header or in the payload of a block in use
+-- the byte is one of these
+abbrev pub lies_behind : List Tile → ℕ → Bool
+lies_behind ts k = list_any (λ (t : Tile). nat_le (own_from t) k && nat_lt k (t.offset + t.len)) ts
+
+-- the byte lies in the header, in the payload of a block in use or among the free bytes of a gap
 abbrev pub is_kept : List Tile → ℕ → Bool
-is_kept ts k = nat_lt k 128 || lies_in_block ts k
+is_kept ts k = nat_lt k 128 || lies_behind ts k
 
--- what lies round the window, its tiles but for the colours of the free ones, the header and the payloads of blocks
+-- what lies round the window, its tiles but for the colours of the free ones, the header, the payloads of blocks and the
+-- free bytes of gaps
 pub record Kept : Type 0 where
   pub before : List ℕ
   pub after : List ℕ

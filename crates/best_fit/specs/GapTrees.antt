@@ -56,7 +56,7 @@ pub record LacksOne (c : Cut) (xs : List Gap) (g : Gap) (ys : List Gap) : Type 0
   pub gaps : gaps_in c ≡ xs ++ (g ∷ ys)
   pub tree : IsTreeOf (bytes_of c.bytes) 24 (payloads (sorted_gaps (xs ++ ys)))
 
--- nothing changes but word 24, and the bytes and the colours of gaps
+-- nothing changes but word 24, and the links and the colours of gaps
 pub record Regrown (old new : Cut) : Type 0 where
   pub place : SamePlace old new
   pub size : length new.bytes ≡ length old.bytes

@@ -1,8 +1,8 @@
 -- A tree of the gaps that is written anew.
 use Rattle.std.specs.Prelude.{◌≡◌, ℕ, ◌+◌, ◌<◌, ◌≤◌, ◌⊎◌, List, ◌∷◌, ◌++◌, length}
 use Rattle.std.specs.List.{AllByRecursion}
-use Rattle.raw_region.specs.Memory.{Cut, bytes_of}
-use Rattle.best_fit.specs.Extents.{Gap, gaps}
+use Rattle.raw_region.specs.Memory.{Cut, Same, bytes_of}
+use Rattle.best_fit.specs.{Extents.Gap, Extents.gaps, FreeTree.gap_front}
 use Rattle.best_fit.specs.GapNodes.{gaps_in}
 use Rattle.best_fit.specs.GapTrees.{HasTree}
 use Rattle.best_fit.specs.Heap.{Keeps, LaysOut, live_of}
@@ -22,8 +22,9 @@ abbrev pub IsBesideGap : ℕ → Gap → Type 0
 IsBesideGap k g = (k < g.offset) ⊎ (g.offset + g.len ≤ k)
 
 -- The same blocks are in use, with the same bytes and colours, and there is a tree of the gaps. Nothing changes but
--- word 24 and the bytes of gaps.
+-- word 24, and of gaps but their tags and links.
 pub record IsRebuilt (format : ℕ) (old new : Cut) : Type 0 where
   pub live : LaysOut format new.bytes (live_of old.bytes)
   pub keeps : Keeps old new (live_of old.bytes).extents
   pub rest : (k : ℕ) → k < length old.bytes → (k < 24) ⊎ (32 ≤ k) → AllByRecursion (IsBesideGap k) (gaps (live_of old.bytes)) → bytes_of new.bytes k ≡ bytes_of old.bytes k
+  pub free : AllByRecursion (λ (g : Gap). Same (bytes_of old.bytes) (bytes_of new.bytes) (g.offset + gap_front format) (g.offset + g.len)) (gaps (live_of old.bytes))

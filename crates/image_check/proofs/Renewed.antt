@@ -11,7 +11,7 @@ use Rattle.block_tags.specs.Tiles.{has_tags}
 use Rattle.best_fit.specs.Extents.{LiveSet, gaps}
 use Rattle.best_fit.specs.Heap.{IsChanged, IsHeap, LaysOut, SameBlock, live_of}
 use Rattle.best_fit.specs.Rebuilding.{IsBesideGap, IsRebuilt}
-use Rattle.best_fit.proofs.Laws.{blocks-trans, changed-header_blocks, header_changed, is_proper-IsProper, keeps-refl, lay_out_one}
+use Rattle.best_fit.proofs.Laws.{blocks-trans, changed-header_blocks, free-refl, header_changed, is_proper-IsProper, keeps-refl, lay_out_one}
 use Rattle.segment_manager.specs.Denotes.{Denotes}
 use Rattle.segment_manager.specs.Directory.{Directory}
 use Rattle.segment_manager.specs.State.{StandsFor}
@@ -49,7 +49,12 @@ image-heap format b image = denotes-heap format b image.0 image.1
 
 -- a heap stays one
 pub rebuilt-same : (c : Cut) → IsHeap current c.bytes → IsRebuilt current c c
-rebuilt-same c h = record { live = h; keeps = keeps-refl c (live_of c.bytes).extents; rest = λ k inside root free. refl }
+rebuilt-same c h = record {
+  live = h;
+  keeps = keeps-refl c (live_of c.bytes).extents;
+  rest = λ k inside root free. refl;
+  free = free-refl c;
+}
 
 -- ---- the word of the version
 

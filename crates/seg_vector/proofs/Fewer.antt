@@ -61,7 +61,7 @@ given-back {old} {mid} {new} {o = Some x} s link c1 e r =
     let run = run-swapped [] (spread-refl (x ∷ [])) (emptied s c1 e) gone ((λ f. s.own.1 (sym f)), tt) in
     record {
       change = run.change;
-      gaps = λ e. none-some (ap (λ (u : Table). u.extent) e) refl;
+      gaps = λ e. none-some e refl;
       stands = run-stands [] s run refl (omega arith) (omega arith) refl;
     }
 
@@ -102,7 +102,7 @@ fits-nothing {old} {new} {p} {each} {len} {t} {bytes} s e r =
     subst (λ (bs : List ℕ). IsFitted old new p each len t bs) (sym empty) (record {
       change = subst (λ (u : Table). IsExchanged current old new (place_at p) 24 (option_to_list t.extent)
           (option_to_list u.extent)) (sym cut) r.change;
-      gaps = λ same. r.gaps (same ∙ cut);
+      gaps = λ same. r.gaps (same ∙ ap (λ (u : Table). u.extent) cut);
       stands = subst (λ (u : Table). Stands new.bytes p each len u []) (sym cut)
           (subst (λ k. Stands new.bytes p each k no_table []) (sym e) r.stands);
     })
@@ -187,6 +187,6 @@ fitted {old} {mid} {new} {p} {each} {len} {c} {g} {o = Some x} {bytes} some s li
           three.change;
       gaps = λ same. subst (λ (v : Cut). KeepsGaps old v) (sym (sh.same (unshortened l {x = x} {g = g} {n = n}
           (changed-live current old mid at 24 wide) (subst (λ k. extent_at l k ≡ Some x) (sym g_is) s.own.0) sh
-          (same-some (ap (λ (u : Table). u.extent) (sym (same ∙ cut))))))) (head-gaps p s.room wide);
+          (same-some (sym (same ∙ ap (λ (u : Table). u.extent) cut)))))) (head-gaps p s.room wide);
       stands = subst (λ (u : Table). Stands new.bytes p each len u bytes) (sym cut) stands;
     }

@@ -2,3 +2,5 @@
 
 -- a vector of texts stands where a call was refused and gave back what it had taken
 pub use Rattle.seg_vector.proofs.TextsLaid.{texts-restored}
+-- the storage of a container is the block that it was, where the same blocks are in use
+pub use Rattle.seg_vector.proofs.Storage.{same-extents}

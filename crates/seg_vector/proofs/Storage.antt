@@ -10,10 +10,10 @@ use W.{false, le-leb, lt-leb, lt-ltb, eq-eqb, Memory, Extent, handle, end_of, ot
 use W.{Option, length, IsTrue, IfSome, nat_lt, nat_le, resized, LaysOut, live_of, IsSound, IsGrown, Refusal, NoSpace}
 use W.{append-nil, option_map, IsGivenRoom, without_all, IsExchanged, proper_from, is_live_in, spread-refl, IsRewritten}
 use W.{option_to_list, AllByRecursion, IsNotGivenRoom, all-same-but, all_keep_proper, capacity_for_one, nil_from_length}
-use W.{and_parts, take-take, read-part, exchanged, IsRegrown, IsChanged, extent_at, same_role, all-in-use, live-rises}
-use W.{or_left, SameBut, word_at, patched, link_at, Storage, current, LiveSet, is_hole, too_long, place_at, take-nil}
+use W.{KeepsGaps, gaps-trans, and_parts, take-take, read-part, exchanged, IsRegrown, IsChanged, extent_at, same_role, all-in-use, live-rises}
+use W.{◌≢◌, IsFound, Rising, found-none, found-without, or_left, SameBut, word_at, patched, link_at, Storage, current, LiveSet, is_hole, too_long, place_at, take-nil}
 use Rattle.seg_vector.proofs.Runs.{IsRun, beside-head, block-written, head-room, head-wider, len-written, head-gaps}
-use Rattle.seg_vector.proofs.Runs.{none-some, own-facts, room-head, run-found, run-headed, run-stands, run-swapped}
+use Rattle.seg_vector.proofs.Runs.{came-found, none-some, own-facts, room-head, run-found, run-headed, run-stands, run-swapped}
 use Rattle.seg_vector.proofs.Runs.{same-some, serves-full, spread-nil, stands-none-of, stands-run, table, table-full}
 use Rattle.raw_region.proofs.Bytes.{more-times, Has-append, Has-take, Has-drop, Has-beside, Has-patched, length-patch}
 use Rattle.best_fit.specs.{Extents.is_proper, Fit.regrow}
@@ -65,6 +65,7 @@ grows-not c {each} n {t} f s = record {
   table = t;
   grown = grown-same (live_of c.bytes) each n t f;
   change = (stands-run c s).change;
+  gaps = λ same. gaps-refl c;
   stands = s;
   enough = λ less. refl;
 }
@@ -152,6 +153,7 @@ grows-more {old} {mid} {each = each} n {len} {t} {bytes} more s r w =
       table = table n (Some y);
       grown = grown-more l each n t more ∙ ap (option_map (λ x. table n (Some x))) r.regrown;
       change = done.change;
+      gaps = λ same. head-gaps p s.room (subst (λ (c : Cut). IsChanged current c new (place_at p) 24) (r.same same) w.change);
       stands = run-stands bytes s done full (omega (arith, s.fits, more)) s.long (read-same _ _ _ _ (handle y)
           (length bytes) stays.payload (omega arith) (omega (arith, long, less, total)) ∙ stored);
       enough = λ less. absurd (omega (arith, less, more));
@@ -264,6 +266,37 @@ same-storage {old} {mid} {p} {from = from} {n} {t} s x =
     exchanged-live old mid from n own own current x ∙ ap (λ (xs : List Extent). record l { extents = xs })
     (sym (all-in-use own l.extents (live-rises l s.heap.proper) facts.0 facts.1).is)
 
+-- the storage is the block that it was, where the same blocks are in use
+pub same-extents : {old mid : Cut} {from n : ℕ} (h : ℕ) (o q : Option Extent) → IsHeap current old.bytes
+    → IsOwnBlock (live_of old.bytes) h o → IsExchanged current old mid from n (option_to_list o) (option_to_list q)
+    → live_of mid.bytes ≡ live_of old.bytes → o ≡ q
+same-extents h None None heap own x e = refl
+same-extents {old} h None (Some y) heap own x e =
+    let l = live_of old.bytes in
+    let found = subst (λ (k : LiveSet). IsFound k.extents y) e (came-found x).0 in
+    absurd ((found-none (handle y) y (y ∷ []) l.extents (live-rises (exchanged l [] (y ∷ [])) x.live.proper) found).0
+    refl)
+same-extents {old} {mid} {from} {n} h (Some a) None heap own x e =
+    let l = live_of old.bytes in let facts = own-facts l h (Some a) own in
+    let is = (all-in-use (a ∷ []) l.extents (live-rises l heap.proper) facts.0 facts.1).is in
+    let left = sym (exchanged-live old mid from n (a ∷ []) [] current x) ∙ e in
+    let found = subst (λ (k : LiveSet). IsFound k.extents a) (sym left) own.0 in
+    absurd ((found-none (handle a) a (a ∷ []) (without_all (a ∷ []) l.extents) (subst (Rising 128) is
+    (live-rises l heap.proper)) found).0 refl)
+same-extents {old} h (Some a) (Some y) heap own x e = by_test (handle y == handle a) refl
+  where
+    found : IsFound (live_of old.bytes).extents y
+    found = subst (λ (k : LiveSet). IsFound k.extents y) e (came-found x).0
+
+    by_test : (b : Bool) → (handle y == handle a) ≡ b → Some a ≡ Some y
+    by_test true f = sym own.0 ∙ ap (extent_at (live_of old.bytes)) (sym (eqb-true (handle y) (handle a) f)) ∙ found
+    by_test false f =
+        let l = live_of old.bytes in
+        let other : handle y ≢ handle a = λ g. let is = eq-eqb (handle y) (handle a) g in absurd (cc) in
+        let there = found-without (handle y) y (a ∷ []) l.extents (other, tt) found in
+        absurd ((found-none (handle y) y (y ∷ []) (without_all (a ∷ []) l.extents)
+        (live-rises (exchanged l (a ∷ []) (y ∷ [])) x.live.proper) there).0 refl)
+
 -- blocks exchanged, and then those that came written in
 pub exchange-then : {old mid new : Cut} {from n : ℕ} {gone come : List Extent} → IsExchanged current old mid from n gone
     come → IsExchanged current mid new from n come come → IsExchanged current old new from n gone come
@@ -306,11 +339,13 @@ pub table-places : (l : LiveSet) (each n : ℕ) (t : Table) {u : Table} → grow
 unfolding grown_table
 table-places l each n t e = table-if l n t (nat_le n t.capacity) (regrow l t.extent (each * n)) refl e
 
--- with the places that there were, nothing is done
-pub grown-keeps : {old new : Cut} {p : Place} {each n len : ℕ} {t : Table} {bytes : List ℕ}
-    → (g : IsGrown old new p each n len t bytes) → t ≡ g.table → new ≡ old
-grown-keeps {old} {each = each} {n} {t = t} g e =
-    g.enough (subst (λ (u : Table). n ≤ u.capacity) (sym e) (table-places (live_of old.bytes) each n t g.grown))
+-- gaps that stay after its growth, in the block that there was
+pub grown-gaps : {old mid new : Cut} {p : Place} {each n len : ℕ} {t : Table} {bytes : List ℕ}
+    → Stands old.bytes p each len t bytes → (g : IsGrown old mid p each n len t bytes) → t.extent ≡ g.table.extent
+    → KeepsGaps mid new → KeepsGaps old new
+grown-gaps {old} {mid} {new} {p} {t} s g same k =
+    let change = subst (λ o. IsExchanged current old mid (place_at p) 24 (option_to_list t.extent) (option_to_list o))
+    (sym same) g.change in gaps-trans old mid new (same-storage s change) (g.gaps same) k
 
 -- the place for it
 pub has-place : {old mid : Cut} {p : Place} {each len n : ℕ} {t : Table} {bytes : List ℕ} → len < n

@@ -12,7 +12,7 @@ use W.{found-inserted, found-none, found-room, live-rises, middle-first, rising-
 use W.{all_of-inserted, but-apart, exchanged-live, found-without, inserted-append, laid-heap, without-inserted, kept}
 use W.{kept-found, word-same, block_payload, room_block, exchange-next, exchange-released, exchange-same, spread-refl}
 use W.{IsSound, live-sound, Has-same, SameBut-word, read-part, SameBut-link, Place, place_at, Stands, IsServed}
-use W.{IsSwapped, AreHeldElements, IsHeldElement, AreSameElements, IsSameElement, AreEvenLinks, IsHeldText, IsTexts}
+use W.{AreReleased, KeepsGaps, IsSwapped, AreHeldElements, IsHeldElement, AreSameElements, IsSameElement, AreEvenLinks, IsHeldText, IsTexts}
 use W.{text_blocks, IsTextsNow, IsTextElement, AreInArray, IsOwnedText, OwnedText, AreTextLinks, []}
 use Rattle.seg_vector.proofs.Runs.{AreHeadWords, IsHead, IsRun, changed-both, none-some, same-some, came-found}
 use Rattle.seg_vector.proofs.Runs.{room-head, own-facts, facts-own}
@@ -23,6 +23,27 @@ use Rattle.best_fit.specs.Extents.{is_proper}
 
 abbrev pub own_blocks : List OwnedText → Table → List Extent
 own_blocks ps t = option_to_list t.extent ++ text_blocks ps
+
+-- a block for each that there is
+pub no-extent : {o : Option Extent} → option_to_list o ≡ [] → o ≡ None
+no-extent {o = None} e = refl
+no-extent {o = Some x} e = absurd (cc)
+
+pub same-extent : {o q : Option Extent} → option_to_list o ≡ option_to_list q → o ≡ q
+same-extent {o = None} {q = None} e = refl
+same-extent {o = None} {q = Some y} e = absurd (cc)
+same-extent {o = Some x} {q = None} e = absurd (cc)
+same-extent {o = Some x} {q = Some y} e = cc
+
+-- blocks none of which is one of them are none
+pub fresh-none : (xs : List Extent) → AllByRecursion (λ (x : Extent). IsNone (handle x) xs) xs → xs ≡ []
+fresh-none [] d = refl
+fresh-none (x ∷ xs) d = absurd (d.0.0 refl)
+
+-- the block of an array, and others behind it
+pub behind-array : (o : Option Extent) {xs ys : List Extent} → option_to_list o ++ xs ≡ option_to_list o ++ ys → xs ≡ ys
+behind-array None e = e
+behind-array (Some x) e = cc
 
 -- ---- lists in parts
 
@@ -202,8 +223,8 @@ pub texts-between : {old new : Cut} {p : Place} {ps : List OwnedText} (qs a m m'
     → IsTexts old.bytes p ps t → IsExchanged current old new (place_at p) 24 gone come
     → IsTrue (is_table Storage 16 u) → length qs ≤ u.capacity → AreHeadWords (bytes_of new.bytes) (place_at p)
     (length qs) u → AreInArray (bytes_of new.bytes) u qs → AllByRecursion (IsOwnedText (bytes_of new.bytes)) m'
-    → AllByRecursion IsServed m' → IsTextsNow old new p gone come qs u
-texts-between {old} {new} {p} qs a m m' b {t} {u} {gone} e f g h before change table fits words array texts served =
+    → AllByRecursion IsServed m' → (gone ≡ come → KeepsGaps old new) → IsTextsNow old new p gone come qs u
+texts-between {old} {new} {p} qs a m m' b {t} {u} {gone} e f g h before change table fits words array texts served k =
     let l = live_of old.bytes in let M = bytes_of old.bytes in let M' = bytes_of new.bytes in
     let out : List Extent = option_to_list t.extent ++ text_blocks m in
     let into : List Extent = option_to_list u.extent ++ text_blocks m' in
@@ -238,6 +259,7 @@ texts-between {old} {new} {p} qs a m m' b {t} {u} {gone} e f g h before change t
     let good = all-join IsServed a (m' ++ b) sa (all-join IsServed m' b served sb) in
     record {
       change = change;
+      gaps = k;
       texts = texts-made new.bytes p qs rest heap (is ∙ ap (λ (xs : List OwnedText). inserted (own_blocks xs u) rest)
           (sym f)) (found-without p.handle _ own l.extents w.none w.head.found) w.head.big s.aligned table fits words
           array (subst (AllByRecursion (IsOwnedText M')) (sym f) all) (subst (AllByRecursion IsServed) (sym f) good);
@@ -373,11 +395,14 @@ element-live {b} {o = Some x} s link =
 
 pub released-some : {old new : Cut} {array at g : ℕ} {bytes : List ℕ} {o : Option Extent} → IsHeldElement old.bytes
     array at (record { bytes = bytes; extent = o }) → link_at (bytes_of old.bytes) (array + at) ≡ Some g
-    → IsReleased current old new g → IsSwapped old new (option_to_list o) []
+    → IsReleased current old new g → AreReleased old new (option_to_list o)
 released-some {o = None} s link r = none-some s.link link
 released-some {old} {new} {o = Some x} s link r =
     let g_is = same-some (sym link ∙ s.link) in
-    exchange-released current old new x 0 0 (subst (IsReleased current old new) g_is r)
+    record {
+      change = exchange-released current old new x 0 0 (subst (IsReleased current old new) g_is r);
+      same = λ e. absurd (cc);
+    }
 
 -- nothing is exchanged
 pub swapped-none : (c : Cut) → IsHeap current c.bytes → IsSwapped c c [] []
@@ -385,9 +410,19 @@ swapped-none c heap = exchange-same _ c 0 0 [] (live_of c.bytes).extents heap re
 
 pub released-none : (old : Cut) {array at : ℕ} {bytes : List ℕ} {o : Option Extent}
     → IsHeldElement old.bytes array at (record { bytes = bytes; extent = o })
-    → link_at (bytes_of old.bytes) (array + at) ≡ None → IsSwapped old old (option_to_list o) []
-released-none old {o = None} s link = swapped-none old s.heap
+    → link_at (bytes_of old.bytes) (array + at) ≡ None → AreReleased old old (option_to_list o)
+released-none old {o = None} s link = record { change = swapped-none old s.heap; same = λ e. refl }
 released-none old {o = Some x} s link = none-some link s.link
+
+-- what holds of all blocks of texts holds of that of one
+pub one-of : (P : Extent → Type 0) (ps : List OwnedText) (i : ℕ) {q : OwnedText} → AllByRecursion P (text_blocks ps)
+    → slice_get ps i ≡ Some q → AllByRecursion P (option_to_list q.extent)
+one-of P [] i a e = absurd (cc)
+one-of P (y ∷ ys) zero {q} a e =
+    let same : y ≡ q = cc in
+    subst (λ (z : OwnedText). AllByRecursion P (option_to_list z.extent)) same
+    (all-split P (option_to_list y.extent) (text_blocks ys) a).0
+one-of P (y ∷ ys) (suc i) a e = one-of P ys i (all-split P (option_to_list y.extent) (text_blocks ys) a).1 e
 
 -- ---- one after another
 
@@ -428,6 +463,17 @@ releases-next {old} {now} {new} i ps {q} e x y =
     (sym (drop-at ps i e)) (spread-refl (option_to_list q.extent ++ left)) in
     subst (λ k. IsSwapped old new (text_blocks ps) (text_blocks (drop k ps))) count
     (exchange-next _ old now new 0 0 _ _ _ left [] spread x y)
+
+-- so far none of them has a block, and nothing has changed
+pub released-nothing-next : {old now new : Cut} (ps : List OwnedText) (i : ℕ) {q : OwnedText} → slice_get ps i ≡ Some q
+    → text_blocks ps ≡ [] → now ≡ old → (option_to_list q.extent ≡ [] → new ≡ now) → new ≡ old
+released-nothing-next ps i {q} e none so_far next =
+    let all = subst (AllByRecursion (λ (x : Extent). ⊥)) (sym none) tt in
+    next (nothing-of q.extent (one-of (λ (x : Extent). ⊥) ps i all e)) ∙ so_far
+  where
+    nothing-of : (o : Option Extent) → AllByRecursion (λ (x : Extent). ⊥) (option_to_list o) → option_to_list o ≡ []
+    nothing-of None d = refl
+    nothing-of (Some x) d = absurd (d.0)
 
 -- ---- the elements of the array of a vector of texts, as a list: in parts, and put elsewhere
 
@@ -493,16 +539,6 @@ run-begin c {p} a m b {t} e s =
     }
 
 -- ---- the block of an array, and what its links lead to
-
--- what holds of all blocks of texts holds of that of one
-pub one-of : (P : Extent → Type 0) (ps : List OwnedText) (i : ℕ) {q : OwnedText} → AllByRecursion P (text_blocks ps)
-    → slice_get ps i ≡ Some q → AllByRecursion P (option_to_list q.extent)
-one-of P [] i a e = absurd (cc)
-one-of P (y ∷ ys) zero {q} a e =
-    let same : y ≡ q = cc in
-    subst (λ (z : OwnedText). AllByRecursion P (option_to_list z.extent)) same
-    (all-split P (option_to_list y.extent) (text_blocks ys) a).0
-one-of P (y ∷ ys) (suc i) a e = one-of P ys i (all-split P (option_to_list y.extent) (text_blocks ys) a).1 e
 
 pub held-element : (c : Cut) {array n : ℕ} (i : ℕ) {ps : List OwnedText} {q : OwnedText}
     → AreHeldElements c.bytes array n ps → slice_get ps i ≡ Some q → IsHeldElement c.bytes array (16 * i) q

@@ -8,14 +8,14 @@ use W.{length-take, IsAllocated, spread-refl, IsGivenBack, text_blocks, placed_t
 use W.{remove, IfSome, eq-eqb, ne_eqb, Memory, Extent, handle, end_of, IsHeap, IsNone, shorter, IsTexts, length-append}
 use W.{option_to_list, AllByRecursion, allocated-room, exchange-taken, AreSameElements, nil_from_length, if◌then◌else◌}
 use W.{append_assoc, length-drop, exchange-next, place-serves, IsHeldElement, IsTextPlaced, AreTextLinks, word_at}
-use W.{current, link_at, LiveSet, live_of, no_table, is_table, IsFound, Storage, IsFitted, place_at, IsServed}
+use W.{AreReleased, KeepsGaps, IsExchanged, exchanged-live, gaps-payload, gaps-then, gaps-trans, current, link_at, LiveSet, live_of, no_table, is_table, IsFound, Storage, IsFitted, place_at, IsServed}
 use Rattle.seg_vector.proofs.Runs.{AreHeadWords, IsHead, IsRun, beside-head, block-written, head-kept, head-room}
 use Rattle.seg_vector.proofs.Runs.{head-wider, len-written, none-some, room-head, run-found, run-headed, run-swapped}
-use Rattle.seg_vector.proofs.Runs.{same-some, table, table-full, words-kept, all-as, came-found, came-others, all-kept}
+use Rattle.seg_vector.proofs.Runs.{head-gaps, same-some, table, table-full, words-kept, all-as, came-found, came-others, all-kept}
 use Rattle.seg_vector.proofs.TextBlocks.{none-stands, IsArrayLeft, all-split, array-left, drop-at, element-beside}
 use Rattle.seg_vector.proofs.TextBlocks.{element-in, element-trans, even-block, found-texts, held-element, links-edited}
 use Rattle.seg_vector.proofs.TextBlocks.{links-moved, no-array, none-of, of-none, one-of, run-begin, swapped-none}
-use Rattle.seg_vector.proofs.TextBlocks.{texts-between, held-texts, served-texts, owned-same, same-loose}
+use Rattle.seg_vector.proofs.TextBlocks.{behind-array, fresh-none, no-extent, same-extent, texts-between, held-texts, served-texts, owned-same, same-loose}
 use Rattle.seg_vector.proofs.{Runs.all-found-kept, Runs.none-of-none, Runs.spread-nil, Fewer.cut-some, Typed.set-pieces}
 use Rattle.raw_region.proofs.Bytes.{length-read}
 use Rattle.best_fit.specs.Table.{cut_table}
@@ -39,10 +39,11 @@ held-elements {b} {ps} {c} n {o = Some x} s link e =
     })
 
 pub released-nothing : (c : Cut) {p : Place} {ps : List OwnedText} {t : Table} → IsTexts c.bytes p ps t
-    → link_at (bytes_of c.bytes) (place_at p) ≡ None → IsSwapped c c (text_blocks ps) []
+    → link_at (bytes_of c.bytes) (place_at p) ≡ None → AreReleased c c (text_blocks ps)
 released-nothing c {ps} s link =
     let none = nil_from_length ps (no-array c s link) in
-    subst (λ (qs : List OwnedText). IsSwapped c c (text_blocks qs) []) (sym none) (swapped-none c s.heap)
+    subst (λ (qs : List OwnedText). AreReleased c c (text_blocks qs)) (sym none)
+    (record { change = swapped-none c s.heap; same = λ e. refl })
 
 -- ---- no text
 
@@ -51,26 +52,37 @@ no-links m c None = refl
 no-links m c (Some x) = tt
 
 pub cleared : {old mid new : Cut} {p : Place} {ps : List OwnedText} {t : Table} → IsTexts old.bytes p ps t
-    → IsSwapped old mid (text_blocks ps) [] → IsChanged current mid new (p.handle + (p.at + 8)) 8
+    → AreReleased old mid (text_blocks ps) → IsChanged current mid new (p.handle + (p.at + 8)) 8
     → word_at (bytes_of new.bytes) (p.handle + (p.at + 8)) ≡ 0
     → IsTextsNow old new p (option_to_list t.extent ++ text_blocks ps) (option_to_list t.extent) [] t
-cleared {old} {new = new} {p} {ps} {t} s x c word =
-    let arr = option_to_list t.extent in let tb = text_blocks ps in
+cleared {old} {mid} {new} {p} {ps} {t} s r c word =
+    let x = r.change in let wide = head-wider p c (omega arith) (omega arith) in let arr = option_to_list t.extent in let tb = text_blocks ps in
     let r0 = run-begin old [] ps [] (sym (append-nil ps)) s in
     let r1 = run-swapped arr (last-first arr tb) r0 x (none-of p.handle tb s.apart) in
-    let r2 = run-headed r1 (head-wider p c (omega arith) (omega arith))
+    let r2 = run-headed r1 wide
     (len-written 0 (omega arith) c.rest word r1.words) in
     texts-between [] [] ps [] [] (sym (append-nil ps)) refl refl (sym (append-nil arr)) s r2.change s.table
-    (omega arith) r2.words (no-links (bytes_of new.bytes) t.capacity t.extent) tt tt
+    (omega arith) r2.words (no-links (bytes_of new.bytes) t.capacity t.extent) tt tt (λ e. subst (λ (c : Cut).
+    KeepsGaps c new) (r.same (behind-array t.extent (e ∙ sym (append-nil arr)))) (head-gaps p (head-room r1.head) wide))
 
 -- ---- no array
 
-pub given-up-all : {old mid new : Cut} {p : Place} {t : Table} {gone : List Extent} → IsTextsNow old mid p gone
-    (option_to_list t.extent) [] t → IsGivenBack mid new p 16 t → IsTextsNow old new p gone [] [] no_table
-given-up-all {old} {mid} {new} {t = t} {gone} x g =
-    let arr = option_to_list t.extent in
+given-up-gaps : {old mid new : Cut} {p : Place} (o : Option Extent) {c : ℕ} {blocks : List Extent}
+    → IsTextsNow old mid p (option_to_list o ++ blocks) (option_to_list o) [] (table c o)
+    → IsGivenBack mid new p 16 (table c o) → option_to_list o ++ blocks ≡ [] → KeepsGaps old new
+given-up-gaps {old} {mid} {new} {p} None x g e =
+    let change = subst (λ (xs : List Extent). IsExchanged current old mid (place_at p) 24 xs []) e x.change in
+    gaps-trans old mid new (exchanged-live old mid (place_at p) 24 [] [] current change) (x.gaps e) (g.gaps refl)
+given-up-gaps (Some y) x g e = absurd (cc)
+
+pub given-up-all : {old mid new : Cut} {p : Place} {o : Option Extent} {c : ℕ} {blocks : List Extent}
+    → IsTextsNow old mid p (option_to_list o ++ blocks) (option_to_list o) [] (table c o)
+    → IsGivenBack mid new p 16 (table c o) → IsTextsNow old new p (option_to_list o ++ blocks) [] [] no_table
+given-up-all {old} {mid} {new} {o = o} {blocks = blocks} x g =
+    let arr = option_to_list o in let gone = arr ++ blocks in
     record {
       change = exchange-next _ old mid new _ 24 gone arr arr [] [] (spread-nil arr) x.change g.change;
+      gaps = given-up-gaps o x g;
       texts = none-stands g.stands;
     }
 
@@ -125,13 +137,13 @@ removed-length ps i {q} e = let below : i < length ps = slice_get_within ps i q 
 pub erased-by : {s0 s1 s2 s3 : Cut} {p : Place} {ps : List OwnedText} {c g : ℕ} (i n : ℕ) {o : Option Extent}
     {q : OwnedText} → IsTexts s0.bytes p ps (table c o) → slice_get ps i ≡ Some q
     → link_at (bytes_of s0.bytes) (place_at p) ≡ Some g → n ≡ length ps
-    → IsSwapped s0 s1 (option_to_list q.extent) [] → IsChanged current s1 s2 (g + 16 * i) (16 * (n - i - 1))
+    → AreReleased s0 s1 (option_to_list q.extent) → IsChanged current s1 s2 (g + 16 * i) (16 * (n - i - 1))
     → AreSameElements (bytes_of s1.bytes) (bytes_of s2.bytes) (g + (16 * i + 16)) (g + 16 * i) (n - i - 1)
     → IsChanged current s2 s3 (p.handle + (p.at + 8)) 8 → word_at (bytes_of s3.bytes) (p.handle + (p.at + 8)) ≡ n - 1
     → IsTextsNow s0 s3 p (option_to_list o ++ option_to_list q.extent) (option_to_list o) (remove ps i) (table c o)
-erased-by i n {o = None} s e link n_is x1 c2 m2 c3 word = none-some s.words.link link
-erased-by {s0} {s1} {s2} {s3} {p} {ps} {c} {g} i n {o = Some x} {q} s e link n_is x1 c2 m2 c3 word =
-    let t = table c (Some x) in let eq = option_to_list q.extent in
+erased-by i n {o = None} s e link n_is y c2 m2 c3 word = none-some s.words.link link
+erased-by {s0} {s1} {s2} {s3} {p} {ps} {c} {g} i n {o = Some x} {q} s e link n_is y c2 m2 c3 word =
+    let x1 = y.change in let t = table c (Some x) in let eq = option_to_list q.extent in
     let g_is = same-some (sym link ∙ s.words.link) in let below = slice_get_within ps i q e in
     let fits = s.fits in let full = table-full 16 c x s.table in let apart = text-apart i s e in
     let one = append-nil eq in
@@ -158,7 +170,11 @@ erased-by {s0} {s1} {s2} {s3} {p} {ps} {c} {g} i n {o = Some x} {q} s e link n_i
     texts-between (remove ps i) (take i ps) (q ∷ []) [] (drop (suc i) ps) {u = t} (around ps i e) refl
     (ap (λ (xs : List Extent). x ∷ xs) (sym one)) refl s r3.change s.table (omega (arith, len, n_is, fits))
     (subst (λ k. AreHeadWords (bytes_of s3.bytes) (place_at p) k t) len r3.words)
-    (subst (λ h. AreTextLinks (bytes_of s3.bytes) h (remove ps i)) g_is links) tt tt
+    (subst (λ h. AreTextLinks (bytes_of s3.bytes) h (remove ps i)) g_is links) tt tt (λ f. subst (λ (c : Cut).
+    KeepsGaps c s3) (y.same (behind-array (Some x) (f ∙ sym (append-nil (x ∷ []))))) (gaps-then s1 s2 s3 (g + 16 * i)
+    (16 * (n - i - 1)) c2 (gaps-payload s1 s2 (handle x) (16 * c) (g + 16 * i) (16 * (n - i - 1)) c2
+    (found-room (live_of s1.bytes) (handle x) (16 * c) x (run-found r1).0 full) (omega (arith, g_is))
+    (omega (arith, g_is, n_is, below, fits))) (head-gaps p (head-room r2.head) c3')))
 
 -- ---- once the block of the text is released
 
@@ -276,7 +292,7 @@ shrunk {old} {new} {ps} {t} s f =
     texts-between ps [] [] [] ps {u = u} refl refl (sym (append-nil arr)) (sym (append-nil arr')) s f.change w.table
     w.fits (record { link = w.words.link; len_word = w.words.len_word; capacity = w.words.capacity })
     (cut-links (live_of old.bytes) (bytes_of old.bytes) (bytes_of new.bytes) ps t.capacity t.extent s.words.array
-    w.words.storage) tt tt
+    w.words.storage) tt tt (λ e. f.gaps (same-extent e))
 
 -- ---- what is asked for
 
@@ -299,6 +315,7 @@ placed-empty c bytes heap e = record {
   same = refl;
   at = refl;
   change = swapped-none c heap;
+  nothing = λ none. refl;
   owned = nil_from_length bytes e;
   served = nil_from_length bytes e;
 }
@@ -318,6 +335,7 @@ placed-some {old} {mid} {new} bytes {h} f a c has =
       same = refl;
       at = ap (λ k. Some k) at;
       change = exchange-taken _ old new _ _ h 0 0 b;
+      nothing = λ none. absurd (cc);
       owned = subst (λ k. Has (bytes_of new.bytes) k bytes) (zero_at ∙ at) has;
       served = (f, place-serves (live_of old.bytes) (length bytes) Storage b.extent b.placed);
     }
@@ -412,14 +430,14 @@ others-front (Some y) xs d = (d.0, tt)
 pub text-set : {s0 s1 mid s3 : Cut} {p : Place} {ps : List OwnedText} {c len g : ℕ} {o : Option Extent} {q : OwnedText}
     {bytes : List ℕ} {block : Option ℕ} (i : ℕ) → IsTexts s0.bytes p ps (table c o) → slice_get ps i ≡ Some q
     → (pl : IsTextPlaced s0 s1 bytes block) → link_at (bytes_of s1.bytes) (place_at p) ≡ Some g
-    → IsSwapped s1 mid (option_to_list q.extent) [] → IsChanged current mid s3 (g + 16 * i) 16
+    → AreReleased s1 mid (option_to_list q.extent) → IsChanged current mid s3 (g + 16 * i) 16
     → link_at (bytes_of s3.bytes) (g + 16 * i) ≡ block → word_at (bytes_of s3.bytes) (g + 16 * i + 8) ≡ len
     → len ≡ length bytes → IsTextsNow s0 s3 p (option_to_list o ++ option_to_list q.extent)
     (option_to_list o ++ option_to_list pl.text.extent) (slice_set ps i pl.text) (table c o)
-text-set {o = None} i s e pl at y written link_is word_is len_is = none-some (texts-still s pl.change).words.link at
-text-set {s0} {s1} {mid} {s3} {p} {ps} {c} {len} {o = Some x} {q} {block = block} i s e pl at y written link_is word_is
+text-set {o = None} i s e pl at r written link_is word_is len_is = none-some (texts-still s pl.change).words.link at
+text-set {s0} {s1} {mid} {s3} {p} {ps} {c} {len} {o = Some x} {q} {block = block} i s e pl at r written link_is word_is
     len_is =
-    let g_is = same-some (sym at ∙ (texts-still s pl.change).words.link) in let t = table c (Some x) in
+    let y = r.change in let g_is = same-some (sym at ∙ (texts-still s pl.change).words.link) in let t = table c (Some x) in
     let z = pl.text in let n = length ps in let eb = option_to_list q.extent in let ez = option_to_list z.extent in
     let gone : List Extent = x ∷ eb in
     let below = slice_get_within ps i q e in let fits = s.fits in let full = table-full 16 c x s.table in
@@ -469,6 +487,12 @@ text-set {s0} {s1} {mid} {s3} {p} {ps} {c} {len} {o = Some x} {q} {block = block
     (ap (λ (xs : List Extent). x ∷ xs) (sym one))
     (ap (λ (xs : List Extent). x ∷ xs) (sym (append-nil ez))) s r3.change s.table (omega (arith, len_set, fits))
     (subst (λ w. AreHeadWords (bytes_of s3.bytes) (place_at p) w t) (sym len_set) r3.words)
-    (subst (AreTextLinks (bytes_of s3.bytes) (handle x)) (sym qs_is) links) (t3.0, tt) (pl.served, tt)
+    (subst (AreTextLinks (bytes_of s3.bytes) (handle x)) (sym qs_is) links) (t3.0, tt) (pl.served, tt) (λ f.
+    let same : eb ≡ ez = behind-array (Some x) f in
+    let fresh = subst (λ (xs : List Extent). AllByRecursion (λ (y : Extent). IsNone (handle y) xs) ez) same from_text in
+    let none = fresh-none ez fresh in let is = r.same (same ∙ none) ∙ pl.nothing (no-extent none) in
+    subst (λ (c : Cut). KeepsGaps c s3) is (gaps-payload mid s3 (handle x) (16 * c) (handle x + 16 * i) 16 c3
+    (found-room (live_of mid.bytes) (handle x) (16 * c) x found2.1.0 full) (omega arith)
+    (omega (arith, below, fits))))
 
 -- ---- the element is written once the old text is released

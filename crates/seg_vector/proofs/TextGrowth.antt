@@ -7,10 +7,10 @@ use W.{SameBlock, extent_at, live_of, has_room, Table, serves, is_table, IsFound
 use W.{exchange-order, exchange-released, exchange-resized, exchange-taken, found-none, kept, kept-found, last-first}
 use W.{live-rises, middle-first, place-serves, regrow-serves, spread-refl, found-room, two-apart, laid-heap, Place}
 use W.{place_at, AreSameElements, IsAdopted, IsAsked, IsWithoutFit, IsSwapped, taken, widened, AreEvenLinks, IsReady}
-use W.{TakesStorage, AreOthers, IsTexts, IsTextsNow, AreTextLinks, OwnedText, [], IsPointed, blocks-trans}
+use W.{gaps-refl, TakesStorage, AreOthers, IsTexts, IsTextsNow, AreTextLinks, OwnedText, [], IsPointed, blocks-trans}
 use Rattle.seg_vector.proofs.Runs.{AreHeadWords, IsHead, IsRun, beside-head, block-written, none-some, run-found}
 use Rattle.seg_vector.proofs.Runs.{run-headed, run-swapped, same-some, serves-full, table, all-kept, stands-none-of}
-use Rattle.seg_vector.proofs.Runs.{stands-run, table-full}
+use Rattle.seg_vector.proofs.Runs.{head-gaps, stands-run, table-full}
 use Rattle.seg_vector.proofs.TextBlocks.{all-split, element-in, element-trans, even-block, even-held, links-moved}
 use Rattle.seg_vector.proofs.TextBlocks.{run-begin, swapped-none, texts-between}
 use Rattle.seg_vector.proofs.Storage.{grown-more, grown-same, regrow-new, storage-role, too-many}
@@ -88,12 +88,14 @@ pub record IsInPlace (first now : Cut) (p : Place) (ps : List OwnedText) (t : Ta
   pub grow : regrow (live_of first.bytes) t.extent (16 * n) ≡ Some array
   pub serving : IsTrue (serves array Storage (16 * n))
   pub links : AreTextLinks (bytes_of now.bytes) (handle array) ps
+  pub same : option_to_list t.extent ≡ array ∷ loose → now ≡ first
 
 -- lengthened where it stood
 wide-place : {first mid now : Cut} {p : Place} {ps : List OwnedText} {c g : ℕ} (n : ℕ) {x : Extent}
     {loose : List Extent} → IsTexts first.bytes p ps (table c (Some x)) → (w : IsWidened current first mid g (16 * n))
-    → Some x ≡ Some w.before → IsSwapped mid now [] loose → IsInPlace first now p ps (table c (Some x)) g n loose
-wide-place {first} {mid} {now} {p} {ps} {c} n {x} s w is since =
+    → Some x ≡ Some w.before → IsSwapped mid now [] loose → (loose ≡ [] → now ≡ mid)
+    → IsInPlace first now p ps (table c (Some x)) g n loose
+wide-place {first} {mid} {now} {p} {ps} {c} n {x} {loose} s w is since still =
     let y = w.after in let same : w.before ≡ x = same-some (sym is) in
     let begins : handle y ≡ handle x = w.begins ∙ ap (λ (z : Extent). handle z) same in
     let longer : x.len ≤ y.len = subst (λ (z : Extent). z.len ≤ y.len) same w.longer in
@@ -115,6 +117,8 @@ wide-place {first} {mid} {now} {p} {ps} {c} n {x} s w is since =
       serving = regrow-serves (live_of first.bytes) (Some x) y (16 * n) (storage-role 16 c (Some x) s.table) grow;
       links = subst (λ k. AreTextLinks (bytes_of now.bytes) k ps) (sym begins)
           (links-moved (bytes_of first.bytes) (bytes_of now.bytes) (handle x) (handle x) ps s.words.array elements);
+      same = λ e.
+          let alone : loose ≡ [] = cc in let kept : w.after ≡ w.before = cc in still alone ∙ w.same kept;
     }
 
 -- a first one
@@ -132,6 +136,7 @@ first-place {first} {mid} {now} {ps} {g} n s a since =
       grow = regrow-new (live_of first.bytes) (16 * n) ∙ a.placed;
       serving = place-serves (live_of first.bytes) (16 * n) Storage y a.placed;
       links = subst (AreTextLinks (bytes_of now.bytes) (handle y)) (sym s.words.array) tt;
+      same = λ e. absurd (cc);
     }
 
 adopt-place : {first old new : Cut} {p : Place} {ps : List OwnedText} {t : Table} {g n : ℕ} {loose : List Extent}
@@ -153,6 +158,8 @@ adopt-place {first} {old} {new} {p} {ps} {t} {g} {n} {loose} s more q d =
       serves = q.serving;
       change = exchange-order _ _ new _ 24 (option_to_list t.extent) (loose ++ (y ∷ [])) _ (last-first loose (y ∷ []))
           (run-headed r c words).change;
+      gaps = λ e. head-gaps p s.room
+          (subst (λ (k : Cut). IsChanged current k new (place_at p) 24) (q.same e) c);
       link = d.link;
       len_word = words.len_word;
       capacity = d.capacity;
@@ -172,11 +179,12 @@ adopt-none n {o = None} s more (taken a e) since was d = adopt-place s more (fir
 -- the same one
 pub adopt-same : {first mid old new : Cut} {p : Place} {ps : List OwnedText} {c g : ℕ} (n : ℕ) {o : Option Extent}
     {loose : List Extent} → IsTexts first.bytes p ps (table c o) → c < n → IsAsked first mid o (16 * n) g
-    → IsSwapped mid old [] loose → link_at (bytes_of first.bytes) (place_at p) ≡ Some g → IsPointed old new p g n
-    → IsAdopted first old new p ps (table c o) g n loose
-adopt-same n {o = None} s more a since was d = none-some s.words.link was
-adopt-same n {o = Some x} s more (widened w is) since was d = adopt-place s more (wide-place n s w is since) d
-adopt-same n {o = Some x} s more (taken a e) since was d =
+    → IsSwapped mid old [] loose → (loose ≡ [] → old ≡ mid) → link_at (bytes_of first.bytes) (place_at p) ≡ Some g
+    → IsPointed old new p g n → IsAdopted first old new p ps (table c o) g n loose
+adopt-same n {o = None} s more a since still was d = none-some s.words.link was
+adopt-same n {o = Some x} s more (widened w is) since still was d =
+    adopt-place s more (wide-place n s w is since still) d
+adopt-same n {o = Some x} s more (taken a e) since still was d =
     let g_is = same-some (sym s.words.link ∙ was) in absurd (new-other (handle x) a s.own.0 (g_is ∙ a.at))
 
 -- ---- a new one in the place of the old one
@@ -263,6 +271,7 @@ adopt-beside {first} {old} {a1} {a2} {new} {p} {ps} {c} {g} n {x} {loose} s more
       grown = grown-to (live_of first.bytes) n t more grow;
       serves = serving;
       change = r3.change;
+      gaps = λ e. let same : x ≡ y = cc in absurd (b.apart (ap (λ (z : Extent). handle z) same));
       link = r3.words.link ∙ ap (λ w. Some w) (sym g_is);
       len_word = r3.words.len_word;
       capacity = r3.words.capacity;
@@ -328,8 +337,8 @@ ready-in {first} n {o = Some x} {loose} s (taken a e) since =
 
 abbrev pub ready-of : {first mid now : Cut} {p : Place} {ps : List OwnedText} {t : Table} {g : ℕ} (n : ℕ)
     {loose : List Extent} → IsTexts first.bytes p ps t → t.capacity < n → IsAsked first mid t.extent (16 * n) g
-    → IsSwapped mid now [] loose → IsReady now p g n
-ready-of {first} {mid} {ps = ps} {t} n {loose} s more a since = record {
+    → IsSwapped mid now [] loose → (loose ≡ [] → now ≡ mid) → IsReady now p g n
+ready-of {first} {mid} {ps = ps} {t} n {loose} s more a since still = record {
   first = first;
   mid = mid;
   ps = ps;
@@ -339,6 +348,7 @@ ready-of {first} {mid} {ps = ps} {t} n {loose} s more a since = record {
   more = more;
   asked = a;
   since = since;
+  still = still;
 }
 
 pub ready : {now : Cut} {p : Place} {g n : ℕ} → (r : IsReady now p g n) → IsReadyRun r.first now p r.ps r.t g n
@@ -422,14 +432,15 @@ reserved {new} {p} {ps} {t} {n} s more a =
       a.grown,
       texts-between ps [] [] [] ps refl refl (sym (append-nil arr)) refl s a.change
           (new-table n a.array (omega (arith, more)) a.serves) (omega (arith, s.fits, more)) words
-          (subst (λ k. AreTextLinks (bytes_of new.bytes) k ps) a.at a.links) tt tt,
+          (subst (λ k. AreTextLinks (bytes_of new.bytes) k ps) a.at a.links) tt tt a.gaps,
     )
 
 pub reserved-same : (c : Cut) {p : Place} {ps : List OwnedText} {t : Table} (n : ℕ) → IsTexts c.bytes p ps t
     → n ≤ t.capacity → (w : Table) × (grown_table (live_of c.bytes) 16 n t ≡ Some w)
     × IsTextsNow c c p (option_to_list t.extent) (option_to_list w.extent) ps w
 reserved-same c {t = t} n s f =
-    (t, grown-same (live_of c.bytes) 16 n t f, record { change = (stands-run c (texts-stand s)).change; texts = s })
+    let same = record { change = (stands-run c (texts-stand s)).change; gaps = λ e. gaps-refl c; texts = s } in
+    (t, grown-same (live_of c.bytes) 16 n t f, same)
 
 pub too-many-texts : (c : Cut) {p : Place} {ps : List OwnedText} {t : Table} (n : ℕ) → IsTexts c.bytes p ps t
     → 1073741824 < n → grown_table (live_of c.bytes) 16 n t ≡ None

@@ -6,17 +6,17 @@ use W.{ap, word_at, current, link_at, LiveSet, resized, Refusal, live_of, IsFoun
 use W.{subst, if◌then◌else◌, length-append, exchange-taken, widened-back, rising-insert, IsStillAtFirst, exchanged-live}
 use W.{◌∙◌, ℕ, ◌+◌, ◌*◌, ◌<◌, ◌≤◌, ◌∷◌, inl, inr, ◌%◌, ◌-◌, max, Ok, Err, Cut, []}
 use W.{Option, eqb-true, bytes_of, exchanged, IsChanged, has_room, laid-heap, place_at, IsAdopted, IsSwapped, OwnedText}
-use W.{Some, length, IsTrue, Result, IfSome, nat_lt, insert, lt-ltb, le-ltb, Extent, widened, room_of, IsTexts, NoSpace}
+use W.{IsExchanged, KeepsGaps, gaps-payload, gaps-refl, gaps-then, gaps-trans, Some, length, IsTrue, Result, IfSome, nat_lt, insert, lt-ltb, le-ltb, Extent, widened, room_of, IsTexts, NoSpace}
 use W.{append-nil, option_map, IsRestored, IsReleased, is_live_in, lay_out_one, others-past, IsTextPutIn, placed_text}
 use W.{option_to_list, AllByRecursion, length-drop, take-append-drop, exchange-order, AreSameElements, capacity_for_one}
 use Rattle.seg_vector.proofs.Runs.{AreHeadWords, IsHead, IsRun, beside-head, block-written, head-kept, head-wider}
 use Rattle.seg_vector.proofs.Runs.{len-written, none-some, own-facts, run-found, run-headed, run-swapped, room-head}
-use Rattle.seg_vector.proofs.Runs.{stands-none-of, same-some, table, table-full}
+use Rattle.seg_vector.proofs.Runs.{head-gaps, head-room, stands-none-of, same-some, table, table-full}
 use Rattle.seg_vector.proofs.TextBlocks.{element-beside, element-in, element-trans, even-block, found-live, found-texts}
-use Rattle.seg_vector.proofs.TextBlocks.{links-at, links-edited, one-of, run-begin, texts-between, same-loose}
+use Rattle.seg_vector.proofs.TextBlocks.{behind-array, no-extent, links-at, links-edited, one-of, run-begin, texts-between, same-loose}
 use Rattle.seg_vector.proofs.TextGrowth.{grown-to, not-grown, all-beside-head, new-other, IsReadyRun, ready-in}
 use Rattle.seg_vector.proofs.TextCalls.{loose-kept, run-others, texts-stand, texts-still}
-use Rattle.seg_vector.proofs.Storage.{capacity-bytes, room-small, grown-same}
+use Rattle.seg_vector.proofs.Storage.{capacity-bytes, room-small, grown-same, same-storage}
 use Rattle.seg_vector.proofs.{TextGrowth.asked-alone, TextGrowth.new-table, Typed.has-element}
 use Rattle.best_fit.specs.Fit.{regrow}
 use Rattle.seg_vector.specs.Vector.{grown_table}
@@ -51,6 +51,13 @@ flip-each y [] d = tt
 flip-each y (x ∷ xs) d = (((λ f. d.0 (sym f)), tt), flip-each y xs d.1)
 
 -- ---- the vector afterwards
+
+-- with its own blocks in use
+same-blocks : {old mid : Cut} {p : Place} {ps : List OwnedText} {t : Table} {from n : ℕ} {come : List Extent}
+    → IsTexts old.bytes p ps t → option_to_list t.extent ≡ come
+    → IsExchanged current old mid from n (option_to_list t.extent) come → live_of mid.bytes ≡ live_of old.bytes
+same-blocks {old} {mid} {t} {from} {n} s e x = same-storage (texts-stand s)
+    (subst (IsExchanged current old mid from n (option_to_list t.extent)) (sym e) x)
 
 pub put-by : {first now b1 b2 new : Cut} {p : Place} {ps : List OwnedText} {t : Table} {y : Extent} {m : ℕ}
     {z : OwnedText} (i : ℕ) {g : ℕ} (n len : ℕ) (block : Option ℕ) → IsPutReady first now p ps t y m z → i ≤ length ps
@@ -100,6 +107,12 @@ put-by {first} {now} {b1} {b2} {new} {p} {ps} {t} {y} {m} {z} i {g} n len block 
     (sym (append-nil gone)) (ap (λ (xs : List Extent). y ∷ xs) (sym (append-nil ez))) r.texts r3.change r.table
     (omega (arith, long, k_is, space)) (subst (λ w. AreHeadWords (bytes_of new.bytes) (place_at p) w u) (sym long)
     r3.words) (subst (λ h. AreTextLinks (bytes_of new.bytes) h (insert ps i z)) g_is links) (t3, tt) (r.served, tt)
+    (λ e. gaps-trans first now new (same-blocks r.texts e r.change) (r.gaps e) (gaps-then now b1 new (g + 16 * i + 16)
+    (16 * (n - i)) c1 (gaps-payload now b1 (handle y) (16 * m) (g + 16 * i + 16) (16 * (n - i)) c1
+    (found-room (live_of now.bytes) (handle y) (16 * m) y found0.0 big) (omega (arith, g_is))
+    (omega (arith, g_is, k_is, inside, space))) (gaps-then b1 b2 new (g + 16 * i) 16 c2 (gaps-payload b1 b2 (handle y)
+    (16 * m) (g + 16 * i) 16 c2 (found-room (live_of b1.bytes) (handle y) (16 * m) y (run-found r1).0 big)
+    (omega (arith, g_is)) (omega (arith, g_is, inside, space))) (head-gaps p (head-room r2.head) c3'))))
 
 -- ---- what the calls of a put need
 
@@ -203,6 +216,8 @@ within {s0} {s1} {p} {ps} {c} {o = Some x} s space pl =
         table = s.table;
         space = space;
         change = exchange-order _ s0 s1 _ 24 _ _ _ (last-first ez (x ∷ [])) r1.change;
+        gaps = λ e. subst (λ (c : Cut). KeepsGaps s0 c) (sym (pl.nothing (no-extent (sym (behind-array (Some x)
+            {xs = []} e))))) (gaps-refl s0);
         link = still.words.link;
         len_word = still.words.len_word;
         capacity = still.words.capacity;
@@ -293,6 +308,7 @@ growing-ready {s2} {s3} {ps} {n} s space pl ad = record {
   table = new-table n ad.array (omega (arith, space)) ad.serves;
   space = space;
   change = ad.change;
+  gaps = ad.gaps;
   link = ad.link ∙ ap (λ k. Some k) ad.at;
   len_word = ad.len_word;
   capacity = ad.capacity;

@@ -14,7 +14,7 @@ use W.{OwnedText, Place, place_at, [], IsPointed, all-same-but, drop-map, drop-c
 use Rattle.seg_vector.proofs.Runs.{AreHeadWords, IsHead, block-written, changed-both, head-exchanged, len-written}
 use Rattle.seg_vector.proofs.Runs.{run-none, run-swapped, same-some, serves-full, table, all-as, came-found}
 use Rattle.seg_vector.proofs.TextBlocks.{all-join, all-split, element-beside, element-in, element-trans, even-block}
-use Rattle.seg_vector.proofs.TextBlocks.{found-live, links-join, links-moved, of-none, own_blocks, run-begin}
+use Rattle.seg_vector.proofs.TextBlocks.{fresh-none, found-live, links-join, links-moved, of-none, own_blocks, run-begin}
 use Rattle.seg_vector.proofs.{Runs.came-others, Runs.all-kept, Runs.none-of-none, TextBlocks.owned-same}
 use Rattle.seg_vector.proofs.{TextBlocks.texts-between, TextBlocks.texts-own, TextGrowth.new-table, TextCalls.come-even}
 use Rattle.seg_vector.proofs.{TextCalls.run-others, TextCalls.texts-still, TextPuts.came-alone, TextPuts.flip-each}
@@ -437,7 +437,9 @@ assigned {old} {now} {rel} {led} {new} {p} {ps} {t} n {more} s w e some released
       now = subst (λ k. IsTextsNow old new p own come qs (table k (Some y))) e
           (texts-between qs [] ps qs [] {u = u} (sym (append-nil ps)) (sym (append-nil qs)) refl refl s all
           (new-table n y some serves_all) (omega (arith, long))
-          (subst (λ k. AreHeadWords (bytes_of new.bytes) at k u) long words) links owned w.served);
+          (subst (λ k. AreHeadWords (bytes_of new.bytes) at k u) long words) links owned w.served (λ same.
+          let fresh = subst (λ (xs : List Extent). AllByRecursion (λ (x : Extent). IsNone (handle x) xs) come) same
+          b.others in let none = fresh-none come fresh in absurd (cc)));
     }
 
 pub laid-even : {old now : Cut} {g : ℕ} {more : List (List ℕ)} → AreLaidOut old now more g → g % 16 ≡ 0

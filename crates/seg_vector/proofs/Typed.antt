@@ -7,7 +7,7 @@ use W.{length, append_assoc, append-nil, length-take, MatchResult, IsRewritten, 
 use W.{IsTrue, insert, remove, nat_le, patched, word_at, live_of, Refusal, Erases, Extends, Inserts, IsGrown, drop-nil}
 use W.{flat_map, list_all, and_from, leb-true, bytes_of, no_table, ReadsOne, IsVector, take-nil, KeepsGaps, gaps-refl}
 use W.{slice_get, slice_set, and_parts, length-set, GivesBack, Overwrites, Truncates, IsStanding, IsTextNow, gaps-trans}
-use Rattle.seg_vector.proofs.Storage.{capacity-bytes, exchange-then, grown-keeps, has-place, not-refused, same-storage}
+use Rattle.seg_vector.proofs.Storage.{capacity-bytes, exchange-then, grown-gaps, has-place, not-refused, same-storage}
 use Rattle.seg_vector.proofs.{Storage.unchanged-rewritten, Storage.wanted-places, Runs.same-some}
 use Rattle.best_fit.specs.Table.{cut_table}
 use Rattle.seg_vector.proofs.Words as W
@@ -159,26 +159,26 @@ module _ {T : Type 0} {size : ℕ} {test : T → Bool} {sp : T → List ℕ} whe
   -- the storage is grown, and the values stay
   pub vector-grown : {old new : Cut} {p : Place} {n : ℕ} {t : Table} {xs : List T} → IsVector size test sp old.bytes p
       xs t → IsGrown old new p size n (length xs) t (flat_map sp xs) → IsVectorGrown size test sp old new p t n xs
-  vector-grown {old} v g = record {
+  vector-grown v g = record {
     table = g.table;
     grown = g.grown;
     now = record {
       change = g.change;
-      gaps = λ same. subst (λ (c : Cut). KeepsGaps old c) (sym (grown-keeps g same)) (gaps-refl old);
+      gaps = g.gaps;
       vector = record { stands = g.stands; values = v.values };
     };
   }
 
   -- the storage is grown, and then there are other values in it
-  pub grown-then : {old mid new : Cut} {p : Place} {n : ℕ} {t : Table} (xs : List T) {ys : List T}
-      → (g : IsGrown old mid p size n (length xs) t (flat_map sp xs))
+  pub grown-then : {old mid new : Cut} {p : Place} {n : ℕ} {t : Table} {xs ys : List T}
+      → IsVector size test sp old.bytes p xs t → (g : IsGrown old mid p size n (length xs) t (flat_map sp xs))
       → IsVectorNow size test sp mid new p g.table ys g.table → IsVectorGrown size test sp old new p t n ys
-  grown-then {new = new} xs g w = record {
+  grown-then v g w = record {
     table = g.table;
     grown = g.grown;
     now = record {
       change = exchange-then g.change w.change;
-      gaps = λ same. subst (λ (c : Cut). KeepsGaps c new) (grown-keeps g same) (w.gaps refl);
+      gaps = λ same. grown-gaps v.stands g same (w.gaps refl);
       vector = w.vector;
     };
   }
@@ -214,14 +214,14 @@ text-then {old} {mid} {new} s c w = record {
 }
 
 pub text-grown-then : {old mid new : Cut} {p : Place} {n : ℕ} {t : Table} {bytes ys : List ℕ}
-    → (g : IsGrown old mid p 1 n (length bytes) t bytes) → IsTextNow mid new p g.table ys g.table
+    → IsText old.bytes p bytes t → (g : IsGrown old mid p 1 n (length bytes) t bytes) → IsTextNow mid new p g.table ys g.table
     → IsTextGrown old new p t n ys
-text-grown-then {new = new} g w = record {
+text-grown-then s g w = record {
   table = g.table;
   grown = g.grown;
   now = record {
     change = exchange-then g.change w.change;
-    gaps = λ same. subst (λ (c : Cut). KeepsGaps c new) (grown-keeps g same) (w.gaps refl);
+    gaps = λ same. grown-gaps s g same (w.gaps refl);
     text = w.text;
   };
 }
@@ -351,7 +351,7 @@ module _ (old mid : Cut) {p : Place} {bytes : List ℕ} {t : Table} (v : IsText 
         grown = g.grown;
         now = record {
           change = g.change;
-          gaps = λ same. subst (λ (c : Cut). KeepsGaps old c) (sym (grown-keeps g same)) (gaps-refl old);
+          gaps = g.gaps;
           text = g.stands;
         };
       }

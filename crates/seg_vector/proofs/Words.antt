@@ -32,7 +32,7 @@ pub use Rattle.seg_vector.specs.Elements.{IsGivenBack, IsFitted, Erases, Extends
 pub use Rattle.seg_vector.specs.Elements.{Overwrites, PutsAt, ReadsOne, Truncates}
 pub use Rattle.seg_vector.specs.Standing.{IsOwnBlock, Stands, place_at, IsGrown, Grows, IsStanding}
 pub use Rattle.seg_vector.specs.TextLists.{AreLaid, AreLaidUpTo, AreLaidOut, AreNotLaidOut}
-pub use Rattle.seg_vector.specs.TextParts.{AreHeldElements, IsHeldElement, IsSameElement, AreEvenLinks, IsAdopted}
+pub use Rattle.seg_vector.specs.TextParts.{AreReleased, AreHeldElements, IsHeldElement, IsSameElement, AreEvenLinks, IsAdopted}
 pub use Rattle.seg_vector.specs.TextParts.{IsAsked, taken, widened, IsReady, IsPutAsked, IsPutReady, room_of}
 pub use Rattle.seg_vector.specs.TextParts.{IsRefusedPut, PutsInto, IsPointed, IsSwapped, AreSameElements, IsServed}
 pub use Rattle.seg_vector.specs.TextsCalls.{AreOthers, placed_text, placed_texts, text_blocks, with_text, all_texts}

@@ -1,6 +1,6 @@
 -- The elements of a container that stands at a place: read, written over, and fewer or more of them in the places that
 -- there are.
-use Rattle.std.specs.Prelude.{◌≡◌, ℕ, ◌+◌, ◌-◌, ◌*◌, ◌<◌, ◌≤◌, List, [], ◌++◌, take, drop, option_to_list}
+use Rattle.std.specs.Prelude.{◌≡◌, ℕ, ◌+◌, ◌-◌, ◌*◌, ◌<◌, ◌≤◌, None, List, [], ◌++◌, take, drop, option_to_list}
 use Rattle.raw_region.specs.{Memory.Cut, Memory.part, Memory.patched, Format.current}
 use Rattle.best_fit.specs.{Exchange.IsExchanged, Heap.KeepsGaps, Heap.live_of}
 use Rattle.best_fit.specs.Table.{Table, cut_table, no_table}
@@ -72,7 +72,7 @@ PutsAt old new p each (Before i) more = Inserts old new p each i more
 -- the container has no place, and its storage is given back; without storage no byte of a gap changes
 pub record IsGivenBack (old new : Cut) (p : Place) (each : ℕ) (t : Table) : Type 0 where
   pub change : IsExchanged current old new (place_at p) 24 (option_to_list t.extent) []
-  pub gaps : t ≡ no_table → KeepsGaps old new
+  pub gaps : t.extent ≡ None → KeepsGaps old new
   pub stands : Stands new.bytes p each 0 no_table []
 
 abbrev pub GivesBack : Cut → Cut → Place → ℕ → Type 0
@@ -80,11 +80,11 @@ GivesBack old new p each = (len : ℕ) (t : Table) (bytes : List ℕ) → Stands
     → IsGivenBack old new p each t
 
 -- the container has as many places as elements: its storage is shortened, or given back where there is no element;
--- where it stays as it is, no byte of a gap changes
+-- where the block stays as it is, no byte of a gap changes
 pub record IsFitted (old new : Cut) (p : Place) (each len : ℕ) (t : Table) (bytes : List ℕ) : Type 0 where
   pub change : IsExchanged current old new (place_at p) 24 (option_to_list t.extent)
       (option_to_list (cut_table (live_of old.bytes) each len t).extent)
-  pub gaps : t ≡ cut_table (live_of old.bytes) each len t → KeepsGaps old new
+  pub gaps : t.extent ≡ (cut_table (live_of old.bytes) each len t).extent → KeepsGaps old new
   pub stands : Stands new.bytes p each len (cut_table (live_of old.bytes) each len t) bytes
 
 abbrev pub Fits : Cut → Cut → Place → ℕ → Type 0

@@ -4,7 +4,8 @@ use Rattle.std.specs.Prelude.{length, option_to_list}
 use Rattle.raw_region.specs.{Memory.Cut, Memory.bytes_of, Memory.word_at, Format.current}
 use Rattle.block_tags.specs.declared.tile.Role.TheVariants.{Storage}
 use Rattle.best_fit.specs.{Exchange.IsExchanged, Extents.Extent, Extents.LiveSet, Extents.handle}
-use Rattle.best_fit.specs.{Heap.IsHeap, Heap.extent_at, Heap.has_room, Heap.live_of, Table.Table, Table.is_table}
+use Rattle.best_fit.specs.Heap.{IsHeap, KeepsGaps, extent_at, has_room, live_of}
+use Rattle.best_fit.specs.Table.{Table, is_table}
 use Rattle.seg_types.specs.{declared.refusals.Refusal.Refusal, declared.refusals.Refusal.TheVariants.NoSpace}
 use Rattle.seg_vector.specs.declared.places.Place.{Place}
 use Rattle.seg_vector.specs.Vector.{IsContainerAt, capacity_for_one, grown_table}
@@ -39,12 +40,13 @@ pub record Stands (b : List ℕ) (p : Place) (each len : ℕ) (t : Table) (bytes
 abbrev pub IsStanding : List ℕ → Place → ℕ → Type 0
 IsStanding b p each = (len : ℕ) × ((t : Table) × ((bytes : List ℕ) × Stands b p each len t bytes))
 
--- the same container with n places, or more; of all blocks that stay no byte changes but its own 24, and nothing does
--- where it had them
+-- the same container with n places, or more; of all blocks that stay no byte changes but its own 24, of gaps none where
+-- its storage is the block that it was, and nothing does where it had them
 pub record IsGrown (old new : Cut) (p : Place) (each n len : ℕ) (t : Table) (bytes : List ℕ) : Type 0 where
   pub table : Table
   pub grown : grown_table (live_of old.bytes) each n t ≡ Some table
   pub change : IsExchanged current old new (place_at p) 24 (option_to_list t.extent) (option_to_list table.extent)
+  pub gaps : t.extent ≡ table.extent → KeepsGaps old new
   pub stands : Stands new.bytes p each len table bytes
   pub enough : n ≤ t.capacity → new ≡ old
 

@@ -16,10 +16,10 @@ abbrev pub IsSomeText : List ℕ → Place → Type 0
 IsSomeText b p = (bytes : List ℕ) × ((t : Table) × IsText b p bytes t)
 
 -- The text with these bytes and this storage is in the place of the one with that storage. Of all blocks that stay no
--- byte changes but its own 24, and of gaps none where the storage is the one before.
+-- byte changes but its own 24, and of gaps none where the storage is the block that it was.
 pub record IsTextNow (old new : Cut) (p : Place) (t : Table) (bytes : List ℕ) (u : Table) : Type 0 where
   pub change : IsExchanged current old new (place_at p) 24 (option_to_list t.extent) (option_to_list u.extent)
-  pub gaps : t ≡ u → KeepsGaps old new
+  pub gaps : t.extent ≡ u.extent → KeepsGaps old new
   pub text : IsText new.bytes p bytes u
 
 -- it has n places, or more

@@ -6,7 +6,7 @@ use Rattle.raw_region.specs.{Memory.Memory, Memory.Cut, Memory.bytes_of, Memory.
 use Rattle.offset_link.specs.Link.{link_at}
 use Rattle.best_fit.specs.{Exchange.IsExchanged, Exchange.IsRestored, Exchange.IsWidened, Fit.place, Fit.regrow}
 use Rattle.best_fit.specs.{Extents.Extent, Extents.handle, Table.Table, Table.is_table, Table.serves}
-use Rattle.best_fit.specs.Heap.{IsAllocated, IsChanged, IsHeap, SameBlock, extent_at, has_room, live_of}
+use Rattle.best_fit.specs.Heap.{IsAllocated, IsChanged, IsHeap, KeepsGaps, SameBlock, extent_at, has_room, live_of}
 use Rattle.block_tags.specs.declared.tile.Role.TheVariants.{Storage}
 use Rattle.seg_types.specs.{declared.refusals.Refusal.Refusal, declared.refusals.Refusal.TheVariants.NoSpace}
 use Rattle.seg_vector.specs.{declared.places.Place.Place, Standing.place_at}
@@ -17,6 +17,11 @@ use Rattle.seg_vector.specs.TextsCalls.{one_more, placed_text, text_blocks}
 -- blocks are gone and others came, and nothing in those that stay changes
 abbrev pub IsSwapped : Cut → Cut → List Extent → List Extent → Type 0
 IsSwapped old new gone come = IsExchanged current old new 0 0 gone come
+
+-- these blocks are gone, and nothing in those that stay changes; where there are none, nothing does
+pub record AreReleased (old new : Cut) (xs : List Extent) : Type 0 where
+  pub change : IsSwapped old new xs []
+  pub same : xs ≡ [] → new ≡ old
 
 -- each of these is in use
 abbrev pub AreLive : List ℕ → List Extent → Type 0
@@ -107,13 +112,14 @@ IsServed q = elim q.extent [
   | Some x ↦ (0 < length q.bytes) × IsTrue (serves x Storage (length q.bytes))
 ]
 
--- a block was taken into use, and the text stands in it
+-- a block was taken into use, and the text stands in it; an empty one needs none, and nothing changes
 pub record IsTextPlaced (old new : Cut) (bytes : List ℕ) (block : Option ℕ) : Type 0 where
   pub text : OwnedText
   pub placed : placed_text (live_of old.bytes) bytes ≡ Some text
   pub same : text.bytes ≡ bytes
   pub at : block ≡ option_map handle text.extent
   pub change : IsSwapped old new [] (option_to_list text.extent)
+  pub nothing : text.extent ≡ None → new ≡ old
   pub owned : IsOwnedText (bytes_of new.bytes) text
   pub served : IsServed text
 
@@ -153,9 +159,10 @@ pub record IsReady (now : Cut) (p : Place) (g n : ℕ) : Type 0 where
   pub more : t.capacity < n
   pub asked : IsAsked first mid t.extent (16 * n) g
   pub since : IsSwapped mid now [] loose
+  pub still : loose ≡ [] → now ≡ mid
 
 -- The vector has the array that was asked for, with n places. Its elements are the same, and the blocks taken since
--- stay.
+-- stay. No byte of a gap changed where the array is the block that it was, and no other one was taken.
 pub record IsAdopted (first old new : Cut) (p : Place) (ps : List OwnedText) (t : Table) (g n : ℕ)
     (loose : List Extent) : Type 0 where
   pub array : Extent
@@ -163,6 +170,7 @@ pub record IsAdopted (first old new : Cut) (p : Place) (ps : List OwnedText) (t 
   pub grown : grown_table (live_of first.bytes) 16 n t ≡ Some (record { capacity = n; extent = Some array })
   pub serves : IsTrue (serves array Storage (16 * n))
   pub change : IsExchanged current first new (place_at p) 24 (option_to_list t.extent) (array ∷ loose)
+  pub gaps : option_to_list t.extent ≡ array ∷ loose → KeepsGaps first new
   pub link : link_at (bytes_of new.bytes) (place_at p) ≡ Some g
   pub len_word : word_at (bytes_of new.bytes) (place_at p + 8) ≡ length ps
   pub capacity : word_at (bytes_of new.bytes) (place_at p + 16) ≡ n
@@ -182,6 +190,7 @@ pub record IsPutReady (first now : Cut) (p : Place) (ps : List OwnedText) (t : T
   pub table : IsTrue (is_table Storage 16 (record { capacity = m; extent = Some y }))
   pub space : length ps < m
   pub change : IsExchanged current first now (place_at p) 24 (option_to_list t.extent) (y ∷ option_to_list z.extent)
+  pub gaps : option_to_list t.extent ≡ y ∷ option_to_list z.extent → KeepsGaps first now
   pub link : link_at (bytes_of now.bytes) (place_at p) ≡ Some (handle y)
   pub len_word : word_at (bytes_of now.bytes) (place_at p + 8) ≡ length ps
   pub capacity : word_at (bytes_of now.bytes) (place_at p + 16) ≡ m

@@ -9,7 +9,8 @@ use Rattle.raw_region.specs.{Memory.Cut, Memory.bytes_of, Memory.word_at, Format
 use Rattle.block_tags.specs.declared.tile.Role.TheVariants.{Storage}
 use Rattle.offset_link.specs.Link.{link_at}
 use Rattle.best_fit.specs.{Exchange.IsExchanged, Exchange.IsRestored, Extents.Extent, Extents.LiveSet, Extents.handle}
-use Rattle.best_fit.specs.{Fit.place, Fit.resized, Heap.IsHeap, Heap.extent_at, Heap.has_room, Heap.live_of}
+use Rattle.best_fit.specs.{Fit.place, Fit.resized}
+use Rattle.best_fit.specs.Heap.{IsHeap, KeepsGaps, extent_at, has_room, live_of}
 use Rattle.best_fit.specs.Table.{Table, cut_table, is_table, no_table, serves}
 use Rattle.seg_types.specs.{declared.refusals.Refusal.Refusal, declared.refusals.Refusal.TheVariants.NoSpace}
 use Rattle.seg_vector.specs.{declared.places.Place.Place, Standing.IsOwnBlock, Standing.place_at, VectorCalls.IsOutside}
@@ -49,10 +50,12 @@ abbrev pub IsSomeTexts : List ℕ → Place → Type 0
 IsSomeTexts b p = (ps : List OwnedText) × ((t : Table) × IsTexts b p ps t)
 
 -- The vector has these texts and this array. Some blocks are gone and others came; of all blocks that stay, those of
--- the other texts among them, no byte changes but its own 24.
+-- the other texts among them, no byte changes but its own 24, and of gaps none where the blocks are those that they
+-- were.
 pub record IsTextsNow (old new : Cut) (p : Place) (gone come : List Extent) (ps : List OwnedText)
     (t : Table) : Type 0 where
   pub change : IsExchanged current old new (place_at p) 24 gone come
+  pub gaps : gone ≡ come → KeepsGaps old new
   pub texts : IsTexts new.bytes p ps t
 
 -- ---- what is asked for

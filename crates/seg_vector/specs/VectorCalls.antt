@@ -20,11 +20,11 @@ abbrev pub IsSomeVector : {T : Type 0} → ℕ → (T → Bool) → (T → List 
 IsSomeVector {T} size is_value spelling b p = (xs : List T) × ((t : Table) × IsVector size is_value spelling b p xs t)
 
 -- The vector with these elements and this storage is in the place of the one with that storage. Of all blocks that stay
--- no byte changes but its own 24, and of gaps none where the storage is the one before.
+-- no byte changes but its own 24, and of gaps none where the storage is the block that it was.
 pub record IsVectorNow {T : Type 0} (size : ℕ) (is_value : T → Bool) (spelling : T → List ℕ) (old new : Cut) (p : Place)
     (t : Table) (ys : List T) (u : Table) : Type 0 where
   pub change : IsExchanged current old new (place_at p) 24 (option_to_list t.extent) (option_to_list u.extent)
-  pub gaps : t ≡ u → KeepsGaps old new
+  pub gaps : t.extent ≡ u.extent → KeepsGaps old new
   pub vector : IsVector size is_value spelling new.bytes p ys u
 
 -- it has n places, or more

@@ -1,9 +1,9 @@
 //! The blocks of the texts of a vector, and those of other texts: these are laid out while those that they replace are
 //! in use.
-ghost use Rattle.std.specs.Prelude.{◌*◌, ◌<◌, IsTrue, List, [], length, map, option_to_list};
+ghost use Rattle.std.specs.Prelude.{◌*◌, ◌<◌, IsTrue, List, length, map, option_to_list};
 ghost use Rattle.raw_region.specs.Format.{current};
 ghost use Rattle.best_fit.specs.Heap.{IsHeap, has_room, live_of};
-ghost use Rattle.seg_vector.specs.TextParts.{AreHeldElements, IsHeldElement, IsSwapped, PlacesText, TakesStorage};
+ghost use Rattle.seg_vector.specs.TextParts.{AreHeldElements, AreReleased, IsHeldElement, PlacesText, TakesStorage};
 ghost use Rattle.seg_vector.specs.{TextLists.LaysOut, TextLists.LaysTexts, TextsCalls.text_blocks, Vector.OwnedText};
 
 use crate::places::ELEMENT;
@@ -42,7 +42,7 @@ pub fn place_text(heap: &mut Heap, text: &[u8]) -> Result<Option<u64>, Refusal>
 pub fn release_text(heap: &mut Heap, array: u64, at: u64)
     requires { (q : OwnedText) × IsHeldElement heap.old.bytes array at q }
     ensures { (q : OwnedText) → IsHeldElement heap.old.bytes array at q
-        → IsSwapped heap.old heap.new (option_to_list q.extent) [] }
+        → AreReleased heap.old heap.new (option_to_list q.extent) }
 {
     if let Some(text) = heap.link(array, at) {
         heap.deallocate(text, &mut Steps::new());
@@ -53,7 +53,7 @@ pub fn release_text(heap: &mut Heap, array: u64, at: u64)
 pub fn release_texts(heap: &mut Heap, array: u64, n: u64)
     requires { (ps : List OwnedText) × AreHeldElements heap.old.bytes array n ps }
     ensures { (ps : List OwnedText) → AreHeldElements heap.old.bytes array n ps
-        → IsSwapped heap.old heap.new (text_blocks ps) [] }
+        → AreReleased heap.old heap.new (text_blocks ps) }
 {
     for i in 0..n {
         release_text(heap, array, ELEMENT * i);

@@ -5,9 +5,10 @@ use Rattle.raw_region.specs.Memory.{SameBut, bytes_of}
 use Rattle.seg_types.specs.declared.kinds.ScalarKind.{ScalarKind}
 use Rattle.seg_types.specs.Kinds.{size_of}
 use Rattle.seg_types.specs.Names.{Key}
-use Rattle.seg_map.specs.Map.{pair_at}
+use Rattle.seg_map.specs.{Map.pair_at, Numbers.NumberPair}
+use Rattle.best_fit.specs.Extents.{handle}
 use Rattle.segment_manager.specs.containers.Contents.{sizes_at}
-use Rattle.best_fit.specs.Table.{Table}
+use Rattle.best_fit.specs.{Heap.KeepsGaps, Heap.live_of, Table.Table}
 use Rattle.seg_vector.specs.declared.places.Place.{Place}
 use Rattle.seg_vector.specs.{TextsCalls.new_array, TextsCalls.placed_text}
 use Rattle.seg_vector.specs.Vector.{OwnedText, capacity_for_one, grown_table}
@@ -59,3 +60,13 @@ abbrev pub ChangesElement : State → State → Key → ScalarKind → ℕ → T
 ChangesElement old new key k i = (d : Directory) → StandsFor old.cut.bytes d
     → IfOk (place_at d key k i) (λ (p : Place).
     SameBut (bytes_of old.cut.bytes) (bytes_of new.cut.bytes) (p.handle + p.at) (size_of k))
+
+-- where the same blocks are in use, no byte of a gap changes
+abbrev pub KeepsUnused : State → State → Type 0
+KeepsUnused old new = live_of new.cut.bytes ≡ live_of old.cut.bytes → KeepsGaps old.cut new.cut
+
+-- where the map of the key has such a key, no byte changes but those of its value
+abbrev pub ChangesValue : State → State → Key → ScalarKind → ℤ → ScalarKind → Type 0
+ChangesValue old new key k x v = (d : Directory) → StandsFor old.cut.bytes d → (p : NumberPair)
+    → pair_at int_lt (pairs_at d key) x ≡ Some p
+    → SameBut (bytes_of old.cut.bytes) (bytes_of new.cut.bytes) (handle p.node + 16 + size_of k) (size_of v)

@@ -21,7 +21,7 @@ use raw_region::Window;
 impl Heap {
     /// The heap of a window that has blocks and gaps, and no tree of the gaps: the tree is written into the gaps, and
     /// the link to it into the word at 24. The window has a legal size and good tags, and no gap is red. What the word
-    /// at 24 and the gaps held is lost, and all else stays.
+    /// at 24 and the links of the gaps held is lost, and all else stays.
     pub fn rebuild(window: Window) -> Heap
         requires size { IsTrue (is_legal_size (length window.bytes)) }
         requires tags { IsTrue (has_tags 0 (bytes_of window.bytes) (length window.bytes)) }

@@ -5,10 +5,11 @@ use Rattle.segment_manager.proofs.Common.{Plain, Refusal, NotFound, Key, MapPlac
 use Rattle.segment_manager.proofs.Common.{container_at, sizes_of, Object, Directory, object_at, HasPlaces, KeepsWhere}
 use Rattle.segment_manager.proofs.Common.{map_at, Answers, State, StandsFor, pairs_of, Change, HasEnough, Reserve}
 use Rattle.segment_manager.proofs.containers.TextsHeld.{HoldsTexts, holds-texts}
-use Rattle.segment_manager.proofs.containers.PairNumbers.{IsScalarOf, erases-numbers}
+use Rattle.segment_manager.proofs.containers.PairNumbers.{IsScalarOf, erases-numbers, puts-numbers}
 use Rattle.segment_manager.proofs.containers.MapCalls.{HoldsPairs, holds-pairs}
 use Rattle.segment_manager.proofs.containers.ToChange.{seen-found}
-use Rattle.segment_manager.specs.{containers.Stored.ChangesTexts, Keeping.LacksPair}
+use Rattle.segment_manager.proofs.{Common.Puts, Common.refl}
+use Rattle.segment_manager.specs.{containers.Stored.ChangesTexts, Keeping.ChangesValue, Keeping.LacksPair}
 
 -- the window is as it was, and so is the segment
 pub keeps-cut : (s t : State) (view : s ≡ t) (new : Cut) (P : Directory → Type 0)
@@ -65,3 +66,27 @@ map-kept {k = k} {v = v} {kp = kp} {vp = vp} {kw = kw} kl vl s t view key p q sa
     ∙ ap pairs_of h.known.value in
     (none-erased _ _ (pair_at int_lt h.pairs (kw x)) (sym (ap (λ ps. pair_at int_lt ps (kw x)) pairs) ∙ lacks)
     (erases-numbers kl vl s.cut new q.handle q.at x r each h.pairs h.map)).1)
+
+pair-written : (P : Type 0) (Q : NumberPair → Type 0) (o : Option NumberPair) (p : NumberPair) → o ≡ Some p
+    → MatchOption o P Q → Q p
+pair-written P Q None p e m = absurd (none-some p e)
+pair-written P Q (Some q) p e m = let same : q ≡ p = cc in subst Q same m
+
+pub map-again : {K V E : Type 0} {k v : ScalarKind} {kp : Plain K} {vp : Plain V} {kw : K → ℤ} {vw : V → ℤ}
+    → IsScalarOf k kp kw → IsScalarOf v vp vw → (s t : State) (view : s ≡ t) (key : Key) (p q : MapPlace) → q ≡ p
+    → Answers t (λ d. map_at d key k v) (Ok p) → (new : Cut) (x : K) (y : V) (r : Result Bool E)
+    → Puts kp vp s.cut new q.handle q.at x y r → ChangesValue t (record s { cut = new }) key k (kw x) v
+map-again {k = k} {v = v} {kw = kw} kl vl s t view key p q same found new x y r each =
+    let there : Answers s (λ d. map_at d key k v) (Ok q) = subst (λ (q : MapPlace). Answers s (λ d. map_at d key k v)
+    (Ok q)) (sym same) (subst (λ (u : State). Answers u (λ d. map_at d key k v) (Ok p)) (sym view) found) in
+    subst (λ (u : State). ChangesValue u (record s { cut = new }) key k (kw x) v) view (λ d l pair has.
+    let h : HoldsPairs s.cut.bytes d key k v q = holds-pairs s.cut.bytes d key k v q l.denotes (there.answers d l) in
+    let pairs : (elim (object_at d key) as (λ _. List NumberPair) [ None ↦ [] | Some o ↦ pairs_of o.value ]) ≡ h.pairs =
+    ap (λ (o : Option Object). elim o as (λ _. List NumberPair) [ None ↦ [] | Some o ↦ pairs_of o.value ]) h.is
+    ∙ ap pairs_of h.known.value in
+    (pair-written _ _ (pair_at int_lt h.pairs (kw x)) pair (sym (ap (λ ps. pair_at int_lt ps (kw x)) pairs) ∙ has)
+    (puts-numbers kl vl s.cut new q.handle q.at x y r each h.pairs h.map)).1.change.rest)
+
+-- where nothing changes
+pub same-again : (s : State) (key : Key) (k : ScalarKind) (x : ℤ) (v : ScalarKind) → ChangesValue s s key k x v
+same-again s key k x v d l p has = record { at = λ j f. refl }

@@ -4,7 +4,9 @@ use common.{NoSpace, OutOfRange, ◌⊎◌, inl, inr, IsStep, is_read_only, ◌�
 use common.{false, Option, Some, None, Result, Ok, Err, length, if◌then◌else◌, OnErr, eq-eqb, ne_eqb, Cut, handle, Kind}
 use common.{Refusal, NotFound, WrongKind, code_of, same_kind, Key, Command, Place, Head, Answer, Done, Refused}
 use common.{container_at, container_place, place_of_kind, Object, kind_of, padded, handle_at, head_len, IsHeadOf}
-use common.{StandsAt, Answers, IsSegment, IsStepOfKind, State, AnswersSafely, StepsSafely}
+use common.{StandsAt, Answers, IsSegment, IsStepOfKind, State, AnswersSafely, StepsSafely, MatchResult, live_of}
+use Rattle.best_fit.proofs.Laws.{gaps-refl}
+use Rattle.best_fit.specs.Heap.{KeepsGaps}
 use Rattle.segment_manager.proofs.Steps.{step-segment, step_of_kind-segment}
 use Rattle.segment_manager.proofs.objects.Here.{IsHere, here, seen-handle}
 
@@ -81,6 +83,21 @@ stepped s t view b new c answer may each =
       step = subst (λ (u : State). IsStep u (record s { cut = new }) c answer) view done;
       segment = step-segment s (record s { cut = new }) c answer done b;
     }
+
+-- ---- the gaps
+
+-- what a call does to them where it is done, and where it is refused nothing changes
+pub kept-gaps : {R : Type 0} {P : R → Type 0} {F : Refusal → Type 0} {s t : State} (view : s ≡ t) {new : Cut}
+    (r : Result R Refusal) → MatchResult r P F → ((x : R) → P x → KeepsGaps s.cut new)
+    → ((e : Refusal) → F e → new ≡ s.cut) → KeepsGaps t.cut new
+kept-gaps view {new} (Ok x) m f g = subst (λ (u : State). KeepsGaps u.cut new) view (f x m)
+kept-gaps {s = s} view {new} (Err e) m f g = subst (λ (u : State). KeepsGaps u.cut new) view
+    (subst (KeepsGaps s.cut) (sym (g e m)) (gaps-refl s.cut))
+
+-- the same blocks are in use, as the view names the segment
+pub same-live : {s t : State} (view : s ≡ t) {new : Cut} → live_of new.bytes ≡ live_of t.cut.bytes
+    → live_of new.bytes ≡ live_of s.cut.bytes
+same-live view e = e ∙ sym (ap (λ (u : State). live_of u.cut.bytes) view)
 
 -- ---- the search
 

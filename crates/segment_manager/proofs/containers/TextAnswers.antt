@@ -11,7 +11,10 @@ use common.{changed, is_read_only, Command, StepsSafely, done_answer}
 use Rattle.segment_manager.proofs.containers.ContentPlans.{append-plan, byte-plan, set_byte-plan, text-plan}
 use Rattle.segment_manager.proofs.containers.ItemSteps.{HoldsItems, ListedNow, items-stay, one-kind, so-too, some-items}
 use Rattle.segment_manager.proofs.containers.ItemSteps.{ListedGrown, Listing, changes-safely, grows-safely, holds-items}
-use Rattle.segment_manager.proofs.containers.Safely.{Answered, answered}
+use Rattle.segment_manager.proofs.containers.Safely.{Answered, answered, kept-gaps, same-live}
+use Rattle.best_fit.specs.Heap.{KeepsGaps}
+use Rattle.seg_vector.proofs.Laws.{same-extents}
+use Rattle.segment_manager.proofs.{Common.live_of}
 use Rattle.segment_manager.proofs.{Steps.open-reading, objects.Stored.literal-read, containers.ToChange.seen-found}
 use Rattle.raw_region.proofs.Facts.{first, second}
 use Rattle.std.proofs.Common.{Fits, w8}
@@ -136,6 +139,32 @@ module _ {s t : State} (view : s ≡ t) (b : IsSegment s.cut.bytes) {key : Key} 
   seen : {c : Command} {r : Result (Unit {0}) Refusal} → StepsSafely s new key String c r
       → Answered done_answer s t new key String c r
   seen done = answered s t view b new key String _ _ done
+
+  -- ---- the gaps
+
+  here-texts : HoldsItems texts s.cut.bytes b.0 key p
+  here-texts = some-items texts s key p b found
+
+  grown-gaps : {n : ℕ} {ys : List ℕ} → IsTextGrown s.cut new p here-texts.table n ys
+      → live_of new.bytes ≡ live_of s.cut.bytes → KeepsGaps s.cut new
+  grown-gaps g e = g.now.gaps (same-extents p.handle here-texts.table.extent g.table.extent here-texts.stands.heap
+      here-texts.stands.own g.now.change e)
+
+  pub set_byte-gaps : (i x : ℕ) (r : Result (Unit {0}) Refusal) → SetsByte s.cut new p i x r → KeepsGaps t.cut new
+  set_byte-gaps i x r a = kept-gaps view r (a here-texts.items here-texts.table here-texts.stands)
+      (λ u m. m.1.gaps refl) (λ e m. m.same)
+
+  pub append-gaps : (more : List ℕ) (r : Result (Unit {0}) Refusal) → AppendsText s.cut new p more r
+      → live_of new.bytes ≡ live_of t.cut.bytes → KeepsGaps t.cut new
+  append-gaps more r a e = kept-gaps view r (a here-texts.items here-texts.table here-texts.stands)
+      (λ u g. grown-gaps g (same-live view e)) (λ e m. m.same)
+
+  pub assign_text-gaps : (more : List ℕ) (r : Result (Unit {0}) Refusal) → AssignsText s.cut new p more r
+      → live_of new.bytes ≡ live_of t.cut.bytes → KeepsGaps t.cut new
+  assign_text-gaps more r a e = kept-gaps view r (a here-texts.items here-texts.table here-texts.stands)
+      (λ u g. grown-gaps g (same-live view e)) (λ e m. m.same)
+
+  -- ---- the steps
 
   pub text-appended : (more : List ℕ) (r : Result (Unit {0}) Refusal) → ((k : ℕ) → Fits w8 (get_or more k 0))
       → AppendsText s.cut new p more r → Answered done_answer s t new key String (Append key more) r

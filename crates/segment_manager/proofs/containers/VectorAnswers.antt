@@ -9,7 +9,10 @@ use common.{None, Some, arith, false, refl, subst, take, Table, Place, Value, Re
 use common.{slice_get-get_or, slice_get-map, slice_get_past, value_of_literal, capacity_for_one, IsWithoutSpace, ℕ}
 use common.{IsSomeVector, IsVectorGrown, container_at, is_good_value, with_capacity, IsStepOfKind, AnswersSafely, ℤ}
 use common.{list_all, flat_map, size_of, Refusal, NoSpace, Assigns, Element, Refused, Elements, kind_of, perform}
-use Rattle.segment_manager.proofs.containers.Safely.{pick-outside, pick-space, Answered, answered, done-so}
+use Rattle.segment_manager.proofs.containers.Safely.{pick-outside, pick-space, Answered, answered, done-so, kept-gaps}
+use Rattle.segment_manager.proofs.{containers.Safely.same-live, Common.live_of}
+use Rattle.best_fit.specs.Heap.{KeepsGaps}
+use Rattle.seg_vector.proofs.Laws.{same-extents}
 use Rattle.segment_manager.proofs.containers.ContentPlans.{assign-plan, erase-plan, get-plan, insert-plan, pop-plan}
 use Rattle.segment_manager.proofs.containers.ContentPlans.{push-plan, set-plan}
 use Rattle.segment_manager.proofs.containers.ItemSteps.{HoldsItems, ListedGrown, ListedNow, Listing, changes-safely}
@@ -88,6 +91,42 @@ module _ {T : Type 0} {k : ScalarKind} {w : T → ℤ} {size : ℕ} {test : T �
 
     behind : (xs : List T) (i : ℕ) → length xs ≤ i → slice_get (map w xs) i ≡ None
     behind xs i h = slice_get_past (map w xs) i (subst (λ (n : ℕ). n ≤ i) (sym (length-map xs w)) h)
+
+    -- ---- the gaps
+
+    -- those that stay with the block of the storage
+    grown-gaps : {new : Cut} {n : ℕ} {ys : List T} → IsVectorGrown size test sp s.cut new p some.table n ys
+        → live_of new.bytes ≡ live_of s.cut.bytes → KeepsGaps s.cut new
+    grown-gaps g e = g.now.gaps (same-extents p.handle some.table.extent g.table.extent some.stands.heap
+        some.stands.own g.now.change e)
+
+    pub set-gaps : {new : Cut} (i : ℕ) (x : T) (r : Result (Unit {0}) Refusal) → Sets size test sp s.cut new p i x r
+        → KeepsGaps t.cut new
+    set-gaps i x r a = kept-gaps view r (a some.items some.table (vector b.0 some)) (λ u m. m.1.gaps refl)
+        (λ e m. m.same)
+
+    pub erase-gaps : {new : Cut} (i : ℕ) (r : Result (Unit {0}) Refusal) → ErasesFrom size test sp s.cut new p i r
+        → KeepsGaps t.cut new
+    erase-gaps i r a = kept-gaps view r (a some.items some.table (vector b.0 some)) (λ u m. m.1.gaps refl)
+        (λ e m. m.same)
+
+    pub pop-gaps : {new : Cut} (r : Result T Refusal) → Pops size test sp s.cut new p r → KeepsGaps t.cut new
+    pop-gaps r a = kept-gaps view r (a some.items some.table (vector b.0 some)) (λ u m. m.1.gaps refl) (λ e m. m.same)
+
+    pub push-gaps : {new : Cut} (x : T) (r : Result (Unit {0}) Refusal) → Pushes size test sp s.cut new p x r
+        → live_of new.bytes ≡ live_of t.cut.bytes → KeepsGaps t.cut new
+    push-gaps x r a e = kept-gaps view r (a some.items some.table (vector b.0 some))
+        (λ u g. grown-gaps g (same-live view e)) (λ e m. m.same)
+
+    pub insert-gaps : {new : Cut} (i : ℕ) (x : T) (r : Result (Unit {0}) Refusal) → InsertsInto size test sp s.cut new p
+        i x r → live_of new.bytes ≡ live_of t.cut.bytes → KeepsGaps t.cut new
+    insert-gaps i x r a e = kept-gaps view r (a some.items some.table (vector b.0 some))
+        (λ u g. grown-gaps g.1 (same-live view e)) (λ e m. elim m [ inl o ↦ o.same | inr o ↦ o.1.same ])
+
+    pub assign-gaps : {new : Cut} (ys : List T) (r : Result (Unit {0}) Refusal) → Assigns size test sp s.cut new p ys r
+        → live_of new.bytes ≡ live_of t.cut.bytes → KeepsGaps t.cut new
+    assign-gaps ys r a e = kept-gaps view r (a some.items some.table (vector b.0 some))
+        (λ u g. grown-gaps g (same-live view e)) (λ e m. m.same)
 
     -- ---- one value
 

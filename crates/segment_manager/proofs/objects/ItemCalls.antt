@@ -8,6 +8,9 @@ use common.{false, NewEntry, list_all, take_all, Anonymous, ReadOnly, is_value, 
 use common.{Refusal, NoSpace, Command, Refused, current, resized, size_of, IsBegun, IsLoose, Denotes, Numbers, has_room}
 use common.{IsNotBegun, length-map, ObjectRole, ScalarKind, OutOfRange, IsTakenKey, LeadsThere, object_len, with_object}
 use common.{is_read_only, with_new_object, if◌then◌else◌, mul-le-mul_left, length-replicate, IsAllocated, is_good_value}
+use common.{inl, inr, option_map, Mode, Answers, StandsAt, handle_at, pair_of_kind, with_count, Index, Kind}
+use common.{IsAbsentAt, IsNewKeyOf, Write}
+use Rattle.seg_index.specs.declared.keys.Key.{Key}
 use Rattle.segment_manager.proofs.Steps.{step-segment, perform-new, refuses-read_only, by_no_change, by_step, lands}
 use Rattle.segment_manager.proofs.objects.Constructed.{IsMet, IsNewObject, numbers-met, restored-denotes, IsNoObject}
 use Rattle.segment_manager.proofs.objects.NewValues.{away-in, value-built, value-ready, no_key-none}
@@ -16,9 +19,10 @@ use Rattle.segment_manager.proofs.objects.ArrayItems.{by-items, from-items}
 use Rattle.segment_manager.proofs.{Steps.open-writing, objects.FoundOrMade.made_handle, objects.NewNumbers.numbers-made}
 use Rattle.segment_manager.proofs.{Steps.step-plan, objects.MadeValues.headed-change}
 use Rattle.segment_manager.proofs.{Steps.step-refuse, objects.Loose.begun-room, objects.NewKeys.key-seeks}
-use Rattle.segment_manager.proofs.{objects.FoundOrMade.makes, indexes.Bridge.lookup-absent}
+use Rattle.segment_manager.proofs.{objects.FoundOrMade.makes, objects.Here.here, indexes.Bridge.lookup-absent}
 use Rattle.segment_manager.proofs.{objects.NewKeys.numbers-value, Calling.denotes-live}
 use Rattle.segment_manager.specs.objects.Begun.{Ends, IsEnding, Fills}
+use Rattle.segment_manager.specs.objects.Items.{FindsOrTakes, FindsOrTakesIn, TakesItemsIn}
 use Rattle.segment_manager.specs.{containers.Filled.IsMadeValue, containers.Filled.numbers_shape, declared.containers.fillings.Shape.Shape}
 use Rattle.seg_types.specs.Names as names
 use Rattle.seg_types.specs.Commands as asked
@@ -266,6 +270,13 @@ module _ (S : Type 0) {A : Type 0} (gives : S → Option A → S → Type 0) (wh
   }
   takes-none why c writing low t = absurd t
 
+-- a shape of so many numbers
+pub begun-numbers : {a m : Cut} {key : names.Key} {k : ScalarKind} {count h at : ℕ} {entry : Option NewEntry}
+    {shape : Shape} → shape ≡ numbers_shape k count → IsBegun a m key shape.kind shape.count shape.len h at entry
+    → IsBegun a m key (Scalar k) count (size_of k * count) h at entry
+begun-numbers {a} {m} {key} {h = h} {at} {entry} same begun =
+    subst (λ (j : Shape). IsBegun a m key j.kind j.count j.len h at entry) same begun
+
 -- ---- the same, as the segment is named before the call, and its shape is made for it
 
 module _ (S : Type 0) {A : Type 0} (gives : S → Option A → S → Type 0) (whole : A → ℤ) {s t : State} (view : s ≡ t)
@@ -288,28 +299,90 @@ module _ (S : Type 0) {A : Type 0} (gives : S → Option A → S → Type 0) (wh
       count before before q) (sym is) (subst (λ (u : State). TakesItems gives whole u (record s { cut = c }) key k count
       before before (Err why)) view (none-taken c not))
 
-  module _ (high : count ≤ 1048576) (m : Cut) (h at : ℕ) (entry : Option NewEntry)
+  module _ (m : Cut) (h at : ℕ) (entry : Option NewEntry)
       (begun : IsBegun s.cut m key shape.kind shape.count shape.len h at entry) where
-    begun-so : IsBegun s.cut m key (Scalar k) count (size_of k * count) h at entry
-    begun-so = subst (λ (j : Shape). IsBegun s.cut m key j.kind j.count j.len h at entry) same begun
+    pub begun-so : IsBegun s.cut m key (Scalar k) count (size_of k * count) h at entry
+    begun-so = begun-numbers same begun
 
-    pub items-room : IsTrue (has_room (live_of m.bytes) h (at + size_of k * count))
-    items-room = begun-room entry s.cut m key (Scalar k) count (size_of k * count) h at begun-so
+    module _ {after : S} (c : Cut) (result : Result ℕ Refusal) (done : (old : Cut) (q : names.Key)
+        → IsSegment old.bytes → IsBegun old m q (Scalar k) count (size_of k * count) h at entry
+        → TakesItemsIn gives whole old c q k count before after result) where
+      finished : TakesItems gives whole s (record s { cut = c }) key k count before after result
+      finished = done s.cut key b begun-so s.mode writes
 
-    module _ {w : Cut} {after : S} {filled : Result (Unit {0}) Refusal}
-        (f : Fills gives whole m w k (h + at) count before after filled) where
-      pub items-ending : IsEnding w h entry filled
-      items-ending =
-          fills-ending S gives whole s b key k count writes low high before after entry filled h at begun-so f
+      pub items-segment : IsSegment c.bytes
+      items-segment = step-segment s (record s { cut = c }) _ _ finished.step b
 
-      module _ (c : Cut) (result : Result ℕ Refusal) (fin : Ends w c h entry filled result) where
-        finished : TakesItems gives whole s (record s { cut = c }) key k count before after result
-        finished = takes S gives whole s b key k count writes low high before after entry filled m w c h at result
-            begun-so f fin
+      pub items-taken : TakesItems gives whole t (record s { cut = c }) key k count before after result
+      items-taken = subst (λ (u : State). TakesItems gives whole u (record s { cut = c }) key k count before after
+          result) view finished
 
-        pub items-segment : IsSegment c.bytes
-        items-segment = step-segment s (record s { cut = c }) _ _ finished.step b
+-- ---- found, or made of items
 
-        pub items-taken : TakesItems gives whole t (record s { cut = c }) key k count before after result
-        items-taken = subst (λ (u : State). TakesItems gives whole u (record s { cut = c }) key k count before after
-            result) view finished
+module _ (S : Type 0) {A : Type 0} (gives : S → Option A → S → Type 0) (whole : A → ℤ) {a : Cut} (key : names.Key)
+    (k : ScalarKind) (count : ℕ) (before : S) where
+  -- an object has the key
+  pub found-items : {h : ℕ} {r : Result (ℕ × ℕ) Refusal} → ((mode : Mode) → Answers (record { cut = a; mode = mode })
+      (λ d. handle_at d key) (Some h)) → ((o : Object) → StandsAt a.bytes h o → r ≡ pair_of_kind o (Scalar k))
+      → FindsOrTakesIn gives whole a a key k count before before r
+  found-items {h} there each mode writing = inr (inl (record {
+    writing = writing;
+    is = record {
+      answers = λ d st.
+          let o = here a.bytes d key h st.denotes ((there mode).answers d st) in
+          ap (λ q. Some q) (each o.object o.stands)
+          ∙ sym (ap (option_map (λ (p : Object). pair_of_kind p (Scalar k))) o.is);
+    };
+    stays = record { segment = refl; items = refl };
+  }))
+
+  -- none has: one is made, or refused
+  pub made-items_or_none : {c : Cut} {after : S} (r : Result ℕ Refusal) → ((d : Directory) → StandsFor a.bytes d
+      → object_at d key ≡ None) → TakesItemsIn gives whole a c key k count before after r
+      → FindsOrTakesIn gives whole a c key k count before after (with_count count r)
+  made-items_or_none (Ok h) none done mode writing =
+      inr (inr (record { writing = writing; missing = none; takes = done mode writing; counted = refl }))
+  made-items_or_none (Err why) none done mode writing =
+      inr (inr (record { writing = writing; missing = none; takes = done mode writing; counted = tt }))
+
+  -- it is not begun, with a shape of so many numbers
+  pub none-items : {c : Cut} {shape : Shape} {j : ScalarKind} {why : Refusal} → shape ≡ numbers_shape j count → j ≡ k
+      → 1 ≤ count → IsNotBegun a c key shape.kind shape.len why
+      → TakesItemsIn gives whole a c key k count before before (Err why)
+  none-items {c} {why = why} same is low not mode writing = takes-none S gives whole key k count before why c writing low
+      (subst (λ (l : ScalarKind). IsNotBegun a c key (Scalar l) (size_of l * count) why) is
+      (subst (λ (q : Shape). IsNotBegun a c key q.kind q.len why) same not))
+
+-- the key of an entry suits it
+pub shaped-key : {i : Index} {e : Key} {key : names.Key} {name : List ℕ} {shape : Shape} {j k : ScalarKind} {count : ℕ}
+    → shape ≡ numbers_shape j count → j ≡ k → IsNewKeyOf i e key name (Scalar k) → IsNewKeyOf i e key name shape.kind
+shaped-key {i} {e} {key} {name} same is new =
+    subst (IsNewKeyOf i e key name) (sym (ap (λ (q : Shape). q.kind) same ∙ ap Scalar is)) new
+
+-- no object has the key of an entry that is not there
+pub no-objects : {a : Cut} (i : Index) (e : Key) (at : ℕ) (key : names.Key) (name : List ℕ) (kind : Kind)
+    → IsNewKeyOf i e key name kind → IsAbsentAt a i e at → (d : Directory) → StandsFor a.bytes d
+    → object_at d key ≡ None
+no-objects {a} i e at key name kind new away d st =
+    (lookup-absent i a e key st.denotes (key-seeks i e key name kind new) (away-in i e at st.denotes away)).none
+
+-- ---- the segment afterwards
+
+pub found-segment : {S A : Type 0} {gives : S → Option A → S → Type 0} {whole : A → ℤ} {a c : Cut} {key : names.Key}
+    {k : ScalarKind} {count : ℕ} {before after : S} {r : Result (ℕ × ℕ) Refusal} → IsSegment a.bytes
+    → FindsOrTakesIn gives whole a c key k count before after r → IsSegment c.bytes
+found-segment b done = elim (done Write refl) [
+  | inl o ↦ subst (λ (u : State). IsSegment u.cut.bytes) (sym o.stays.segment) b
+  | inr m ↦ elim m [
+    | inl o ↦ subst (λ (u : State). IsSegment u.cut.bytes) (sym o.stays.segment) b
+    | inr o ↦ step-segment _ _ _ _ o.takes.step b
+  ]
+]
+
+pub seen-found_items : {S A : Type 0} {gives : S → Option A → S → Type 0} {whole : A → ℤ} {s t : State} (view : s ≡ t)
+    {c : Cut} {key : names.Key} {k : ScalarKind} {count : ℕ} {before after : S} {r : Result (ℕ × ℕ) Refusal}
+    → is_read_only t.mode ≡ false → FindsOrTakesIn gives whole s.cut c key k count before after r
+    → FindsOrTakes gives whole t (record s { cut = c }) key k count before after r
+seen-found_items {gives = gives} {whole} {s} view {c} {key} {k} {count} {before} {after} {r} writing done =
+    subst (λ (u : State). FindsOrTakes gives whole u (record s { cut = c }) key k count before after r) view
+    (done s.mode (subst (λ (u : State). is_read_only u.mode ≡ false) (sym view) writing))

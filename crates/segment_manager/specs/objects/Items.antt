@@ -1,18 +1,18 @@
 -- What a construction takes from an iterator.
-use Rattle.std.specs.Prelude.{◌≡◌, ◌⊎◌, ℕ, ◌<◌, ℤ, true, false, None, Option, Result, Ok, Err, IfErr, IfOk, MatchResult}
-use Rattle.std.specs.Prelude.{List, [], length, map, ⊤, if◌then◌else◌}
+use Rattle.std.specs.Prelude.{◌≡◌, ◌⊎◌, ℕ, ◌<◌, ℤ, true, false, None, Some, Option, Result, Ok, Err, IfErr, IfOk}
+use Rattle.std.specs.Prelude.{MatchResult, List, [], length, map, option_map, ⊤}
+use Rattle.raw_region.specs.Memory.{Cut}
 use Rattle.std.specs.Iterator.{Yields, YieldsThen}
 use Rattle.seg_types.specs.declared.kinds.ScalarKind.{ScalarKind}
 use Rattle.seg_types.specs.declared.refusals.Refusal.{Refusal}
 use Rattle.seg_types.specs.declared.kinds.Kind.TheVariants.{Scalar}
-use Rattle.seg_types.specs.declared.refusals.Refusal.TheVariants.{NoSpace, OutOfRange, ReadOnly, WrongKind}
-use Rattle.seg_types.specs.Kinds.{same_kind}
+use Rattle.seg_types.specs.declared.refusals.Refusal.TheVariants.{NoSpace, OutOfRange, ReadOnly}
 use Rattle.seg_types.specs.Names.{Key}
 use Rattle.seg_types.specs.Commands.{ConstructIt}
-use Rattle.segment_manager.specs.declared.objects.targets.Object.{Object as Located}
 use Rattle.segment_manager.specs.Directory.{Directory, object_at}
-use Rattle.segment_manager.specs.objects.Located.{IsLocated}
-use Rattle.segment_manager.specs.State.{IsStep, StandsFor, State, handle_answer}
+use Rattle.segment_manager.specs.objects.Standing.{pair_of_kind}
+use Rattle.segment_manager.specs.declared.modes.Mode.{Mode}
+use Rattle.segment_manager.specs.State.{Answers, IsStep, StandsFor, State, handle_answer}
 use Rattle.segment_manager.specs.Step.{is_read_only}
 
 -- Too few items came, or it is refused before one is taken.
@@ -36,11 +36,18 @@ pub record TakesItems {S A : Type 0} (gives : S → Option A → S → Type 0) (
       (TakesUntil gives count before items after)
   pub unchanged : IfErr result (KeepsUnasked old new)
 
+-- the same on the heap of a segment that may be changed
+abbrev pub TakesItemsIn : {S A : Type 0} → (S → Option A → S → Type 0) → (A → ℤ) → Cut → Cut → Key → ScalarKind → ℕ → S
+    → S → Result ℕ Refusal → Type 0
+TakesItemsIn gives whole old new key k count before after result = (mode : Mode) → is_read_only mode ≡ false
+    → TakesItems gives whole (record { cut = old; mode = mode }) (record { cut = new; mode = mode }) key k count before
+    after result
+
 -- ---- found, or made of items
 
 -- what is answered of an object that is there: its handle and how many scalars it has, where it is of the kind
-abbrev pub found_as : ScalarKind → Located → Result (ℕ × ℕ) Refusal
-found_as k o = if same_kind (Scalar k) o.kind then Ok (o.handle, o.count) else Err WrongKind
+abbrev pub found_at : ScalarKind → Key → Directory → Option (Result (ℕ × ℕ) Refusal)
+found_at k key d = option_map (λ o. pair_of_kind o (Scalar k)) (object_at d key)
 
 abbrev pub handle_in : Result (ℕ × ℕ) Refusal → Result ℕ Refusal
 handle_in (Ok (h, n)) = Ok h
@@ -61,9 +68,7 @@ pub record IsOnlyRead {S : Type 0} (old new : State) (before after : S) (result 
 pub record IsThere {S : Type 0} (old new : State) (key : Key) (k : ScalarKind) (before after : S)
     (result : Result (ℕ × ℕ) Refusal) : Type 0 where
   pub writing : is_read_only old.mode ≡ false
-  pub object : Located
-  pub located : IsLocated old key object
-  pub is : result ≡ found_as k object
+  pub is : Answers old (found_at k key) (Some result)
   pub stays : StaysUntaken old new before after
 
 -- none has, and one is made of items
@@ -79,3 +84,10 @@ abbrev pub FindsOrTakes : {S A : Type 0} → (S → Option A → S → Type 0) �
 FindsOrTakes gives whole old new key k count before after result =
     IsOnlyRead old new before after result
     ⊎ (IsThere old new key k before after result ⊎ IsTakenFrom gives whole old new key k count before after result)
+
+-- the same on the heap of a segment that may be changed
+abbrev pub FindsOrTakesIn : {S A : Type 0} → (S → Option A → S → Type 0) → (A → ℤ) → Cut → Cut → Key → ScalarKind → ℕ
+    → S → S → Result (ℕ × ℕ) Refusal → Type 0
+FindsOrTakesIn gives whole old new key k count before after result = (mode : Mode) → is_read_only mode ≡ false
+    → FindsOrTakes gives whole (record { cut = old; mode = mode }) (record { cut = new; mode = mode }) key k count
+    before after result

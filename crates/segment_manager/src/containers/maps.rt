@@ -7,7 +7,7 @@ ghost use Rattle.segment_manager.specs.containers.Maps.{pair_result};
 ghost use Rattle.segment_manager.specs.State.{Answers, IsReplyOfKind, IsStepOfKind, truth_answer};
 ghost use Rattle.segment_manager.specs.{containers.Maps.pair_up_to, containers.Maps.told_of_map};
 ghost use Rattle.segment_manager.specs.{containers.Maps.value_answer, containers.Walks.pair_past};
-ghost use Rattle.segment_manager.specs.Keeping.{KeepsWhere, LacksPair};
+ghost use Rattle.segment_manager.specs.Keeping.{ChangesValue, KeepsWhere, LacksPair};
 
 use crate::containers::vectors::judge;
 use crate::objects::targets::Target;
@@ -180,6 +180,7 @@ impl Segment {
             (Put (O.key key.now) (literal_of K.kind (K.whole at)) (literal_of V.kind (V.whole value)))
             (truth_answer result) }
         ensures refused { OnErr result (self.new ≡ self.old) }
+        ensures again { ChangesValue self.old self.new (O.key key.now) K.kind (K.whole at) V.kind }
     {
         if self.is_read_only() {
             return Err(Refusal::ReadOnly);

@@ -4,7 +4,8 @@ ghost use Rattle.seg_types.specs.declared.kinds.Kind.TheVariants.{String as Stri
 ghost use Rattle.seg_types.specs.declared.kinds.ScalarKind.TheVariants.{U8 as ByteKind};
 ghost use Rattle.seg_types.specs.Commands.{Append, Assign, Quoted, Set, literal_of};
 ghost use Rattle.segment_manager.specs.{containers.Contents.bytes_at, State.Answers, State.IsStepOfKind};
-ghost use Rattle.segment_manager.specs.{State.done_answer};
+ghost use Rattle.segment_manager.specs.{Keeping.KeepsUnused, State.done_answer};
+ghost use Rattle.best_fit.specs.Heap.{KeepsGaps};
 
 use crate::objects::targets::Target;
 use crate::segment::Segment;
@@ -41,6 +42,7 @@ impl Segment {
         ensures step { IsStepOfKind self.old self.new (O.key key.now) StringKind
             (Set (O.key key.now) index (literal_of ByteKind (pos byte))) (done_answer result) }
         ensures refused { OnErr result (self.new ≡ self.old) }
+        ensures gaps { KeepsGaps self.old.cut self.new.cut }
     {
         let place = self.find_to_change(key, Kind::String)?;
         SegString { place }.set(&mut self.heap, index, byte)
@@ -60,6 +62,7 @@ impl Segment {
         ensures step { IsStepOfKind self.old self.new (O.key key.now) StringKind
             (Append (O.key key.now) bytes.now) (done_answer result) }
         ensures refused { OnErr result (self.new ≡ self.old) }
+        ensures gaps { KeepsUnused self.old self.new }
     {
         let place = self.find_to_change(key, Kind::String)?;
         SegString { place }.append(&mut self.heap, bytes)
@@ -78,6 +81,7 @@ impl Segment {
         ensures step { IsStepOfKind self.old self.new (O.key key.now) StringKind
             (Assign (O.key key.now) (Quoted bytes.now ∷ [])) (done_answer result) }
         ensures refused { OnErr result (self.new ≡ self.old) }
+        ensures gaps { KeepsUnused self.old self.new }
     {
         let place = self.find_to_change(key, Kind::String)?;
         SegString { place }.assign(&mut self.heap, bytes)

@@ -2,7 +2,8 @@
 ghost use Rattle.std.specs.{Prelude.◌≡◌, Prelude.IsTrue, Prelude.OnErr, Prelude.map, Prelude.true, List.list_all};
 ghost use Rattle.seg_types.specs.declared.kinds.Kind.TheVariants.{Vector as VectorOf};
 ghost use Rattle.seg_types.specs.Commands.{Assign, Erase, Get, Insert, Pop, Push, Set, literal_of};
-ghost use Rattle.segment_manager.specs.Answers.{Element};
+ghost use Rattle.best_fit.specs.Heap.{KeepsGaps};
+ghost use Rattle.segment_manager.specs.{Answers.Element, Keeping.KeepsUnused};
 ghost use Rattle.segment_manager.specs.State.{IsReplyOfKind, IsStepOfKind, answer_of, done_answer};
 
 use crate::objects::targets::Target;
@@ -46,6 +47,7 @@ impl Segment {
         ensures step { IsStepOfKind self.old self.new (O.key key.now) (VectorOf T.kind)
             (Set (O.key key.now) index (literal_of T.kind (T.whole value))) (done_answer result) }
         ensures refused { OnErr result (self.new ≡ self.old) }
+        ensures gaps { KeepsGaps self.old.cut self.new.cut }
     {
         judge(value);
         let place = self.find_to_change(key, Kind::Vector(T::kind()))?;
@@ -66,6 +68,7 @@ impl Segment {
         ensures step { IsStepOfKind self.old self.new (O.key key.now) (VectorOf T.kind)
             (Push (O.key key.now) (literal_of T.kind (T.whole value))) (done_answer result) }
         ensures refused { OnErr result (self.new ≡ self.old) }
+        ensures gaps { KeepsUnused self.old self.new }
     {
         judge(value);
         let place = self.find_to_change(key, Kind::Vector(T::kind()))?;
@@ -86,6 +89,7 @@ impl Segment {
         ensures step { IsStepOfKind self.old self.new (O.key key.now) (VectorOf T.kind)
             (Assign (O.key key.now) (map (literal_of T.kind) (map T.whole values.now))) (done_answer result) }
         ensures refused { OnErr result (self.new ≡ self.old) }
+        ensures gaps { KeepsUnused self.old self.new }
     {
         judge_all(values);
         let place = self.find_to_change(key, Kind::Vector(T::kind()))?;
@@ -105,6 +109,7 @@ impl Segment {
         ensures step { IsStepOfKind self.old self.new (O.key key.now) (VectorOf T.kind)
             (Pop (O.key key.now)) (answer_of (λ x. Element T.kind (T.whole x)) result) }
         ensures refused { OnErr result (self.new ≡ self.old) }
+        ensures gaps { KeepsGaps self.old.cut self.new.cut }
     {
         let place = self.find_to_change(key, Kind::Vector(T::kind()))?;
         SegVec::<T>::at(place).pop(&mut self.heap)
@@ -130,6 +135,7 @@ impl Segment {
         ensures step { IsStepOfKind self.old self.new (O.key key.now) (VectorOf T.kind)
             (Insert (O.key key.now) index (literal_of T.kind (T.whole value))) (done_answer result) }
         ensures refused { OnErr result (self.new ≡ self.old) }
+        ensures gaps { KeepsUnused self.old self.new }
     {
         judge(value);
         let place = self.find_to_change(key, Kind::Vector(T::kind()))?;
@@ -150,6 +156,7 @@ impl Segment {
         ensures step { IsStepOfKind self.old self.new (O.key key.now) (VectorOf T.kind)
             (Erase (O.key key.now) index) (done_answer result) }
         ensures refused { OnErr result (self.new ≡ self.old) }
+        ensures gaps { KeepsGaps self.old.cut self.new.cut }
     {
         let place = self.find_to_change(key, Kind::Vector(T::kind()))?;
         SegVec::<T>::at(place).erase(&mut self.heap, index)

@@ -1,17 +1,18 @@
 //! Objects of numbers constructed from the items of an iterator.
 ghost use Rattle.std.specs.Prelude.{◌≡◌, ℤ, ◌+◌, ◌*◌, ◌≤◌, IsTrue, OnOk, length, true, false};
 ghost use Rattle.std.specs.{Iterator.HoldsAlong, List.AllByRecursion};
-ghost use Rattle.raw_region.specs.Format.{current};
+ghost use Rattle.raw_region.specs.{Format.current, Memory.Cut as ACut};
 ghost use Rattle.best_fit.specs.Heap.{IsHeap, has_room, live_of};
 ghost use Rattle.seg_types.specs.declared.kinds.{Kind.TheVariants.Scalar as ScalarOf, ScalarKind.ScalarKind as AnyKind};
-ghost use Rattle.seg_types.specs.{Keys.new_key_seen, Kinds.is_value, Kinds.size_of, Kinds.spelling as spelling_of};
+ghost use Rattle.seg_types.specs.{Names.Key as AnyKey, Keys.new_key_seen, Kinds.is_value, Kinds.size_of, Kinds.spelling as spelling_of};
 ghost use Rattle.seg_types.specs.Values.{kind_of_scalar, value_of_scalar};
-ghost use Rattle.segment_manager.specs.objects.Begun.{Fills, IsNextOfKind, WritesNext};
+ghost use Rattle.segment_manager.specs.objects.Begun.{Fills, IsBegun, IsNextOfKind, WritesNext};
 ghost use Rattle.segment_manager.specs.objects.Counted.{RefusesCount, is_count};
-ghost use Rattle.segment_manager.specs.{objects.Items.TakesItems, objects.NewObjects.IsOfItsKind};
+ghost use Rattle.segment_manager.specs.{objects.Items.TakesItems, objects.Items.TakesItemsIn};
+ghost use Rattle.segment_manager.specs.{objects.NewObjects.IsOfItsKind, State.IsSegment};
 
 use crate::containers::fillings::{LONGEST, MOST, numbers};
-use crate::objects::beginning::{begin, end};
+use crate::objects::beginning::{Begun, begin, end};
 use crate::objects::destinations::Destination;
 use crate::segment::Segment;
 use best_fit::Heap;
@@ -99,16 +100,31 @@ impl Segment {
             return Err(Refusal::ReadOnly);
         }
         let begun = begin(&mut self.heap, key, numbers(kind, count))?;
-        let filled = fill_items::<S, A, I>(
-            &mut self.heap,
-            begun.handle,
-            begun.at,
-            kind,
-            count,
-            items,
-        );
-        end(&mut self.heap, begun, filled)
+        take_items::<S, A, I>(&mut self.heap, begun, kind, count, items)
     }
+}
+
+/// Fills an object of `count` numbers of a kind that was begun with items, and has its entry lead to it. Where too few
+/// come all that was taken for it is given back.
+pub(crate) fn take_items<S: Spelling<A>, A, I: Iterator<Item = A>>(
+    heap: &mut Heap,
+    begun: Begun,
+    kind: ScalarKind,
+    count: u32,
+    items: &mut I,
+) -> Result<Handle, Refusal>
+    requires begun { (old : ACut) × (IsSegment old.bytes × ((key : AnyKey)
+        × IsBegun old heap.old key (ScalarOf kind) count (size_of kind * count) begun.handle begun.at begun.entry)) }
+    requires some { 1 ≤ count }
+    requires few { count ≤ 1048576 }
+    requires ready { I.can_next items.old }
+    requires of_kind { HoldsAlong I.next_gives items.old (AllByRecursion (λ item. S.kind item ≡ kind)) }
+    ensures { (old : ACut) (key : AnyKey) → IsSegment old.bytes
+        → IsBegun old heap.old key (ScalarOf kind) count (size_of kind * count) begun.handle begun.at begun.entry
+        → TakesItemsIn I.next_gives S.whole old heap.new key kind count items.old items.new result }
+{
+    let filled = fill_items::<S, A, I>(heap, begun.handle, begun.at, kind, count, items);
+    end(heap, begun, filled)
 }
 
 /// How the items of an iterator are spelled.

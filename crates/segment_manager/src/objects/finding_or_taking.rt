@@ -1,15 +1,21 @@
 //! Objects found, or constructed from the items of an iterator where there are none.
-ghost use Rattle.std.specs.Prelude.{◌≡◌, true, false};
+ghost use Rattle.std.specs.Prelude.{◌≡◌, ◌≤◌, true, false};
+ghost use Rattle.seg_types.specs.Names.{Key as AnyKey};
 ghost use Rattle.seg_types.specs.declared.kinds.Kind.TheVariants.{Scalar as ScalarOf};
 ghost use Rattle.segment_manager.specs.{objects.Counted.RefusesCount, objects.Counted.is_count};
-ghost use Rattle.segment_manager.specs.{objects.Items.FindsOrTakes};
+ghost use Rattle.segment_manager.specs.{objects.Items.FindsOrTakes, objects.Items.FindsOrTakesIn, State.IsSegment};
+ghost use Rattle.segment_manager.specs.{objects.NewObjects.IsNewKeyOf};
 
-use crate::containers::fillings::MOST;
-use crate::objects::constructing_from::OfType;
+use crate::containers::fillings::{MOST, numbers};
+use crate::objects::beginning::begin_at;
+use crate::objects::constructing_from::{OfType, take_items};
 use crate::objects::destinations::IndexDestination;
-use crate::objects::finding_or_constructing::counted;
-use crate::objects::targets::locate;
+use crate::objects::finding::entry_of;
+use crate::objects::finding_or_constructing::{counted, found_of};
 use crate::segment::Segment;
+use best_fit::Heap;
+use raw_region::Steps;
+use seg_index::{Index, Key as Entry, Lookup};
 use seg_types::{Handle, Kind, Refusal, Scalar};
 
 impl Segment {
@@ -40,18 +46,37 @@ impl Segment {
         if self.is_read_only() {
             return Err(Refusal::ReadOnly);
         }
-        let kind = Kind::Scalar(T::kind());
-        let entry = key.entry_for(kind);
-        match locate(self, &entry.into_key()) {
-            Ok(object) if kind.code() != object.kind.code() => Err(Refusal::WrongKind),
-            Ok(object) => Ok((object.handle, object.count)),
-            Err(_) => {
-                let key = entry.into_new_key();
-                counted(
-                    self.construct_items::<OfType, T, I>(&key, T::kind(), count, items),
-                    count,
-                )
-            }
-        }
+        let key = key.entry_for(Kind::Scalar(T::kind()));
+        let (index, entry, name) = entry_of(&key);
+        find_or_take(&mut self.heap, index, entry, name, count, items)
     }
+}
+
+/// The same under an entry of an index, which is looked up once.
+fn find_or_take<T: Scalar, I: Iterator<Item = T>>(
+    heap: &mut Heap,
+    index: Index,
+    entry: Entry<'_>,
+    name: &[u8],
+    count: u32,
+    items: &mut I,
+) -> Result<(Handle, u32), Refusal>
+    requires segment { IsSegment heap.old.bytes }
+    requires key { (key : AnyKey) × IsNewKeyOf index entry key name.now (ScalarOf T.kind) }
+    requires some { 1 ≤ count }
+    requires few { count ≤ 1048576 }
+    requires ready { I.can_next items.old }
+    ensures { (key : AnyKey) → IsNewKeyOf index entry.entry key name.now (ScalarOf T.kind)
+        → FindsOrTakesIn I.next_gives T.whole heap.old heap.new key T.kind count items.old items.new result }
+{
+    let kind = T::kind();
+    let place = match index.lookup(heap, entry, &mut Steps::new()) {
+        Lookup::Found(place) => return found_of(heap, index.at(heap, place), Kind::Scalar(kind)),
+        Lookup::Absent(place) => place,
+    };
+    let begun = begin_at(heap, index, place, name, numbers(kind, count))?;
+    counted(
+        take_items::<OfType, T, I>(heap, begun, kind, count, items),
+        count,
+    )
 }

@@ -28,7 +28,7 @@ deallocate-requires c =
     let n = length c.args.texts.now in
     let t = array-taken n c.in_ok-array.ensures in let w = c.place_texts-placed.ensures t.block t.at t.found in
     let h = laid-held t (sym (length-map c.args.texts.now (λ text. text.now))) w in
-    array-live t w (c.release_texts.ensures w.laid.texts h)
+    array-live t w (c.release_texts.ensures w.laid.texts h).change
 
 pub returns-in_err-array : goal.returns-in_err-array
 returns-in_err-array c =
@@ -42,4 +42,4 @@ returns c =
     let e = sym (length-map c.args.texts.now (λ text. text.now)) in let t = array-taken n c.in_ok-array.ensures in
     let w = c.place_texts-placed.ensures t.block t.at t.found in let h = laid-held t e w in
     taken-off t e c.requires.some w c.if-placed-n.false
-    (c.release_texts.ensures w.laid.texts h) c.deallocate.ensures.released
+    (c.release_texts.ensures w.laid.texts h).change c.deallocate.ensures.released

@@ -57,7 +57,7 @@ returns-then-old-array c r =
 
 pub returns : goal.returns
 returns c r = elim c.match-link_of.branch [
-  | in-Some+else-old-array w ↦ adopt-same c.args.n r.texts r.more r.asked r.since (sym (ready-link r)
+  | in-Some+else-old-array w ↦ adopt-same c.args.n r.texts r.more r.asked r.since r.still (sym (ready-link r)
       ∙ sym c.link_of.ensures ∙ w.in-Some.is ∙ ap (λ k. Some k) w.if-old-array.false) c.point_to-2.ensures
   | in_default w ↦ adopt-none c.args.n r.texts r.more r.asked r.since (sym (ready-link r) ∙ sym c.link_of.ensures
       ∙ none-left c.link_of.result w.in_default.not-Some) c.point_to-2.ensures

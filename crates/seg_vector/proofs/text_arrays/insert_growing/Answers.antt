@@ -1,6 +1,6 @@
 -- The array is asked for, then the text, and then the array is adopted and the text put in; or all is given up.
 use Rattle.seg_vector.proofs.{sym, ap, subst, ◌*◌, length, Cut, IsAsked, err_from_is_err_and, asked-heap, ready-of}
-use Rattle.seg_vector.proofs.{growing-err, growing-none, growing-ok, growing-ready, more-places, small-wanted}
+use Rattle.seg_vector.proofs.{no-extent, growing-err, growing-none, growing-ok, growing-ready, more-places, small-wanted}
 use Rattle.seg_vector.proofs.text_arrays.insert_growing.Goals as goal
 
 pub ask_array-requires-clause-small : goal.ask_array-requires-clause-small
@@ -29,12 +29,14 @@ adopt-requires c =
     let r = c.requires in
     ready-of c.args.n r.texts (more-places c.args.heap.now c.args.n r.texts r.full r.wanted).0
     (c.in_ok-array.ensures r.ps r.t r.texts) c.in-Ok.ensures.change
+    (λ e. c.in-Ok.ensures.nothing (no-extent e))
 
 pub put_in-requires : goal.put_in-requires
 put_in-requires c =
     let r = c.requires in let pl = c.in-Ok.ensures in
     let both = more-places c.args.heap.now c.args.n r.texts r.full r.wanted in
-    let ad = c.adopt.ensures (ready-of c.args.n r.texts both.0 (c.in_ok-array.ensures r.ps r.t r.texts) pl.change) in
+    let ad = c.adopt.ensures (ready-of c.args.n r.texts both.0 (c.in_ok-array.ensures r.ps r.t r.texts) pl.change
+    (λ e. pl.nothing (no-extent e))) in
     record {
       first = c.args.heap.now;
       ps = r.ps;
@@ -65,6 +67,7 @@ pub returns-in-Ok : goal.returns-in-Ok
 returns-in-Ok c ps t s inside full wanted =
     let pl = c.in-Ok.ensures in let a = c.in_ok-array.ensures ps t s in
     let both = more-places c.args.heap.now c.args.n s full wanted in
-    let ad = c.adopt.ensures (ready-of c.args.n s both.0 a pl.change) in let ready = growing-ready s both.1 pl ad in
+    let ad = c.adopt.ensures (ready-of c.args.n s both.0 a pl.change
+    (λ e. pl.nothing (no-extent e))) in let ready = growing-ready s both.1 pl ad in
     growing-ok c.args.index both.0 wanted a pl ad
     (c.put_in.ensures c.args.heap.now ps t ad.array c.args.n pl.text ready inside pl.at (ap length (sym pl.same)))

@@ -22,5 +22,5 @@ pub returns : goal.returns
 returns c bytes t v =
     let grown = c.in_ok-reserve.ensures (length bytes) t bytes v in
     let cleared = c.clear.ensures bytes grown.table grown.stands in
-    text-grown-then grown (text-then grown.stands cleared
+    text-grown-then v grown (text-then grown.stands cleared
     (text-extended c.clear.new.heap c.extend.new.heap cleared.text c.args.bytes.now c.extend.ensures))

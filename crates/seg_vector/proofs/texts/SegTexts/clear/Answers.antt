@@ -1,6 +1,6 @@
 -- The texts are released, as many as the array has elements, and then the length is written.
 use Rattle.seg_vector.proofs.{[], ◌+◌, ◌∙◌, arith, sym, subst, List, Cut, live_of, room-less, head-room, cleared}
-use Rattle.seg_vector.proofs.{head-after, held-elements, none-left, released-nothing, text_blocks, IsSwapped, IsTexts}
+use Rattle.seg_vector.proofs.{head-after, held-elements, none-left, released-nothing, text_blocks, AreReleased, IsTexts}
 use Rattle.seg_vector.proofs.{OwnedText}
 use Rattle.best_fit.specs.Table.{Table as ATable}
 use Rattle.seg_vector.proofs.texts.SegTexts.clear.Goals.{in-Some, in_default, Joined-link_of}
@@ -15,12 +15,12 @@ release_texts-requires c =
     )
 
 gone : (c : Joined-link_of) {ps : List OwnedText} {t : ATable} → IsTexts c.args.heap.now.bytes c.args.self.place ps t
-    → IsSwapped c.args.heap.now c.match-link_of.heap (text_blocks ps) []
+    → AreReleased c.args.heap.now c.match-link_of.heap (text_blocks ps)
 gone c {ps} {t} s = elim c.match-link_of.branch [
-  | in-Some w ↦ subst (λ (d : Cut). IsSwapped c.args.heap.now d (text_blocks ps) []) (sym w.heap-is)
+  | in-Some w ↦ subst (λ (d : Cut). AreReleased c.args.heap.now d (text_blocks ps)) (sym w.heap-is)
       (w.release_texts.ensures ps (held-elements c.len-len.result s (sym c.link_of.ensures ∙ w.in-Some.is)
       (c.len-len.ensures ps t s)))
-  | in_default w ↦ subst (λ (d : Cut). IsSwapped c.args.heap.now d (text_blocks ps) []) (sym w.heap-is)
+  | in_default w ↦ subst (λ (d : Cut). AreReleased c.args.heap.now d (text_blocks ps)) (sym w.heap-is)
       (released-nothing c.args.heap.now s (sym c.link_of.ensures ∙ none-left c.link_of.result w.in_default.not-Some))
 ]
 
@@ -28,7 +28,7 @@ pub set_word-requires : goal.set_word-requires
 set_word-requires c =
     let x = gone (goal.at.set_word-requires c).Joined-link_of c.requires.1.1 in
     room-less (live_of c.match-link_of.heap.bytes) c.args.self.place.handle (c.args.self.place.at + 24)
-    (c.args.self.place.at + 8 + 8) (omega arith) (head-room (head-after c.requires.1.1 x))
+    (c.args.self.place.at + 8 + 8) (omega arith) (head-room (head-after c.requires.1.1 x.change))
 
 pub returns : goal.returns
 returns c ps t s = cleared {new = c.set_word.new.self} s (gone (goal.at.returns c).Joined-link_of s)

@@ -20,7 +20,7 @@ left-at c =
     (omega (arith, c.if-index-len.false, c.len-len.ensures c.requires.0 c.requires.1.0 c.requires.1.1)) in
     let w = left c.args.heap.now c.release_text.new.heap c.args.index c.requires.1.1 q.1
     (sym c.link_of.ensures ∙ c.in-Some.is) in
-    w.after (c.release_text.ensures q.0 w.element)
+    w.after (c.release_text.ensures q.0 w.element).change
 
 pub carry_down-requires : goal.carry_down-requires
 carry_down-requires c =

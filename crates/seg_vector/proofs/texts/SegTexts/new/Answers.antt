@@ -1,9 +1,10 @@
 -- The words are those of a vector without a place.
-use Rattle.seg_vector.proofs.{head-exchanged, none-stands}
+use Rattle.seg_vector.proofs.{head-exchanged, head-gaps, none-stands}
 use Rattle.seg_vector.proofs.texts.SegTexts.new.Goals as goal
 
 pub returns-clause-texts : goal.returns-clause-texts
 returns-clause-texts c = record {
   change = head-exchanged c.args.place c.requires.heap c.requires.room c.start.ensures.change;
+  gaps = λ same. head-gaps c.args.place c.requires.room c.start.ensures.change;
   texts = none-stands (c.start.ensures.stands 16);
 }

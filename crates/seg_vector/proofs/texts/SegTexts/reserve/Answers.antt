@@ -15,7 +15,7 @@ pub adopt-requires : goal.adopt-requires
 adopt-requires c =
     let t = c.requires.1.0 in let a = c.in_ok-array.ensures c.requires.0 t c.requires.1.1 in
     ready-of c.args.n c.requires.1.1
-    (omega (arith, c.if-n-capacity.false, c.capacity.ensures c.requires.0 t c.requires.1.1)) a (asked-alone a)
+    (omega (arith, c.if-n-capacity.false, c.capacity.ensures c.requires.0 t c.requires.1.1)) a (asked-alone a) (λ e. refl)
 
 pub returns-in_err-array-clause-reserved : goal.returns-in_err-array-clause-reserved
 returns-in_err-array-clause-reserved c = λ ps t s.
@@ -32,4 +32,4 @@ pub returns-clause-reserved : goal.returns-clause-reserved
 returns-clause-reserved c = λ ps t s.
     let more : t.capacity < c.args.n = omega (arith, c.if-n-capacity.false, c.capacity.ensures ps t s) in
     let a = c.in_ok-array.ensures ps t s in
-    reserved s more (c.adopt.ensures (ready-of c.args.n s more a (asked-alone a)))
+    reserved s more (c.adopt.ensures (ready-of c.args.n s more a (asked-alone a) (λ e. refl)))

@@ -26,7 +26,7 @@ array-left c =
     (omega (arith, c.if-index-len.false, c.len.ensures c.requires.0 c.requires.1.0 c.requires.1.1)) in
     let w = left c.place_text.new.heap c.release_text.new.heap c.args.index
     (texts-still c.requires.1.1 c.in_ok-block.ensures.change) q.1 (sym c.link_of.ensures ∙ c.in-Some.is) in
-    (w.after (c.release_text.ensures q.0 w.element)).0
+    (w.after (c.release_text.ensures q.0 w.element).change).0
 
 pub put_element-requires : goal.put_element-requires
 put_element-requires c =

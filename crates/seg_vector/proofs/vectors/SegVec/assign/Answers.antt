@@ -33,4 +33,4 @@ returns g c xs t v =
     let mid : IsVector g.T.Plain.SIZE g.T.Plain.is_value g.T.Plain.spelling c.reserve.new.heap.bytes c.args.self.place
     xs grown.table = record { stands = grown.stands; values = v.values } in
     let cleared = c.clear.ensures xs grown.table mid in
-    grown-then xs grown (now-then mid cleared (c.put_all.ensures [] grown.table cleared.vector (omega (arith, places))))
+    grown-then v grown (now-then mid cleared (c.put_all.ensures [] grown.table cleared.vector (omega (arith, places))))

@@ -26,7 +26,7 @@ returns g c xs t v =
     (λ n u bytes s. c.in_ok-grow_for_one.ensures n u bytes s) in
     let inside : c.args.index ≤ length xs = omega (arith, c.if-index-len.false, c.len-len.ensures xs t v) in (
       inside,
-      grown-then xs grown (inserted-now c.grow_for_one.new.heap c.put_value.new.heap refl
+      grown-then v grown (inserted-now c.grow_for_one.new.heap c.put_value.new.heap refl
           (record { stands = grown.stands; values = v.values }) c.args.index c.args.value g.met.T.Plain.spells
           inside c.put_value.ensures.value c.put_value.ensures.put),
     )

@@ -15,6 +15,6 @@ pub returns : goal.returns
 returns g c xs t v =
     let grown = grown-of c.args.heap.now c.grow_for_one.new.heap c.SIZE.ensures v capacity_for_one
     (λ n u bytes s. c.in_ok-grow_for_one.ensures n u bytes s) in
-    grown-then xs grown (appended-now c.grow_for_one.new.heap c.put_value.new.heap refl
+    grown-then v grown (appended-now c.grow_for_one.new.heap c.put_value.new.heap refl
     (record { stands = grown.stands; values = v.values }) c.args.value c.put_value.ensures.value
     c.put_value.ensures.put)

@@ -1,8 +1,7 @@
--- The object is begun, filled and ended, or refused before.
+-- The object is begun and made of items, or refused before.
 use Rattle.segment_manager.proofs.Common.{sym, ◌∙◌, new_key_seen, exit-is}
-use Rattle.segment_manager.proofs.objects.ItemCalls.{items-ending, items-room, items-segment, items-taken}
+use Rattle.segment_manager.proofs.objects.ItemCalls.{begun-so, items-segment, items-taken}
 use Rattle.segment_manager.proofs.objects.ItemCalls.{refused-items, refused-segment, takes-nothing}
-use Rattle.segment_manager.proofs.objects.Loose.{begun-heap}
 use Rattle.segment_manager.proofs.segment.Segment.construct_items.Goals as goal
 
 pub returns-then-is_read_only : goal.returns-then-is_read_only
@@ -21,33 +20,29 @@ returns-in_err-begun g c = refused-items _ g.I.Iterator.next_gives g.S.Spelling.
     (sym c.is_read_only.ensures ∙ c.if-is_read_only.false) c.requires.some c.args.items.now c.begin.new.heap
     (exit-is c.from_residual.result _ c.from_residual.ensures.1) c.in_err-begun.ensures
 
-pub fill_items-filled-requires-clause-heap : goal.fill_items-filled-requires-clause-heap
-fill_items-filled-requires-clause-heap g c =
-    let b = c.in_ok-begun.begun in let shape = c.numbers.result in
-    begun-heap b.entry c.self.inside.heap c.begin.new.heap
-    (new_key_seen c.args.key.now) shape.kind shape.count shape.len b.handle b.at c.in_ok-begun.ensures
-
-pub fill_items-filled-requires-clause-room : goal.fill_items-filled-requires-clause-room
-fill_items-filled-requires-clause-room g c = items-room _ g.I.Iterator.next_gives g.S.Spelling.whole c.self.view_is
-    c.self.invariant (new_key_seen c.args.key.now) c.args.kind c.args.count c.numbers.ensures
-    (sym c.is_read_only.ensures ∙ c.if-is_read_only.false) c.requires.some c.args.items.now c.requires.few
-    c.begin.new.heap _ _ c.in_ok-begun.begun.entry c.in_ok-begun.ensures
-
-pub end-requires : goal.end-requires
-end-requires g c = items-ending _ g.I.Iterator.next_gives g.S.Spelling.whole c.self.view_is c.self.invariant
-    (new_key_seen c.args.key.now) c.args.kind c.args.count c.numbers.ensures
-    (sym c.is_read_only.ensures ∙ c.if-is_read_only.false) c.requires.some c.args.items.now c.requires.few
-    c.begin.new.heap _ _ c.in_ok-begun.begun.entry c.in_ok-begun.ensures c.fill_items-filled.ensures
+pub take_items-requires-clause-begun : goal.take_items-requires-clause-begun
+take_items-requires-clause-begun g c = (
+  c.self.inside.heap,
+  (
+    c.self.invariant,
+    (
+      new_key_seen c.args.key.now,
+      begun-so _ g.I.Iterator.next_gives g.S.Spelling.whole c.self.view_is c.self.invariant
+          (new_key_seen c.args.key.now) c.args.kind c.args.count c.numbers.ensures
+          (sym c.is_read_only.ensures ∙ c.if-is_read_only.false) c.requires.some c.args.items.now c.begin.new.heap _ _
+          c.in_ok-begun.begun.entry c.in_ok-begun.ensures,
+    ),
+  ),
+)
 
 pub invariant_of-self-2 : goal.invariant_of-self-2
 invariant_of-self-2 g c = items-segment _ g.I.Iterator.next_gives g.S.Spelling.whole c.self.view_is c.self.invariant
     (new_key_seen c.args.key.now) c.args.kind c.args.count c.numbers.ensures
-    (sym c.is_read_only.ensures ∙ c.if-is_read_only.false) c.requires.some c.args.items.now c.requires.few
-    c.begin.new.heap _ _ c.in_ok-begun.begun.entry c.in_ok-begun.ensures c.fill_items-filled.ensures c.end.new.heap
-    c.end.result c.end.ensures
+    (sym c.is_read_only.ensures ∙ c.if-is_read_only.false) c.requires.some c.args.items.now c.begin.new.heap _ _
+    c.in_ok-begun.begun.entry c.in_ok-begun.ensures c.take_items.new.heap c.take_items.result c.take_items.ensures
 
 pub returns : goal.returns
-returns g c = items-taken _ g.I.Iterator.next_gives g.S.Spelling.whole c.self.view_is c.self.invariant (new_key_seen
-    c.args.key.now) c.args.kind c.args.count c.numbers.ensures (sym c.is_read_only.ensures ∙ c.if-is_read_only.false)
-    c.requires.some c.args.items.now c.requires.few c.begin.new.heap _ _ c.in_ok-begun.begun.entry c.in_ok-begun.ensures
-    c.fill_items-filled.ensures c.end.new.heap c.end.result c.end.ensures
+returns g c = items-taken _ g.I.Iterator.next_gives g.S.Spelling.whole c.self.view_is c.self.invariant
+    (new_key_seen c.args.key.now) c.args.kind c.args.count c.numbers.ensures
+    (sym c.is_read_only.ensures ∙ c.if-is_read_only.false) c.requires.some c.args.items.now c.begin.new.heap _ _
+    c.in_ok-begun.begun.entry c.in_ok-begun.ensures c.take_items.new.heap c.take_items.result c.take_items.ensures

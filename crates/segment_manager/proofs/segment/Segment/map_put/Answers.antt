@@ -2,7 +2,8 @@
 use Rattle.segment_manager.proofs.Common.{exit-is, ◌≡◌, refl, sym, ap, ◌∙◌, Command, Map, Put, literal_of, truth_answer}
 use Rattle.segment_manager.proofs.{containers.MapAnswers.put-there, containers.MapAnswers.some-there}
 use Rattle.segment_manager.proofs.{containers.MapCalls.finds-no_map, containers.MapCalls.put_result}
-use Rattle.segment_manager.proofs.{containers.Safely.Answered, containers.Safely.told, containers.ScalarTypes.of-map}
+use Rattle.segment_manager.proofs.{containers.Safely.Answered, containers.ScalarTypes.of-map}
+use Rattle.segment_manager.proofs.containers.KeptContainers.{map-again, same-again}
 use Rattle.segment_manager.proofs.{Steps.open-writing, Steps.refuses_of_kind-read_only}
 use Rattle.segment_manager.proofs.segment.Segment.map_put.Goals as goal
 use Rattle.segment_manager.proofs.segment.Segment.map_put.{Goals.Joined-put, Goals.in-Err, Goals.in-Ok, Given.Over}
@@ -44,4 +45,17 @@ pub invariant_of-self : goal.invariant_of-self
 invariant_of-self g c = (done g (goal.at.invariant_of-self g c).Joined-put).segment
 
 pub returns : goal.returns
-returns g c = told (done g (goal.at.returns g c).Joined-put)
+returns g c =
+    let d = done g (goal.at.returns g c).Joined-put in
+    record {
+      step = d.step;
+      refused = d.refused;
+      again = map-again (of-map g.met.K.Scalar) (of-map g.met.V.Scalar) _ _ c.self.view_is _ _ _ c.at.ensures
+          c.in_ok-place.ensures _ c.args.at c.args.value c.put.result c.put.ensures.put;
+    }
+
+pub returns-then-is_read_only-clause-again : goal.returns-then-is_read_only-clause-again
+returns-then-is_read_only-clause-again g c = same-again _ _ _ _ _
+
+pub returns-in_err-place-clause-again : goal.returns-in_err-place-clause-again
+returns-in_err-place-clause-again g c = same-again _ _ _ _ _

@@ -1,6 +1,7 @@
 -- The bytes are put behind the others of the string that is found.
 use Rattle.segment_manager.proofs.containers.TextAnswers.{text-appended, text-standing}
-use Rattle.segment_manager.proofs.{Common.refl, containers.Safely.told, containers.ToChange.not-changed}
+use Rattle.segment_manager.proofs.{Common.refl, containers.ToChange.not-changed}
+use Rattle.segment_manager.proofs.containers.TextAnswers.{append-gaps}
 use Rattle.segment_manager.proofs.segment.Segment.string_append.Goals as goal
 
 pub append-requires : goal.append-requires
@@ -15,4 +16,9 @@ returns-in_err-place-clause-step g c = not-changed _ _ _ refl c.from_residual.en
 
 pub returns : goal.returns
 returns g c =
-    told (text-appended c.self.view_is c.self.invariant c.in_ok-place.ensures _ _ _ c.type_inv.bytes c.append.ensures)
+    let d = text-appended c.self.view_is c.self.invariant c.in_ok-place.ensures _ _ _ c.type_inv.bytes c.append.ensures in
+    record {
+      step = d.step;
+      refused = d.refused;
+      gaps = append-gaps c.self.view_is c.self.invariant c.in_ok-place.ensures _ _ _ c.append.ensures;
+    }

@@ -1,6 +1,7 @@
 -- The bytes are put in the place of those of the string that is found.
 use Rattle.segment_manager.proofs.containers.TextAnswers.{text-assigned, text-standing}
-use Rattle.segment_manager.proofs.{Common.refl, containers.Safely.told, containers.ToChange.not-changed}
+use Rattle.segment_manager.proofs.{Common.refl, containers.ToChange.not-changed}
+use Rattle.segment_manager.proofs.containers.TextAnswers.{assign_text-gaps}
 use Rattle.segment_manager.proofs.segment.Segment.string_assign.Goals as goal
 
 pub assign-requires : goal.assign-requires
@@ -15,4 +16,9 @@ returns-in_err-place-clause-step g c = not-changed _ _ _ refl c.from_residual.en
 
 pub returns : goal.returns
 returns g c =
-    told (text-assigned c.self.view_is c.self.invariant c.in_ok-place.ensures _ _ _ c.type_inv.bytes c.assign.ensures)
+    let d = text-assigned c.self.view_is c.self.invariant c.in_ok-place.ensures _ _ _ c.type_inv.bytes c.assign.ensures in
+    record {
+      step = d.step;
+      refused = d.refused;
+      gaps = assign_text-gaps c.self.view_is c.self.invariant c.in_ok-place.ensures _ _ _ c.assign.ensures;
+    }

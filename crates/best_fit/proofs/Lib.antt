@@ -46,7 +46,7 @@ mod Turns
 mod TwoLent
 mod Uprooting
 mod Walks
-mod WayPoints
+mod HintedBlocks
 mod Writes
 mod Zeros
 mod Serving

@@ -9,6 +9,7 @@ ghost use Rattle.block_tags.specs.Tiles.{tiles_of};
 ghost use Rattle.best_fit.specs.FreeTree.{span};
 ghost use Rattle.best_fit.specs.Heap.{IsChanged, IsFresh, IsHeap, IsTileOf, IsZeroed, extent_at, has_room, is_live_in, live_of, payload_at, with_payload};
 ghost use Rattle.best_fit.specs.Pairs.{CallsOnTwo, TakesTwo};
+ghost use Rattle.best_fit.specs.WayPoints.{LeadToBlocks};
 
 mod links;
 pub mod nodes;
@@ -73,10 +74,17 @@ impl Heap {
         ensures { result ≡ window }
     {
         let points = walking::way_points(&window);
-        Heap {
-            gaps: Gaps { window },
-            points,
-        }
+        Heap::adopt_noted(window, points)
+    }
+
+    /// As `adopt`, with way-points that are known to lead to blocks in use. No tile is read.
+    pub fn adopt_noted(window: Window, points: WayPoints) -> Heap
+        requires heap { IsHeap current window.bytes }
+        requires points { LeadToBlocks points window.bytes }
+        ensures { result ≡ window }
+    {
+        let gaps = Gaps { window };
+        Heap { gaps, points }
     }
 
     /// The heap's window, with the bytes that it has now.

@@ -71,7 +71,7 @@ impl WayPoints {
     }
 
     /// Takes a handle out, and answers whether it was noted.
-    pub fn forget(&mut self, handle: u64) -> bool
+    pub(crate) fn forget(&mut self, handle: u64) -> bool
         ensures { (h : ℕ) → IsNoted self.new h → (h ≢ handle) × IsNoted self.old h }
     {
         let place = place(self.piece, handle);
@@ -83,7 +83,7 @@ impl WayPoints {
     }
 
     /// The nearest noted handle at or before this one, if there is one.
-    pub fn nearest(&self, handle: u64) -> Option<u64>
+    pub(crate) fn nearest(&self, handle: u64) -> Option<u64>
         ensures { IfSome result (λ h. IsNoted self.now h × (h ≤ handle)) }
     {
         let behind = place(self.piece, handle).min(PIECES - 1) + 1;

@@ -33,7 +33,7 @@ size-is s size e r d h = same_number size d.size (r.answers d h ∙ size-said s.
 
 -- ---- the first reason
 
-abbrev first_of : Bool → Bool → Bool → Bool → Option GrowError
+abbrev pub first_of : Bool → Bool → Bool → Bool → Option GrowError
 first_of a b c e = if a then Some ReadOnly else if b then Some BadGrow else if c then Some TooLarge else if e then Some RegionTooSmall else None
 
 -- whether the growth is no growth
@@ -58,7 +58,7 @@ module _ (mode : Mode) (size extra room : ℕ) where
 
 -- ---- a growth that is one
 
-or_false : (a b : Bool) → (a || b) ≡ false → (a ≡ false) × (b ≡ false)
+pub or_false : (a b : Bool) → (a || b) ≡ false → (a ≡ false) × (b ≡ false)
 or_false true b e = absurd (false≢true (sym e))
 or_false false b e = (refl, e)
 
@@ -81,7 +81,7 @@ not-large size extra e = at_least 1073741824 (size + extra) e
 -- ---- the region
 
 -- a directory's size is that of its bytes
-stands-size : (b : List ℕ) (d : Directory) → StandsFor b d → d.size ≡ length b
+pub stands-size : (b : List ℕ) (d : Directory) → StandsFor b d → d.size ≡ length b
 stands-size b d h = sym (h.denotes.heap.size ∙ live-size d)
 
 -- more bytes than the region has behind the segment

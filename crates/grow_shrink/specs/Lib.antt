@@ -1,1 +1,2 @@
+pub mod LargerRegion
 pub mod Resized

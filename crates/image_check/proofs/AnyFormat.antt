@@ -86,7 +86,7 @@ refused-cases b c (inr d) = inr (decides-cases b c (cases_lt (length b) 144) d)
 pub why-any : (image : Given) (base capacity : ℕ) (cause : OpenError) → IsWhyNot (format_of image.bytes) image base capacity cause → IsWhyNotAny image base capacity cause
 why-any image base capacity (Image c) w = record { sound = w.sound; right = refused-cases image.bytes c w.right }
 why-any image base capacity RegionTooSmall w = w
-why-any image base capacity OutOfMemory w = w
+why-any image base capacity (OutOfMemory refusal) w = w
 why-any image base capacity ReadFault w = record {
   failed = w.failed;
   open_class = λ c d. undecided-cases image.bytes c (cases_lt (length image.bytes) 144) (w.open_class c) d;

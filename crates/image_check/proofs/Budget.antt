@@ -18,7 +18,7 @@ use Rattle.link_tree.specs.Checking.{IsClosed}
 use Rattle.std.proofs.lemmas.Int.Digits.{length-digits_of-le}
 use Rattle.image_check.specs.Opening.{IsRaisedFor}
 use Rattle.image_check.specs.Passes.{HasTiles, Spends, tiles_in}
-use Rattle.image_check.specs.Visits.{Rates, rate_of, weigh, both, tag_rates, step_rates, planting_visits, planting_rates, tree_rates, frame_rates, gathering_rates, block_rates, all_rates}
+use Rattle.image_check.specs.Visits.{Rates, rate_of, weigh, both, tag_rates, step_rates, planting_visits, planting_rates, tree_rates, frame_rates, gathering_rates, block_rates, all_rates, note_rates}
 use Rattle.image_check.specs.FreeNodes.{is_place, placed, place_cells}
 use Rattle.image_check.specs.FreeLaws.{multiples, length-multiples, place_listed, placed_leads, is_place-Place}
 use Rattle.image_check.proofs.WalkedTiles.{tags-IsTiled}
@@ -306,11 +306,26 @@ module _ (c : Cut) (old framed gathered : ℕ) (h : HasTiles c.bytes) (x : Spend
       (spend-both c.bytes frame_rates (both gathering_rates block_rates) 51 64 old framed gathered x
       (spend-less c.bytes gathering_rates block_rates 2 62 framed gathered y))
 
+  pub blocks-spent : (new : ℕ) → Spends block_rates 62 c.bytes gathered new → Spends all_rates 115 c.bytes old new
+  blocks-spent new z = spend-both c.bytes frame_rates (both gathering_rates block_rates) 51 64 old framed new x
+      (spend-both c.bytes gathering_rates block_rates 2 62 framed gathered new y z)
+
   pub blocks-raised : (new : ℕ) → Spends block_rates 62 c.bytes gathered new → IsRaisedFor (length c.bytes) old new
-  blocks-raised new z =
-      all-part c all_rates 115 old new h all-most (omega arith)
-      (spend-both c.bytes frame_rates (both gathering_rates block_rates) 51 64 old framed new x
-      (spend-both c.bytes gathering_rates block_rates 2 62 framed gathered new y z))
+  blocks-raised new z = all-part c all_rates 115 old new h all-most (omega arith) (blocks-spent new z)
+
+-- and after the noting of the blocks
+noted-most : (u : Option Role) → rate_of (both all_rates note_rates) u ≤ 64
+noted-most None = omega arith
+noted-most (Some Object) = omega arith
+noted-most (Some Index) = omega arith
+noted-most (Some Storage) = omega arith
+noted-most (Some Node) = omega arith
+
+pub noted-raised : (c : Cut) (old passed new count : ℕ) → HasTiles c.bytes → Spends all_rates 115 c.bytes old passed
+    → count ≤ weigh note_rates (tiles_in c.bytes) → new ≡ passed + count → IsRaisedFor (length c.bytes) old new
+noted-raised c old passed new count h x few e =
+    all-part c (both all_rates note_rates) 115 old new h noted-most (omega arith)
+    (spend-both c.bytes all_rates note_rates 115 0 old passed new x (omega arith, omega arith))
 
 -- where the tags are wrong, they alone were read
 pub tags-raised : (b : List ℕ) (old tags new : ℕ) → 32 * tags + 112 ≤ length b → new ≡ old + tags → IsRaisedFor (length b) old new

@@ -6,6 +6,10 @@ use Rattle.raw_region.specs.Memory.{Cut, SamePlace, cut_at, whole}
 use Rattle.image_check.specs.EarlyTests.{size_word}
 use Rattle.image_check.specs.Opening.{HasPlace, IsHandedBack}
 
+-- where a window stays and its bytes do, the region does
+pub whole-kept : (old new : Cut) → SamePlace old new → new.bytes ≡ old.bytes → whole new ≡ whole old
+whole-kept old new place bytes = let before = place.before in let after = place.after in cc
+
 -- a window of the region whose bytes alone may be others
 pub record IsWritten (region : List ℕ) (base size : ℕ) (w : Cut) : Type 0 where
   pub room : base + size ≤ length region

@@ -47,18 +47,16 @@ module _ (image : Given) (region : List ℕ) (base : ℕ) (w : Cut) (h : IsImage
       refused (format_of image.bytes) image region base w h mode why cause back (subst (λ (n : ℕ). IsWhyRefused n w.bytes why) format x) e f in
       record { answers = record { why = why-any image base (length region) cause o.answers.why; handed_back = o.answers.handed_back }; too_small = o.too_small }
 
-  pub opened-any : (mode : Mode) (new : Cut) (s : State) → IsImage v w.bytes → SamePlace w new → IsRenewed v w.bytes new.bytes → s.cut ≡ new → s.mode ≡ mode → OpensAny image region base mode (Ok s)
-  opened-any mode new s there place r e f = record {
+  pub opened-any : (mode : Mode) (s : State) → IsImage v w.bytes → SamePlace w s.cut → IsRenewed v w.bytes s.cut.bytes
+      → s.mode ≡ mode → OpensAny image region base mode (Ok s)
+  opened-any mode s there place r f = record {
     answers = record {
       read = h.read;
       mode = f;
-      place = record {
-        before = ap (λ (c : Cut). c.before) e ∙ place.before ∙ h.place.before;
-        after = ap (λ (c : Cut). c.after) e ∙ place.after ∙ h.place.after;
-      };
+      place = record { before = place.before ∙ h.place.before; after = place.after ∙ h.place.after };
       denotes = subst (λ (b : List ℕ). IsImage (format_of image.bytes) b) h.bytes (subst (λ (n : ℕ). IsImage n w.bytes) format there);
-      renewed = subst (λ (c : Cut). IsRenewed (format_of image.bytes) image.bytes c.bytes) (sym e)
-          (subst (λ (b : List ℕ). IsRenewed (format_of image.bytes) b new.bytes) h.bytes (subst (λ (n : ℕ). IsRenewed n w.bytes new.bytes) format r));
+      renewed = subst (λ (b : List ℕ). IsRenewed (format_of image.bytes) b s.cut.bytes) h.bytes
+          (subst (λ (n : ℕ). IsRenewed n w.bytes s.cut.bytes) format r);
     };
     too_small = λ t. absurd (no-room (format_of image.bytes) image region base w h t);
   }

@@ -1,6 +1,6 @@
 -- What the rows of the map say of their owners is what the tiles say of theirs.
 use Rattle.std.proofs.Common.{◌≡◌, refl, sym, ap, subst, ◌∙◌, ℕ, suc, ◌+◌, ◌-◌, ◌*◌, ◌/◌, ◌≤◌, ◌<◌, inl, inr, ⊎_elim, Bool, true, false, not, ◌&&◌, ◌||◌, ◌==◌, List, [], ◌∷◌, length, arith, cond}
-use Rattle.std.specs.Prelude.{Option, Some, None, IsTrue, is_some, nat_eq, slice_get}
+use Rattle.std.specs.Prelude.{Option, Some, None, IsTrue, count_by, if◌then◌else◌, is_some, nat_eq, slice_get}
 use Rattle.std.specs.List.{cons_option, list_all}
 use Rattle.std.proofs.lemmas.Bool.{and_parts, both_ways, cases_Bool, eqb-true}
 use Rattle.raw_region.specs.Memory.{bytes_of}
@@ -84,7 +84,7 @@ module _ (b : List ℕ) (es : Blocks) (h : HasTiles b) (f : frames es ≡ frames
   image-row : Row 128 (tiles_in b) (length b - 16)
   image-row = (has_tags-AreWholeTiles current (bytes_of b) (length b) h.tags).row
 
-  image-blocks : AreBlocks (tiles_in b) es
+  pub image-blocks : AreBlocks (tiles_in b) es
   image-blocks = frame-AreBlocks (tiles_in b) es (entries_of (tiles_in b)) f (tags-blocks b h)
 
   pub rows-owned : AreOwned es → list_all (has_owner es) (tiles_in b) ≡ true
@@ -139,3 +139,17 @@ rows-weigh b es h f =
     h.tags).row in
     let same = few-rows b es f in
     omega arith
+
+-- there is a row for each tile in use
+used-count : (o : Option Role) (offset len : ℕ) (es : Blocks) (n : ℕ) → length es ≡ n
+    → length (cons_option (elim o [ None ↦ None | Some role ↦ Some (offset + 16, new_block role len) ]) es) ≡ (if is_some o then 1 else 0) + n
+used-count None offset len es n e = omega arith
+used-count (Some role) offset len es n e = omega arith
+
+entries-count : (ts : List Tile) → length (entries_of ts) ≡ count_by (λ (t : Tile). is_some t.use_of) ts
+entries-count [] = refl
+entries-count (t ∷ ts) = used-count t.use_of t.offset t.len (entries_of ts) _ (entries-count ts)
+
+pub rows-count : (b : List ℕ) (es : Blocks) → frames es ≡ frames (entries_of (tiles_in b))
+    → length es ≡ count_by (λ (t : Tile). is_some t.use_of) (tiles_in b)
+rows-count b es f = few-rows b es f ∙ entries-count (tiles_in b)

@@ -3,9 +3,11 @@ use Rattle.std.proofs.Common.{◌≡◌, refl, sym, ap, subst, ◌∙◌, ℕ, �
 use Rattle.std.specs.Prelude.{IsTrue, if◌then◌else◌}
 use Rattle.std.proofs.lemmas.Bool.{both_ways}
 use Rattle.std.proofs.lemmas.List.{append-nil}
-use Rattle.raw_region.specs.Memory.{Cut, whole}
+use Rattle.raw_region.specs.Format.{current}
+use Rattle.raw_region.specs.Memory.{Cut, SamePlace, whole}
 use Rattle.block_tags.specs.Format.{is_legal_size}
 use Rattle.segment_manager.specs.declared.modes.Mode.{Mode}
+use Rattle.segment_manager.specs.State.{State}
 use Rattle.image_check.specs.declared.classes.ImageClass.{ImageClass}
 use Rattle.image_check.specs.declared.classes.ImageClass.TheVariants.{Truncated, BadMagic, UnsupportedVersion, BadSize}
 use Rattle.image_check.specs.declared.errors.OpenError.{OpenError}
@@ -15,14 +17,15 @@ use Rattle.image_check.specs.declared.errors.CheckError.TheVariants.{Class, NoMe
 use Rattle.image_check.specs.EarlyTests.{has_front, has_magic, has_version, size_word}
 use Rattle.image_check.specs.Classes.{class_of, holds}
 use Rattle.image_check.specs.Checking.{IsWhyRefused, cause_for}
-use Rattle.image_check.specs.Opening.{IsTooSmallFor, has_early_class}
+use Rattle.image_check.specs.Opening.{IsImage, IsTooSmallFor, has_early_class}
+use Rattle.image_check.specs.OpeningAny.{IsRenewed}
 use Rattle.image_check.specs.OpeningBytes.{IsMisfit, IsWhyNotOf, OpensBytes, as_given}
-use Rattle.image_check.specs.Passes.{has_block}
+use Rattle.image_check.specs.Passes.{IsRefusalFor, has_block}
 use Rattle.image_check.specs.Reading.{IsImageRead, front_of}
 use Rattle.image_check.proofs.Deciding.{decided-some, first_class}
 use Rattle.image_check.proofs.Early.{cut-Truncated}
 use Rattle.image_check.proofs.Fronts.{IsRight, front-decided, front-wrong, has_front-IsRight}
-use Rattle.image_check.proofs.Refused.{back-from, no-room}
+use Rattle.image_check.proofs.Refused.{back-from, no-room, opened}
 use Rattle.image_check.proofs.Stopping.{front-early, more-decided}
 
 -- ---- why it is not put there
@@ -84,14 +87,23 @@ misfit-more format b base capacity size r room l = record {
 module _ (format : ℕ) (b region : List ℕ) (base : ℕ) (w : Cut) (h : IsImageRead format (as_given b) region base w) where
   why-not-of : (why : CheckError) → IsWhyRefused format w.bytes why → IsWhyNotOf format b base (length region) (cause_for why)
   why-not-of (Class c) x = subst (λ (y : List ℕ). class_of format y ≡ Some c) h.bytes x
-  why-not-of (NoMemory refusal) x = record {
-    read = h.read;
-    early = subst (λ (y : List ℕ). has_early_class format y ≡ false) h.bytes x.0;
-    used = subst (λ (y : List ℕ). IsTrue (has_block y)) h.bytes x.1;
-  }
+  why-not-of (NoMemory refusal) x = (
+    record {
+      read = h.read;
+      early = subst (λ (y : List ℕ). has_early_class format y ≡ false) h.bytes x.0;
+      used = subst (λ (y : List ℕ). IsTrue (has_block y)) h.bytes x.1;
+    },
+    subst (λ (y : List ℕ). IsRefusalFor y refusal) h.bytes x.2,
+  )
 
   as-long : length b ≡ size_word b
   as-long = sym (ap length h.bytes) ∙ sym h.front.says ∙ ap size_word h.bytes
+
+  pub opened-bytes : (mode : Mode) (s : State) → format ≡ current → IsImage format w.bytes → SamePlace w s.cut
+      → IsRenewed format w.bytes s.cut.bytes → s.mode ≡ mode → OpensBytes format b region base mode (Ok s)
+  opened-bytes mode s now d place r f =
+      let o = opened format (as_given b) region base w h mode s now d place r f in
+      record { answers = o.answers; too_small = o.too_small }
 
   pub refused-bytes : (mode : Mode) (why : CheckError) (cause : OpenError) (back : List ℕ) → IsWhyRefused format w.bytes why → cause ≡ cause_for why → back ≡ whole w
       → OpensBytes format b region base mode (Err (record { region = back; cause = cause }))

@@ -1,9 +1,11 @@
 -- An image that was read and is refused, and why; or that is found good, and no segment is made of it.
 use Rattle.std.proofs.Common.{◌≡◌, refl, sym, ap, subst, ◌∙◌, inl, ℕ, ◌+◌, ◌≤◌, List, length, arith, Some, Ok, Err}
 use Rattle.raw_region.specs.Device.{Given}
-use Rattle.raw_region.specs.Memory.{Cut, whole}
+use Rattle.raw_region.specs.Format.{current}
+use Rattle.raw_region.specs.Memory.{Cut, SamePlace, whole}
 use Rattle.segment_manager.specs.declared.modes.Mode.{Mode}
 use Rattle.segment_manager.specs.declared.modes.Mode.TheVariants.{ReadOnly}
+use Rattle.segment_manager.specs.State.{State}
 use Rattle.image_check.specs.declared.errors.OpenError.{OpenError}
 use Rattle.image_check.specs.declared.errors.CheckError.{CheckError}
 use Rattle.image_check.specs.declared.errors.CheckError.TheVariants.{Class, NoMemory}
@@ -11,8 +13,9 @@ use Rattle.image_check.specs.EarlyTests.{has_front, size_word}
 use Rattle.image_check.specs.Classes.{class_of}
 use Rattle.image_check.specs.Opening.{IsHandedBack, IsTooSmallFor, IsImage, IsWhyNot, Opens, Verifies, has_early_class}
 use Rattle.image_check.specs.Checking.{IsWhyRefused, cause_for}
+use Rattle.image_check.specs.OpeningAny.{IsRenewed}
 use Rattle.image_check.specs.Reading.{IsImageRead}
-use Rattle.image_check.specs.Passes.{has_block}
+use Rattle.image_check.specs.Passes.{IsRefusalFor, has_block}
 use Rattle.image_check.proofs.Filled.{HasFront-IsRight, HasFront-least}
 use Rattle.image_check.proofs.HandedBack.{written-back}
 use Rattle.std.specs.Prelude.{IsTrue, false}
@@ -29,11 +32,14 @@ module _ (format : ℕ) (image : Given) (region : List ℕ) (base : ℕ) (w : Cu
 
   why-not : (why : CheckError) → IsWhyRefused format w.bytes why → IsWhyNot format image base (length region) (cause_for why)
   why-not (Class c) x = record { sound = h.read.failed; right = inl (h.read.ended, subst (λ (b : List ℕ). class_of format b ≡ Some c) h.bytes x) }
-  why-not (NoMemory refusal) x = record {
-    read = h.read;
-    early = subst (λ (b : List ℕ). has_early_class format b ≡ false) h.bytes x.0;
-    used = subst (λ (b : List ℕ). IsTrue (has_block b)) h.bytes x.1;
-  }
+  why-not (NoMemory refusal) x = (
+    record {
+      read = h.read;
+      early = subst (λ (b : List ℕ). has_early_class format b ≡ false) h.bytes x.0;
+      used = subst (λ (b : List ℕ). IsTrue (has_block b)) h.bytes x.1;
+    },
+    subst (λ (b : List ℕ). IsRefusalFor b refusal) h.bytes x.2,
+  )
 
   -- the window alone was written
   pub back-from : (back : List ℕ) → back ≡ whole w → IsHandedBack format image region base back
@@ -57,6 +63,20 @@ module _ (format : ℕ) (image : Given) (region : List ℕ) (base : ℕ) (w : Cu
     answers = record {
       why = subst (IsWhyNot format image base (length region)) (sym e) (why-not why x);
       handed_back = back-from back f;
+    };
+    too_small = λ t. absurd (no-room t);
+  }
+
+  -- a segment of its bytes
+  pub opened : (mode : Mode) (s : State) → format ≡ current → IsImage format w.bytes → SamePlace w s.cut
+      → IsRenewed format w.bytes s.cut.bytes → s.mode ≡ mode → Opens format image region base mode (Ok s)
+  opened mode s now d place r f = record {
+    answers = record {
+      read = h.read;
+      mode = f;
+      bytes = r.same now ∙ h.bytes;
+      place = record { before = place.before ∙ h.place.before; after = place.after ∙ h.place.after };
+      denotes = subst (IsImage format) h.bytes d;
     };
     too_small = λ t. absurd (no-room t);
   }

@@ -10,9 +10,13 @@ use Rattle.image_check.specs.declared.errors.OpenError.{OpenError}
 use Rattle.image_check.specs.declared.errors.OpenError.TheVariants.{Image, OutOfMemory}
 use Rattle.image_check.specs.ObjectTests.{has_indexes, has_objects}
 use Rattle.image_check.specs.Fields.{is_shared, is_orphaned, has_containers}
-use Rattle.image_check.specs.Passes.{tiles_in, has_block}
+use Rattle.best_fit.specs.WayPoints.{LeadToBlocks}
+use Rattle.best_fit.specs.declared.way_points.WayPoints.{WayPoints}
+use Rattle.image_check.specs.Owners.{Blocks, entries_of, frames}
+use Rattle.image_check.specs.Passes.{CountsTiles, HasTiles, IsRefusalFor, Spends, tiles_in, has_block}
 use Rattle.image_check.specs.Classes.{class_of}
-use Rattle.image_check.specs.Opening.{has_early_class}
+use Rattle.image_check.specs.Opening.{IsImage, has_early_class}
+use Rattle.image_check.specs.Visits.{all_rates}
 
 -- the first class from the eighth on, by the five tests
 abbrev pub late_by : Bool → Bool → Bool → Bool → Bool → Option ImageClass
@@ -32,9 +36,22 @@ FindsLate format b result =
 -- why an image is not opened
 abbrev pub IsWhyRefused : ℕ → List ℕ → CheckError → Type 0
 IsWhyRefused format b (Class c) = class_of format b ≡ Some c
-IsWhyRefused format b (NoMemory refusal) = (has_early_class format b ≡ false) × IsTrue (has_block b)
+IsWhyRefused format b (NoMemory refusal) =
+    (has_early_class format b ≡ false) × IsTrue (has_block b) × IsRefusalFor b refusal
+
+-- it denotes a directory, and the way-points lead to its blocks
+pub record IsImageNoted (format : ℕ) (b : List ℕ) (points : WayPoints) : Type 0 where
+  pub image : IsImage format b
+  pub points : LeadToBlocks points b
+
+-- all passes over an image went well: the map has its blocks, and they spent no more than they may
+pub record ArePassed (b : List ℕ) (es : Blocks) (old new : ℕ) : Type 0 where
+  pub tiles : HasTiles b
+  pub frame : frames es ≡ frames (entries_of (tiles_in b))
+  pub spent : Spends all_rates 115 b old new
+  pub counted : CountsTiles b old new
 
 -- the same as an answer to an opening
 abbrev pub cause_for : CheckError → OpenError
 cause_for (Class c) = Image c
-cause_for (NoMemory refusal) = OutOfMemory
+cause_for (NoMemory refusal) = OutOfMemory refusal

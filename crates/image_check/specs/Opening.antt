@@ -15,7 +15,7 @@ use Rattle.image_check.specs.declared.errors.OpenRefused.{OpenRefused}
 use Rattle.image_check.specs.declared.classes.ImageClass.{ImageClass}
 use Rattle.image_check.specs.EarlyTests.{has_front, size_word}
 use Rattle.image_check.specs.Classes.{holds, classes, class_of, number_of, DecidesClass}
-use Rattle.image_check.specs.Passes.{has_block}
+use Rattle.image_check.specs.Passes.{IsRefusalFor, has_block}
 
 -- ---- of the bytes
 
@@ -83,7 +83,7 @@ pub record IsOpened (format : ℕ) (image : Given) (region : List ℕ) (base : �
 abbrev pub IsWhyNot : ℕ → Given → ℕ → ℕ → OpenError → Type 0
 IsWhyNot format image base capacity (Image c) = IsRefusedAs format image c
 IsWhyNot format image base capacity RegionTooSmall = IsTooSmallFor format image base capacity
-IsWhyNot format image base capacity OutOfMemory = IsOutOfMemory format image
+IsWhyNot format image base capacity (OutOfMemory refusal) = IsOutOfMemory format image × IsRefusalFor image.bytes refusal
 IsWhyNot format image base capacity ReadFault = IsUndecided format image
 
 -- The region comes back. The bytes before the base and those behind base and size are as they were, and where the image
@@ -128,7 +128,7 @@ pub record Verifies (format : ℕ) (image : Given) (region : List ℕ) (base : �
 -- by how much a call raises the count of failed reads
 abbrev pub failed_reads : {T : Type 0} → Result T OpenError → ℕ
 failed_reads (Ok x) = 0
-failed_reads (Err cause) = elim cause [ Image c ↦ 0 | RegionTooSmall ↦ 0 | OutOfMemory ↦ 0 | ReadFault ↦ 1 ]
+failed_reads (Err cause) = elim cause [ Image c ↦ 0 | RegionTooSmall ↦ 0 | OutOfMemory refusal ↦ 0 | ReadFault ↦ 1 ]
 
 -- a call asks a reader no more behind its end: where the last read answered it that one alone did, and else none
 abbrev pub AsksToTheEnd : Gave → Gave → Type 0
@@ -144,7 +144,7 @@ size_or_least b = if is_legal_size (size_word b) then size_word b else 144
 abbrev pub is_late : OpenError → Bool
 is_late (Image c) = nat_lt 7 (number_of c)
 is_late RegionTooSmall = false
-is_late OutOfMemory = false
+is_late (OutOfMemory refusal) = false
 is_late ReadFault = false
 
 -- a count is raised by no more than 64 for each 16 bytes of the size, and 64

@@ -16,6 +16,7 @@ use Rattle.image_check.specs.declared.errors.OpenError.TheVariants.{Image, Regio
 use Rattle.image_check.specs.declared.errors.OpenRefused.{OpenRefused}
 use Rattle.image_check.specs.declared.classes.ImageClass.{ImageClass}
 use Rattle.image_check.specs.Formats.{DecidesAny, class_of_any, format_of}
+use Rattle.image_check.specs.Passes.{IsRefusalFor}
 use Rattle.image_check.specs.Opening.{IsHandedBack, IsImage, IsOutOfMemory, IsReadToEnd, IsTooSmallFor, cause_of, is_too_small_answer}
 
 -- ---- what becomes of the bytes
@@ -90,7 +91,8 @@ pub record IsUndecidedAny (image : Given) : Type 0 where
 abbrev pub IsWhyNotAny : Given → ℕ → ℕ → OpenError → Type 0
 IsWhyNotAny image base capacity (Image c) = IsRefusedAsAny image c
 IsWhyNotAny image base capacity RegionTooSmall = IsTooSmallFor (format_of image.bytes) image base capacity
-IsWhyNotAny image base capacity OutOfMemory = IsOutOfMemory (format_of image.bytes) image
+IsWhyNotAny image base capacity (OutOfMemory refusal) =
+    IsOutOfMemory (format_of image.bytes) image × IsRefusalFor image.bytes refusal
 IsWhyNotAny image base capacity ReadFault = IsUndecidedAny image
 
 -- no segment is opened; the region comes back

@@ -9,6 +9,7 @@ use Rattle.image_check.specs.declared.errors.OpenRefused.{OpenRefused}
 use Rattle.image_check.specs.EarlyTests.{has_front, size_word}
 use Rattle.image_check.specs.Classes.{class_of}
 use Rattle.image_check.specs.Opening.{IsHandedBack, IsOpened, IsOutOfMemory, IsTooSmallFor, cause_of}
+use Rattle.image_check.specs.Passes.{IsRefusalFor}
 use Rattle.image_check.specs.Opening.{is_late, is_too_small_answer}
 
 -- bytes that lie in memory are as those of a reader that gave them, was read to its end and did not fail
@@ -19,7 +20,7 @@ as_given b = record { bytes = b; ended = true; failed = false }
 abbrev pub IsWhyNotOf : ℕ → List ℕ → ℕ → ℕ → OpenError → Type 0
 IsWhyNotOf format b base capacity (Image c) = class_of format b ≡ Some c
 IsWhyNotOf format b base capacity RegionTooSmall = IsTooSmallFor format (as_given b) base capacity
-IsWhyNotOf format b base capacity OutOfMemory = IsOutOfMemory format (as_given b)
+IsWhyNotOf format b base capacity (OutOfMemory refusal) = IsOutOfMemory format (as_given b) × IsRefusalFor b refusal
 IsWhyNotOf format b base capacity ReadFault = ⊥
 
 -- no segment is opened; the region comes back, as it was where the bytes are not as many as they say

@@ -1,5 +1,5 @@
 -- What a pass over an image answers.
-use Rattle.std.specs.Prelude.{◌≡◌, ℕ, ◌+◌, ◌≤◌, Bool, true, false, List, length, is_some, IsTrue, Result, MatchResult}
+use Rattle.std.specs.Prelude.{◌≡◌, ⊥, ℕ, ◌+◌, ◌≤◌, Bool, true, false, List, count_by, length, is_some, IsTrue, Result, MatchResult}
 use Rattle.std.specs.List.{list_any}
 use Rattle.raw_region.specs.Memory.{bytes_of}
 use Rattle.raw_region.specs.Format.{current}
@@ -7,6 +7,9 @@ use Rattle.block_tags.specs.Format.{is_legal_size}
 use Rattle.block_tags.specs.Tiles.{tiles_of, has_tags}
 use Rattle.block_tags.specs.declared.tile.Tile.{Tile}
 use Rattle.image_check.specs.declared.classes.ImageClass.{ImageClass}
+use Rattle.image_check.specs.declared.errors.MemoryFault.{MemoryFault}
+use Rattle.image_check.specs.declared.errors.MemoryFault.TheVariants.{Bytes, BlockMap}
+use Rattle.image_check.specs.declared.room.NoMemory.{NoMemory}
 use Rattle.image_check.specs.Visits.{Rates, weigh}
 
 abbrev pub tiles_in : List ℕ → List Tile
@@ -15,6 +18,10 @@ tiles_in b = tiles_of (bytes_of b) (length b)
 -- a tile is in use
 abbrev pub has_block : List ℕ → Bool
 has_block b = list_any (λ (t : Tile). is_some t.use_of) (tiles_in b)
+
+-- how many are
+abbrev pub blocks_in : List ℕ → ℕ
+blocks_in b = count_by (λ (t : Tile). is_some t.use_of) (tiles_in b)
 
 -- the tags of an image of a legal size are good
 pub record HasTiles (b : List ℕ) : Type 0 where
@@ -32,3 +39,16 @@ Spends rates more b old new = (old ≤ new) × (new ≤ old + (more + weigh rate
 -- a pass counts at least one visit for each tile
 abbrev pub CountsTiles : List ℕ → ℕ → ℕ → Type 0
 CountsTiles b old new = old + length (tiles_in b) ≤ new
+
+-- and one more for each that is in use
+abbrev pub CountsBlocks : List ℕ → ℕ → ℕ → Type 0
+CountsBlocks b old new = old + length (tiles_in b) + blocks_in b ≤ new
+
+-- memory was refused for the blocks of an image, and not for something else
+abbrev pub IsRefusalFor : List ℕ → NoMemory → Type 0
+IsRefusalFor b refusal = refusal.blocks ≡ blocks_in b
+
+-- the same of one of several requests
+abbrev pub IsMapRefused : List ℕ → MemoryFault → Type 0
+IsMapRefused b (Bytes refusal) = ⊥
+IsMapRefused b (BlockMap refusal) = IsRefusalFor b refusal

@@ -78,3 +78,7 @@ block_rates = both index_rates (both object_rates (both sharing_rates (both cont
 
 abbrev pub all_rates : Rates
 all_rates = both frame_rates (both gathering_rates block_rates)
+
+-- and the noting of the blocks of which a segment is made
+abbrev pub note_rates : Rates
+note_rates = record { free = 0; object = 1; index = 1; storage = 1; node = 1 }

@@ -1,14 +1,14 @@
 //! Whether a whole image is that of a directory.
 ghost use Rattle.std.specs.Prelude.{◌≡◌, ◌≤◌, IfErr, IfOk, IsTrue, None, Some, MatchResult, OnErr, OnOk};
 ghost use Rattle.std.specs.Prelude.{false, length, true};
-ghost use Rattle.image_check.specs.Checking.{FindsLate, IsWhyRefused, cause_for};
+ghost use Rattle.image_check.specs.Checking.{ArePassed, FindsLate, IsImageNoted, IsWhyRefused, cause_for};
 ghost use Rattle.image_check.specs.Classes.{are_bytes, class_of};
 ghost use Rattle.image_check.specs.Counting.{AreCounted};
 ghost use Rattle.image_check.specs.EarlyTests.{has_reserved as is_reserved};
 ghost use Rattle.image_check.specs.Frame.{has_frame};
 ghost use Rattle.image_check.specs.Opening.{IsImage, IsRaisedFor, is_late};
-ghost use Rattle.image_check.specs.Owners.{entries_of};
-ghost use Rattle.image_check.specs.Passes.{CountsTiles, HasTiles, Spends, tiles_in};
+ghost use Rattle.image_check.specs.Owners.{entries_of, frames};
+ghost use Rattle.image_check.specs.Passes.{CountsBlocks, CountsTiles, HasTiles, Spends, tiles_in};
 ghost use Rattle.image_check.specs.Reading.{HasFront};
 ghost use Rattle.image_check.specs.Visits.{block_rates, frame_rates};
 ghost use Rattle.image_check.specs.declared.errors.OpenError.TheVariants.{Image};
@@ -24,11 +24,13 @@ use crate::gathering::gather;
 use crate::heads::is_zero;
 use crate::image_window::ImageWindow;
 use crate::indexes::check_indexes;
+use crate::noting::note_blocks;
 use crate::object_walk::check_objects;
 use crate::orphans::check_orphans;
 use crate::owners::Owners;
 use crate::sharing::check_sharing;
 use crate::without_tree::check_without_tree;
+use best_fit::WayPoints;
 use block_tags::FIRST;
 use raw_region::Steps;
 use segment_manager::layout::{FORMAT_AT, RESERVED_AT};
@@ -62,7 +64,33 @@ pub fn check(
     checked
 }
 
-/// The same, where each visit is counted.
+/// As [`check`], with way-points to the blocks in use of the image that was checked. One visit more for each of them.
+///
+/// # Errors
+///
+/// As [`check`].
+pub fn check_noting(
+    format: u64,
+    alloc: Global,
+    window: &ImageWindow,
+    steps: &mut Steps,
+) -> Result<WayPoints, CheckError>
+    requires format { format ≤ 2 }
+    requires front { HasFront format window.now }
+    ensures answers { MatchResult result (IsImageNoted format window.now.bytes) (IsWhyRefused format window.now.bytes) }
+    ensures steps { IsRaisedFor (length window.now.bytes) steps.old steps.new }
+    ensures tiles { OnOk result (CountsTiles window.now.bytes steps.old steps.new) }
+    ensures blocks { OnOk result (CountsBlocks window.now.bytes steps.old steps.new) }
+    ensures late { IfErr result (λ why. is_late (cause_for why) ≡ true
+        → CountsTiles window.now.bytes steps.old steps.new) }
+{
+    let mut visits = Visits::new(mem::replace(steps, Steps::new()));
+    let noted = note_counted(format, alloc, window, &mut visits);
+    *steps = visits.into_steps();
+    noted
+}
+
+/// As [`check`], where each visit is counted.
 ///
 /// # Errors
 ///
@@ -81,6 +109,57 @@ fn check_counted(
     ensures late { IfErr result (λ why. is_late (cause_for why) ≡ true
         → CountsTiles window.now.bytes visits.old visits.new) }
 {
+    match pass_all(format, alloc, window, visits) {
+        Ok(_) => Ok(()),
+        Err(why) => Err(why),
+    }
+}
+
+/// As [`check_noting`], where each visit is counted.
+///
+/// # Errors
+///
+/// As [`check`].
+fn note_counted(
+    format: u64,
+    alloc: Global,
+    window: &ImageWindow,
+    visits: &mut Visits,
+) -> Result<WayPoints, CheckError>
+    requires format { format ≤ 2 }
+    requires front { HasFront format window.now }
+    ensures answers { MatchResult result (IsImageNoted format window.now.bytes) (IsWhyRefused format window.now.bytes) }
+    ensures visits { IsRaisedFor (length window.now.bytes) visits.old visits.new }
+    ensures tiles { OnOk result (CountsTiles window.now.bytes visits.old visits.new) }
+    ensures blocks { OnOk result (CountsBlocks window.now.bytes visits.old visits.new) }
+    ensures late { IfErr result (λ why. is_late (cause_for why) ≡ true
+        → CountsTiles window.now.bytes visits.old visits.new) }
+{
+    match pass_all(format, alloc, window, visits) {
+        Ok(owners) => Ok(note_blocks(&owners.blocks, visits)),
+        Err(why) => Err(why),
+    }
+}
+
+/// The owners of the blocks of a window whose first words are right by a format, if it is the image of a directory.
+///
+/// # Errors
+///
+/// As [`check`].
+fn pass_all(
+    format: u64,
+    alloc: Global,
+    window: &ImageWindow,
+    visits: &mut Visits,
+) -> Result<Owners, CheckError>
+    requires format { format ≤ 2 }
+    requires front { HasFront format window.now }
+    ensures answers { MatchResult result (λ owners. IsImage format window.now.bytes) (IsWhyRefused format window.now.bytes) }
+    ensures passed { IfOk result (λ owners. ArePassed window.now.bytes owners.blocks.entries visits.old visits.new) }
+    ensures visits { IsRaisedFor (length window.now.bytes) visits.old visits.new }
+    ensures late { IfErr result (λ why. is_late (cause_for why) ≡ true
+        → CountsTiles window.now.bytes visits.old visits.new) }
+{
     let counts = match check_frame(format, window, visits) {
         Ok(counts) => counts,
         Err(class) => return Err(CheckError::Class(class)),
@@ -92,7 +171,7 @@ fn check_counted(
     if let Err(class) = check_blocks(format, window, &mut owners, visits) {
         return Err(CheckError::Class(class));
     }
-    Ok(())
+    Ok(owners)
 }
 
 /// The count of the tiles of a window whose first words are right, where its reserved bytes, tags and free tree are
@@ -144,6 +223,7 @@ fn check_blocks(
     requires pending { owners.old.pending ≡ None }
     requires waiting { owners.old.waiting ≡ 0 }
     ensures finds { FindsLate format window.now.bytes result }
+    ensures frame { OnOk result (frames owners.new.blocks.entries ≡ frames (entries_of (tiles_in window.now.bytes))) }
     ensures visits { Spends block_rates 62 window.now.bytes visits.old visits.new }
 {
     if let Err(class) = check_indexes(window, owners, visits) {

@@ -4,7 +4,7 @@ ghost use Rattle.image_check.specs.Checking.{cause_for};
 
 use crate::classes::ImageClass;
 use crate::room::NoMemory;
-use raw_region::RawRegion;
+use raw_region::{OutOfMemory, RawRegion};
 use std::fmt;
 use thiserror::Error;
 
@@ -19,10 +19,20 @@ pub enum OpenError {
     RegionTooSmall,
     /// Memory for the check of the image was refused.
     #[error("out of memory")]
-    OutOfMemory,
+    OutOfMemory(NoMemory),
     /// The reader failed before the bytes that it gave decided a class.
     #[error("read fault")]
     ReadFault,
+}
+
+/// Which request for memory was refused, where more than one thing asks: each variant holds what only that request makes.
+#[derive(Clone, Copy, Debug, PartialEq, Eq, Error)]
+#[error("out of memory")]
+pub enum MemoryFault {
+    /// That for the bytes of a region or a text.
+    Bytes(OutOfMemory),
+    /// That for the blocks of an image that is checked.
+    BlockMap(NoMemory),
 }
 
 /// No segment is opened. The region comes back. Its bytes are as they were but for those of the window from the base on
@@ -84,7 +94,7 @@ impl CheckError {
     {
         match self {
             CheckError::Class(class) => OpenError::Image(class),
-            CheckError::NoMemory(_) => OpenError::OutOfMemory,
+            CheckError::NoMemory(refusal) => OpenError::OutOfMemory(refusal),
         }
     }
 }

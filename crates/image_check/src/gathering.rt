@@ -1,8 +1,8 @@
 //! Gathering the blocks in use.
-ghost use Rattle.std.specs.Prelude.{◌≡◌, ◌+◌, ◌++◌, ◌<◌, ◌≤◌, ◌^◌, IfOk, IsOk, None, OnOk, [], length, option_to_list};
+ghost use Rattle.std.specs.Prelude.{◌≡◌, ◌+◌, ◌++◌, ◌<◌, ◌≤◌, ◌^◌, IfErr, IfOk, IsOk, None, OnOk, [], length, option_to_list};
 ghost use Rattle.image_check.specs.Counting.{AreCounted};
 ghost use Rattle.image_check.specs.Owners.{entries_of, entry_of};
-ghost use Rattle.image_check.specs.Passes.{CountsTiles, HasTiles, Spends, tiles_in};
+ghost use Rattle.image_check.specs.Passes.{CountsTiles, HasTiles, IsRefusalFor, Spends, tiles_in};
 ghost use Rattle.image_check.specs.Rows.{AreBelow};
 ghost use Rattle.image_check.specs.Visits.{Adds, gathering_rates};
 
@@ -32,6 +32,7 @@ pub(crate) fn gather(
     ensures pending { IfOk result (λ o. o.pending ≡ None) }
     ensures waiting { IfOk result (λ o. o.waiting ≡ 0) }
     ensures memory { entries_of (tiles_in window.now.bytes) ≡ [] → IsOk result }
+    ensures refused { IfErr result (IsRefusalFor window.now.bytes) }
     ensures visits { Spends gathering_rates 2 window.now.bytes visits.old visits.new }
     ensures tiles { OnOk result (CountsTiles window.now.bytes visits.old visits.new) }
 {

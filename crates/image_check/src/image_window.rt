@@ -16,6 +16,7 @@ mod blocks;
 mod objects;
 mod pairs;
 mod places;
+mod renewing;
 
 use crate::checking::Visits;
 use block_tags::{Checked, Tile, check_counted, first, next};
@@ -47,13 +48,6 @@ impl ImageWindow {
         ensures { result ≡ window }
     {
         ImageWindow { window }
-    }
-
-    /// The window, once the image was checked.
-    pub fn into_window(self) -> Window
-        ensures { result ≡ self }
-    {
-        self.window
     }
 
     /// The whole region, with the bytes that it has now.

@@ -4,14 +4,13 @@ ghost use Rattle.raw_region.specs.Device.{Reads, given_since};
 ghost use Rattle.raw_region.specs.Format.{current};
 ghost use Rattle.image_check.specs.Opening.{AsksToTheEnd, IsRaisedFor, Opens, cause_of, failed_reads};
 ghost use Rattle.image_check.specs.Opening.{is_late, size_or_least};
-ghost use Rattle.image_check.specs.Passes.{CountsTiles};
+ghost use Rattle.image_check.specs.Passes.{CountsBlocks, CountsTiles};
 
-use crate::checking::check;
+use crate::checking::check_noting;
 use crate::errors::OpenRefused;
 use crate::reading::read_image;
 use crate::versions::Versions;
 use raw_region::{RawRegion, Source, Steps};
-use segment_manager::conditioned::adopt;
 use segment_manager::layout::FORMAT;
 use segment_manager::{Mode, Segment};
 use std::alloc::Global;
@@ -27,7 +26,7 @@ use std::alloc::Global;
 /// `BadIndex` holds and a tile is in use. The region comes back.
 ///
 /// `steps` is raised by each visit of the check: by no more than 64 for each 16 bytes of the size, and 64, and where a
-/// segment is answered, or a class from `BadIndex` on, by at least one for each tile.
+/// segment is answered, or a class from `BadIndex` on, by at least one for each tile. No tile is read uncounted.
 pub fn open<S: Source>(
     alloc: Global,
     reader: &mut S,
@@ -44,12 +43,14 @@ pub fn open<S: Source>(
     ensures steps { IsRaisedFor (size_or_least (given_since (S.history reader.old) (S.history reader.new)).bytes) steps.old steps.new }
     ensures tiles { OnOk result
         (CountsTiles (given_since (S.history reader.old) (S.history reader.new)).bytes steps.old steps.new) }
+    ensures blocks { OnOk result
+        (CountsBlocks (given_since (S.history reader.old) (S.history reader.new)).bytes steps.old steps.new) }
     ensures late { IfErr result (λ refused. is_late refused.cause ≡ true
         → CountsTiles (given_since (S.history reader.old) (S.history reader.new)).bytes steps.old steps.new) }
 {
     let window = read_image(Versions::Current, reader, region, base)?;
-    match check(FORMAT, alloc, &window, steps) {
-        Ok(()) => Ok(adopt(window.into_window(), mode)),
+    match check_noting(FORMAT, alloc, &window, steps) {
+        Ok(points) => Ok(window.into_segment(FORMAT, points, mode)),
         Err(why) => Err(OpenRefused {
             region: window.into_region(),
             cause: why.into_cause(),

@@ -3,16 +3,14 @@ ghost use Rattle.std.specs.Prelude.{◌≡◌, ◌+◌, ◌-◌, ◌%◌, ◌^�
 ghost use Rattle.raw_region.specs.Device.{Reads, given_since};
 ghost use Rattle.image_check.specs.Opening.{AsksToTheEnd, IsRaisedFor, cause_of, failed_reads, is_late, size_or_least};
 ghost use Rattle.image_check.specs.OpeningAny.{OpensAny};
-ghost use Rattle.image_check.specs.Passes.{CountsTiles};
+ghost use Rattle.image_check.specs.Passes.{CountsBlocks, CountsTiles};
 
-use crate::checking::check;
+use crate::checking::check_noting;
 use crate::errors::OpenRefused;
 use crate::header::FRONT;
 use crate::reading::read_image;
-use crate::renewing::renew;
 use crate::versions::{Versions, version_in};
 use raw_region::{RawRegion, Source, Steps};
-use segment_manager::conditioned::adopt;
 use segment_manager::{Mode, Segment};
 use std::alloc::Global;
 
@@ -42,13 +40,15 @@ pub fn open_any<S: Source>(
     ensures steps { IsRaisedFor (size_or_least (given_since (S.history reader.old) (S.history reader.new)).bytes) steps.old steps.new }
     ensures tiles { OnOk result
         (CountsTiles (given_since (S.history reader.old) (S.history reader.new)).bytes steps.old steps.new) }
+    ensures blocks { OnOk result
+        (CountsBlocks (given_since (S.history reader.old) (S.history reader.new)).bytes steps.old steps.new) }
     ensures late { IfErr result (λ refused. is_late refused.cause ≡ true
         → CountsTiles (given_since (S.history reader.old) (S.history reader.new)).bytes steps.old steps.new) }
 {
     let window = read_image(Versions::All, reader, region, base)?;
     let format = version_in(window.header(0, FRONT as u64));
-    match check(format, alloc, &window, steps) {
-        Ok(()) => Ok(adopt(renew(format, window.into_window()), mode)),
+    match check_noting(format, alloc, &window, steps) {
+        Ok(points) => Ok(window.into_segment(format, points, mode)),
         Err(why) => Err(OpenRefused {
             region: window.into_region(),
             cause: why.into_cause(),

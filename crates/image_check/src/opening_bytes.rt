@@ -3,14 +3,13 @@ ghost use Rattle.std.specs.Prelude.{◌≡◌, ◌%◌, IfErr, OnOk, length, tru
 ghost use Rattle.raw_region.specs.Format.{current};
 ghost use Rattle.image_check.specs.Opening.{IsRaisedFor, is_late, size_or_least};
 ghost use Rattle.image_check.specs.OpeningBytes.{OpensBytes};
-ghost use Rattle.image_check.specs.Passes.{CountsTiles};
+ghost use Rattle.image_check.specs.Passes.{CountsBlocks, CountsTiles};
 
-use crate::checking::check;
+use crate::checking::check_noting;
 use crate::errors::OpenRefused;
 use crate::placing::place_image;
 use crate::versions::Versions;
 use raw_region::{RawRegion, Steps};
-use segment_manager::conditioned::adopt;
 use segment_manager::layout::FORMAT;
 use segment_manager::{Mode, Segment};
 use std::alloc::Global;
@@ -26,7 +25,7 @@ use std::alloc::Global;
 /// `ReadFault` never. The region comes back, as it was where the bytes are not as many as they say.
 ///
 /// `steps` is raised by each visit of the check: by no more than 64 for each 16 bytes of the size, and 64, and where a
-/// segment is answered, or a class from `BadIndex` on, by at least one for each tile.
+/// segment is answered, or a class from `BadIndex` on, by at least one for each tile. No tile is read uncounted.
 pub fn open_bytes(
     alloc: Global,
     image: &[u8],
@@ -39,11 +38,12 @@ pub fn open_bytes(
     ensures opens { OpensBytes current image.now region base mode result }
     ensures steps { IsRaisedFor (size_or_least image.now) steps.old steps.new }
     ensures tiles { OnOk result (CountsTiles image.now steps.old steps.new) }
+    ensures blocks { OnOk result (CountsBlocks image.now steps.old steps.new) }
     ensures late { IfErr result (λ refused. is_late refused.cause ≡ true → CountsTiles image.now steps.old steps.new) }
 {
     let window = place_image(Versions::Current, image, region, base)?;
-    match check(FORMAT, alloc, &window, steps) {
-        Ok(()) => Ok(adopt(window.into_window(), mode)),
+    match check_noting(FORMAT, alloc, &window, steps) {
+        Ok(points) => Ok(window.into_segment(FORMAT, points, mode)),
         Err(why) => Err(OpenRefused {
             region: window.into_region(),
             cause: why.into_cause(),

@@ -1,14 +1,17 @@
 //! Room for the blocks in use: the one place where the check of an image asks for memory.
-ghost use Rattle.std.specs.Prelude.{◌≡◌, ◌≤◌, IfOk, IsOk, []};
+ghost use Rattle.std.specs.Prelude.{◌≡◌, ◌≤◌, IfErr, IfOk, IsOk, []};
 
 use crate::image_window::Blocks;
 use indexmap::IndexMap;
-use std::alloc::{AllocError, Global};
+use std::alloc::Global;
 
-/// The allocator refused memory. Its field is private: only [`room_for`] makes one, from the allocator's refusal.
-#[derive(Clone, Copy)]
+/// The allocator refused memory for the blocks of an image. One field is private: only `room_for` makes one, where a
+/// request was refused.
+#[derive(Clone, Copy, Debug, PartialEq, Eq)]
 pub struct NoMemory {
-    refusal: AllocError,
+    /// For how many blocks memory was asked.
+    pub blocks: usize,
+    _made: (),
 }
 
 /// No blocks, with room for so many, the last of which has its tile at `end`. Memory is asked for here alone, for each
@@ -21,16 +24,21 @@ pub(crate) fn room_for(alloc: Global, count: usize, end: u64) -> Result<Blocks, 
     ensures empty { IfOk result (λ blocks. blocks.entries ≡ []) }
     ensures room { IfOk result (λ blocks. count ≤ blocks.room) }
     ensures memory { count ≡ 0 → IsOk result }
+    ensures refused { IfErr result (λ refusal. refusal.blocks ≡ count) }
 {
+    let refusal = NoMemory {
+        blocks: count,
+        _made: (),
+    };
     let mut lasts = match Vec::with_capacity(alloc, count) {
         Ok(lasts) => lasts,
-        Err(refusal) => return Err(NoMemory { refusal }),
+        Err(_) => return Err(refusal),
     };
     // There is room, so that no memory is asked for.
     let _ = lasts.resize(count, 0);
     match IndexMap::with_capacity(alloc, count) {
         Ok(map) => Ok(Blocks::new(map, lasts, shift_for(count, end))),
-        Err(refusal) => Err(NoMemory { refusal }),
+        Err(_) => Err(refusal),
     }
 }
 

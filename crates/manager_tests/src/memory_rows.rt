@@ -68,7 +68,8 @@ fn opens(
 
 /// The region that comes back where memory was refused.
 fn handed_back(rt: &impl Abort, refused: OpenRefused) -> RawRegion {
-    same(rt, refused.cause, OpenError::OutOfMemory);
+    let is_memory = matches!(&refused.cause, OpenError::OutOfMemory(_));
+    same(rt, is_memory, true);
     same(rt, refused.region.capacity(), 2048);
     refused.region
 }

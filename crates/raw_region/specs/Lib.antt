@@ -11,3 +11,4 @@ pub mod LentTwo
 pub mod Answers
 pub mod Device
 pub mod Streams
+pub mod Refusals

@@ -4,32 +4,28 @@
 ghost use Rattle.std.specs.Prelude.{◌≡◌};
 ghost use Rattle.segment_disk.specs.Events.{nothing_taken};
 
+mod requests;
+
 use raw_region::stream::{Reading, Writing};
+use requests::{Failure, asked, borrowed, buffered, words};
 use segment_cli::SessionFault;
 use segment_commands::{
     ProgramFault, check, create, draw, draw_page, dump, dump_capacities, explain, grow, lint, load,
-    migrate, print, print_language, report, report_file, run, run_strict, shrink, stat,
+    migrate, print, print_language, report, report_file, report_no_memory, run, run_strict, shrink,
+    stat,
 };
 use segment_disk::{HostDisk, Numbered, Outlet, Output, StopsAtError};
-use segment_invocation::{
-    Answering, Invocation, InvocationFault, ModeName, Saving, VERSION, invocation, is_verbose,
-};
+use segment_invocation::{Answering, Invocation, ModeName, Saving, VERSION, is_verbose};
 use segment_scripts::command_rows;
-use std::alloc::{AllocError, Global};
-use std::io::{self, BufWriter, ErrorKind, IsTerminal};
+use std::io::{self, IsTerminal};
 use std::process::ExitCode;
-
-/// Memory for reading the command line, or for the answers, was refused.
-const OUT_OF_MEMORY: ProgramFault = ProgramFault::Session(SessionFault::OutOfMemory);
-
-/// How many bytes of answers go out at once, at most.
-const PIECE: usize = 65536;
 
 /// Ends with the status of what came of the command line; where that is a fault, its line goes to standard error.
 fn main(rt: HostRuntime) -> ExitCode {
     let status = match obey(&rt) {
         Ok(status) => status,
-        Err(fault) => tell(&rt, fault),
+        Err(Failure::Fault(fault)) => tell(&rt, fault),
+        Err(Failure::NoMemory(_)) => report_no_memory(&mut Writing::new(rt.stderr())),
     };
     ExitCode::from(status)
 }
@@ -40,26 +36,23 @@ fn tell(rt: &HostRuntime, fault: ProgramFault) -> u8 {
 }
 
 /// Does what the program's own command line asks for, and answers the status.
-fn obey(rt: &HostRuntime) -> Result<u8, ProgramFault> {
+fn obey(rt: &HostRuntime) -> Result<u8, Failure> {
     let owned = words(rt)?;
-    let words = borrowed(rt.alloc(), owned.as_slice()).map_err(|_| OUT_OF_MEMORY)?;
-    match invocation(rt.alloc(), words.as_slice()) {
+    let words = borrowed(rt.alloc(), owned.as_slice())?;
+    match asked(rt.alloc(), words.as_slice())? {
         Ok(asked) => perform(rt, asked, is_verbose(words.as_slice())),
-        Err(InvocationFault::Usage(wrong)) => {
+        Err(wrong) => {
             let _ = eprint!(rt; "{wrong}");
-            Err(ProgramFault::Usage)
+            Err(Failure::Fault(ProgramFault::Usage))
         }
-        Err(InvocationFault::OutOfMemory) => Err(OUT_OF_MEMORY),
     }
 }
 
 /// Does what the command line asks for, with the files of the system, standard input and standard output, and answers
 /// the status. Where a person reads standard error, or more is asked for, it is told behind the line of a fault why the
 /// system did not open or make the file, as far as it said so.
-fn perform(rt: &HostRuntime, asked: Invocation<'_>, is_verbose: bool) -> Result<u8, ProgramFault> {
-    let Ok(buffer) = BufWriter::with_capacity(rt.alloc(), PIECE, io::writer(rt)) else {
-        return Err(OUT_OF_MEMORY);
-    };
+fn perform(rt: &HostRuntime, asked: Invocation<'_>, is_verbose: bool) -> Result<u8, Failure> {
+    let buffer = buffered(rt.alloc(), io::writer(rt))?;
     let mut disk = HostDisk::new(rt);
     let Err(fault) = command(rt, &mut disk, asked, Outlet::new(buffer)) else {
         return Ok(0);
@@ -186,21 +179,4 @@ fn is_of_file(fault: ProgramFault) -> bool {
         fault,
         ProgramFault::Session(SessionFault::ReadFault | SessionFault::WriteFault)
     )
-}
-
-/// The words of the command line, the program's name first. Those that are no text are a wrong command line.
-fn words(rt: &HostRuntime) -> Result<Vec<String>, ProgramFault> {
-    match std::env::args(rt) {
-        Ok(words) => words.collect(rt.alloc()).map_err(|_| OUT_OF_MEMORY),
-        Err(error) if error.kind() == ErrorKind::OutOfMemory => Err(OUT_OF_MEMORY),
-        Err(_) => {
-            let _ = eprintln!(rt; "error: the command line is no UTF-8");
-            Err(ProgramFault::Usage)
-        }
-    }
-}
-
-/// The words as texts that are lent.
-fn borrowed<'a>(alloc: Global, words: &'a [String]) -> Result<Vec<&'a str>, AllocError> {
-    words.iter().map(|word| word.as_str()).collect(alloc)
 }

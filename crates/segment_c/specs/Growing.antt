@@ -1,10 +1,11 @@
 -- Segments that become longer, in a larger region where their own has no room: what the call owes.
-use Rattle.std.specs.Prelude.{◌≡◌, ◌≤◌, ◌⊎◌, ℕ, ◌+◌, ◌%◌, false, None, length}
+use Rattle.std.specs.Prelude.{◌≡◌, ◌⊎◌, ℕ, ◌+◌, None, Some}
 use Rattle.segment_manager.specs.declared.modes.Mode.{Mode}
 use Rattle.segment_manager.specs.Directory.{Directory}
 use Rattle.segment_manager.specs.blocks.Resized.{grown}
 use Rattle.segment_manager.specs.State.{State, StandsFor}
-use Rattle.segment_manager.specs.Step.{is_read_only}
+use Rattle.grow_shrink.specs.declared.larger_region.GrowOrMoveError.{GrowOrMoveError}
+use Rattle.grow_shrink.specs.declared.larger_region.GrowOrMoveError.TheVariants.{Growth, OutOfMemory}
 use Rattle.grow_shrink.specs.Resized.{growth_refusal}
 use Rattle.segment_c.specs.Resizing.{size_code}
 
@@ -19,9 +20,7 @@ IsGrowthCode mode extra code d =
     (code ≡ size_code (growth_refusal mode d.size extra (d.size + extra)))
     ⊎ ((code ≡ 26) × (growth_refusal mode d.size extra (d.size + extra) ≡ None))
 
--- the segment may have so many bytes more, but that its region need not have room
-pub record IsShortOfRoom (s : State) (extra : ℕ) : Type 0 where
-  pub writing : is_read_only s.mode ≡ false
-  pub long : 32 ≤ extra
-  pub whole : extra % 16 ≡ 0
-  pub small : length s.cut.bytes + extra ≤ 1073741824
+-- the code by which a segment does not become longer, though it may move
+abbrev pub growing_code : GrowOrMoveError → ℕ
+growing_code (Growth reason) = size_code (Some reason)
+growing_code (OutOfMemory refusal) = 26

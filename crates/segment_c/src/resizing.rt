@@ -1,10 +1,11 @@
 //! Segments that become longer or shorter, and that move into other regions.
-ghost use Rattle.std.specs.Prelude.{◌≡◌, ◌<◌, ◌≤◌, ◌⊎◌, ◌+◌, IfOk, Some, false, if◌then◌else◌, length, min, true};
+ghost use Rattle.std.specs.Prelude.{◌≡◌, ◌<◌, ◌≤◌, ◌⊎◌, IfErr, IfOk, Some, false, if◌then◌else◌, length, min, true};
 ghost use Rattle.std.specs.declared.option.Option.TheVariants.{Some as Held};
 ghost use Rattle.grow_shrink.specs.Resized.{growth_refusal, room_of, shrink_refusal};
+ghost use Rattle.raw_region.specs.Refusals.{refusal_of};
 ghost use Rattle.raw_region.specs.Regions.{IsCapacity};
 ghost use Rattle.segment_c.specs.Calls.{IsClosed, IsStopped, Opened};
-ghost use Rattle.segment_c.specs.Growing.{IsGrowthCode, IsLonger, IsShortOfRoom};
+ghost use Rattle.segment_c.specs.Growing.{IsGrowthCode, IsLonger, growing_code};
 ghost use Rattle.segment_c.specs.Opening.{capacity_wrong};
 ghost use Rattle.segment_c.specs.Resizing.{IsMoved, size_code};
 ghost use Rattle.segment_c.specs.Marked.{IsMarked};
@@ -13,12 +14,13 @@ ghost use Rattle.segment_manager.specs.blocks.Resized.{Resizes, grown, shrunk};
 ghost use Rattle.segment_manager.specs.State.{IsSegment, StandsFor, State};
 
 use crate::calls::passed;
-use crate::codes::{BAD_GROWTH, BAD_SIZE, DONE, NO_MEMORY, READ_ONLY, SHORT_REGION, TOO_LARGE};
+use crate::codes::{BAD_GROWTH, BAD_SIZE, DONE, READ_ONLY, SHORT_REGION, TOO_LARGE, no_memory};
 use crate::handle::{Handle, put_changed, take};
-use grow_shrink::GrowError;
+use grow_shrink::{GrowError, GrowOrMoveError, grow_or_move};
+use image_check::MemoryFault;
 use raw_region::{OutOfMemory, RawRegion, Window};
 use segment_manager::Segment;
-use segment_manager::conditioned::{adopt, extend_end};
+use segment_manager::conditioned::adopt;
 use std::alloc::Global;
 
 /// The most bytes of a region.
@@ -104,11 +106,13 @@ fn relocate(alloc: Global, segment: &mut Segment, capacity: u64) -> u32
     if capacity < segment.as_bytes().len() as u64 {
         return SHORT_REGION;
     }
-    let Ok(copy) = copied(alloc, segment, capacity) else {
-        return NO_MEMORY;
-    };
-    *segment = copy;
-    DONE
+    match copied(alloc, segment, capacity) {
+        Ok(copy) => {
+            *segment = copy;
+            DONE
+        }
+        Err(refusal) => no_memory(MemoryFault::Bytes(refusal)),
+    }
 }
 
 /// The same segment at the front of a region of its own of `capacity` bytes, which has room for it.
@@ -117,6 +121,7 @@ pub fn copied(alloc: Global, segment: &Segment, capacity: u64) -> Result<Segment
     requires room { length segment.now.cut.bytes ≤ capacity }
     ensures moved { IfOk result (λ copy. IsMoved segment.now copy capacity) }
     ensures room { IfOk result (λ copy. capacity ≤ room_of copy.cut) }
+    ensures refused { IfErr result (λ refusal. refusal ≡ refusal_of capacity) }
 {
     let region = RawRegion::new(alloc, capacity)?;
     let image = segment.as_bytes();
@@ -158,17 +163,19 @@ fn grow(alloc: Global, segment: &mut Segment, extra: u64) -> u32
     ensures grown { result ≡ 0 → IsLonger segment.old segment.new extra }
     ensures kept { 1 ≤ result → segment.new ≡ segment.old }
 {
-    match grow_shrink::grow(segment, extra) {
+    match grow_or_move(alloc, segment, extra) {
         Ok(()) => DONE,
-        Err(why) => match why {
-            GrowError::ReadOnly => READ_ONLY,
-            GrowError::BadGrow => BAD_GROWTH,
-            GrowError::TooLarge => TOO_LARGE,
-            GrowError::RegionTooSmall => {
-                let size = size_of(segment);
-                grow_elsewhere(alloc, segment, size, extra)
-            }
-        },
+        Err(why) => code_of_growing(why),
+    }
+}
+
+/// The code by which a segment does not become longer, though it may move.
+fn code_of_growing(why: GrowOrMoveError) -> u32
+    ensures code { result ≡ growing_code why }
+{
+    match why {
+        GrowOrMoveError::Growth(reason) => code_of_growth(reason),
+        GrowOrMoveError::OutOfMemory(refusal) => no_memory(MemoryFault::Bytes(refusal)),
     }
 }
 
@@ -190,41 +197,6 @@ pub fn size_of(segment: &Segment) -> u64
     ensures denotes { IsSegment segment.now.cut.bytes }
 {
     segment.as_bytes().len() as u64
-}
-
-/// The same where the region has no room for the segment of this size.
-fn grow_elsewhere(alloc: Global, segment: &mut Segment, size: u64, extra: u64) -> u32
-    requires size { size ≡ length segment.old.cut.bytes }
-    requires short { IsShortOfRoom segment.old extra }
-    ensures code { 1 ≤ result → result ≡ 26 }
-    ensures grown { result ≡ 0 → IsLonger segment.old segment.new extra }
-    ensures kept { 1 ≤ result → segment.new ≡ segment.old }
-{
-    match grown_copy(alloc, segment, size, extra) {
-        Ok(copy) => {
-            *segment = copy;
-            DONE
-        }
-        Err(_) => NO_MEMORY,
-    }
-}
-
-/// A copy of the segment, which has this size, with so many bytes more, in a region of its own.
-fn grown_copy(
-    alloc: Global,
-    segment: &Segment,
-    size: u64,
-    extra: u64,
-) -> Result<Segment, OutOfMemory>
-    requires size { size ≡ length segment.now.cut.bytes }
-    requires short { IsShortOfRoom segment.now extra }
-    ensures { IfOk result (λ copy. IsLonger segment.now copy extra) }
-{
-    let Ok(mut copy) = copied(alloc, segment, capacity_for(size + extra)) else {
-        return Err(OutOfMemory);
-    };
-    extend_end(&mut copy, extra);
-    Ok(copy)
 }
 
 /// The capacity of a region for a segment of so many bytes: a multiple of 16 from 176 to 1073741824.

@@ -2,7 +2,7 @@
 ghost use Rattle.std.specs.Prelude.{◌≡◌};
 ghost use Rattle.segment_cli.specs.Beginning.{created_fault, opened_fault, run_fault};
 
-use image_check::{ImageClass, OpenError, OpenRefused};
+use image_check::{ImageClass, MemoryFault, OpenError, OpenRefused};
 use segment_manager::{CreateError, CreateRefused};
 use segment_scripts::RunFault;
 use thiserror::Error;
@@ -28,9 +28,9 @@ pub enum SessionFault {
     /// The region ends before base plus size.
     #[error("region too small")]
     RegionTooSmall,
-    /// Memory for the check of the image was refused.
-    #[error("out of memory")]
-    OutOfMemory,
+    /// Memory was refused: in a session or a migration that for the check of the image.
+    #[error("{0}")]
+    OutOfMemory(MemoryFault),
     /// A reader failed.
     #[error("read fault")]
     ReadFault,
@@ -60,7 +60,9 @@ impl From<OpenRefused> for SessionFault {
         match refused.cause {
             OpenError::Image(class) => SessionFault::Image(class),
             OpenError::RegionTooSmall => SessionFault::RegionTooSmall,
-            OpenError::OutOfMemory => SessionFault::OutOfMemory,
+            OpenError::OutOfMemory(refusal) => {
+                SessionFault::OutOfMemory(MemoryFault::BlockMap(refusal))
+            }
             OpenError::ReadFault => SessionFault::ReadFault,
         }
     }

@@ -6,6 +6,7 @@ use Rattle.raw_region.specs.Format.{current}
 use Rattle.segment_manager.specs.declared.modes.Mode.TheVariants.{ReadOnly}
 use Rattle.segment_manager.specs.State.{State}
 use Rattle.image_check.specs.declared.classes.ImageClass.{ImageClass}
+use Rattle.image_check.specs.declared.errors.MemoryFault.{MemoryFault}
 use Rattle.image_check.specs.Classes.{class_of}
 use Rattle.image_check.specs.Opening.{IsRefusedAs}
 use Rattle.segment_cli.specs.declared.faults.SessionFault.{SessionFault}
@@ -23,11 +24,11 @@ use Rattle.segment_commands.specs.Explaining.{ExplainsFile, IsExplainedBy}
 decided : (image : Given) (class : ImageClass) → IsRefusedAs current image class → class_of current image.bytes ≡ Some class
 decided image class r = elim r.right [ inl e ↦ e.1 | inr d ↦ subst (λ (b : List ℕ). class_of current b ≡ Some class) (append-nil image.bytes) (d [] refl) ]
 
-is_no_memory : (class : ImageClass) → let answer : Result State SessionFault = Err (Refused class) in answer ≡ Err OutOfMemory → ⊥
-is_no_memory class e = cc
+is_no_memory : (class : ImageClass) (why : MemoryFault) → let answer : Result State SessionFault = Err (Refused class) in answer ≡ Err (OutOfMemory why) → ⊥
+is_no_memory class why e = cc
 
 pub class_known : (image : Given) (class : ImageClass) → BeginsIn OfImage ReadOnly image (Err (Refused class)) → class_of current image.bytes ≡ Some class
-class_known image class (inl r) = absurd (is_no_memory class r.refused)
+class_known image class (inl r) = absurd (is_no_memory class _ r.refused)
 class_known image class (inr b) = decided image class b.starts.answers.1
 
 -- ---- a file that was opened, read and closed

@@ -5,6 +5,7 @@ mod CutFiles
 mod NewSegments
 mod Verified
 mod Linted
+mod LongTexts
 mod Loads
 mod Explained
 mod Reported

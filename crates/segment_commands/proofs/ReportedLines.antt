@@ -1,6 +1,7 @@
 -- What the program says of its faults, and the status that it ends with.
 use Rattle.std.proofs.Common.{◌≡◌, refl, [], codes}
 use Rattle.image_check.specs.declared.classes.ImageClass.TheVariants.{BadTag}
+use Rattle.image_check.specs.declared.errors.MemoryFault.{MemoryFault}
 use Rattle.grow_shrink.specs.declared.refusals.GrowError.TheVariants.{BadGrow}
 use Rattle.segment_cli.specs.declared.faults.SessionFault.TheVariants.{Image, RegionTooSmall, OutOfMemory}
 use Rattle.segment_commands.specs.declared.program_faults.ProgramFault.TheVariants.{Usage, Exists, Growth, Session}
@@ -30,11 +31,11 @@ region = refl
 region_status : status_of (Session RegionTooSmall) ≡ 1
 region_status = refl
 
-memory : fault_text (Session OutOfMemory) ≡ codes "segment: out of memory\n"
-memory = refl
+memory : (why : MemoryFault) → fault_text (Session (OutOfMemory why)) ≡ codes "segment: out of memory\n"
+memory why = refl
 
-memory_status : status_of (Session OutOfMemory) ≡ 4
-memory_status = refl
+memory_status : (why : MemoryFault) → status_of (Session (OutOfMemory why)) ≡ 4
+memory_status why = refl
 
 usage : fault_text Usage ≡ []
 usage = refl

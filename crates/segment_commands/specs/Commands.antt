@@ -6,7 +6,7 @@ use Rattle.raw_region.specs.Device.{Given, Took}
 use Rattle.segment_manager.specs.declared.modes.Mode.TheVariants.{Write, ReadOnly}
 use Rattle.segment_manager.specs.State.{State}
 use Rattle.segment_cli.specs.declared.faults.SessionFault.{SessionFault}
-use Rattle.segment_cli.specs.declared.faults.SessionFault.TheVariants.{BadSize, OutOfMemory, WriteFault}
+use Rattle.segment_cli.specs.declared.faults.SessionFault.TheVariants.{BadSize, WriteFault}
 use Rattle.segment_cli.specs.declared.faults.Start.TheVariants.{Fresh}
 use Rattle.segment_commands.specs.declared.program_faults.ProgramFault.{ProgramFault}
 use Rattle.segment_commands.specs.declared.program_faults.ProgramFault.TheVariants.{Exists, Session}
@@ -15,7 +15,7 @@ use Rattle.segment_disk.specs.declared.presence.Presence.TheVariants.{There}
 use Rattle.segment_disk.specs.declared.presence.Making.TheVariants.{New}
 use Rattle.segment_disk.specs.Events.{Event, Looked, After}
 use Rattle.segment_file.specs.Files.{WritesImage}
-use Rattle.segment_commands.specs.Opening.{BeginsIn, OpensFile}
+use Rattle.segment_commands.specs.Opening.{BeginsIn, OpensFile, region_refused}
 use Rattle.segment_commands.specs.Telling.{Tells}
 
 -- a fault of the file's writer, or of the output, as the program answers it
@@ -35,7 +35,7 @@ pub record IsFresh (size : ℕ) (result : Result State SessionFault) : Type 0 wh
   pub legal : IsTrue (is_legal_size size)
   pub image : Given
   pub begins : BeginsIn (Fresh size) Write image result
-  pub memory : IfErr result (λ fault. fault ≡ OutOfMemory)
+  pub memory : IfErr result (λ fault. fault ≡ region_refused size)
 
 abbrev pub MakesSegment : ℕ → Result State SessionFault → Type 0
 MakesSegment size result = IsSizeless size result ⊎ IsFresh size result

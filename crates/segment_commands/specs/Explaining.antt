@@ -9,7 +9,7 @@ use Rattle.image_check.specs.Classes.{class_of}
 use Rattle.image_explain.specs.declared.explaining.Explanation.{Explanation}
 use Rattle.image_explain.specs.Explains.{Explains}
 use Rattle.segment_cli.specs.declared.faults.SessionFault.{SessionFault}
-use Rattle.segment_cli.specs.declared.faults.SessionFault.TheVariants.{Image as Refused, OutOfMemory, WriteFault}
+use Rattle.segment_cli.specs.declared.faults.SessionFault.TheVariants.{Image as Refused, WriteFault}
 use Rattle.segment_cli.specs.declared.faults.Start.TheVariants.{Image as OfImage}
 use Rattle.segment_commands.specs.declared.program_faults.ProgramFault.{ProgramFault}
 use Rattle.segment_commands.specs.declared.program_faults.ProgramFault.TheVariants.{Session}
@@ -18,7 +18,7 @@ use Rattle.segment_commands.specs.declared.explaining.Unfit.{Unfit}
 use Rattle.segment_commands.specs.declared.explaining.Unfit.TheVariants.{Image, Fault}
 use Rattle.segment_commands.specs.Commands.{IsFit}
 use Rattle.segment_file.specs.Files.{opens}
-use Rattle.segment_commands.specs.Opening.{BeginsIn, OpensFile}
+use Rattle.segment_commands.specs.Opening.{BeginsIn, IsMemoryFault, OpensFile}
 use Rattle.segment_commands.specs.Telling.{Tells}
 
 -- ---- the line of an explanation
@@ -40,7 +40,7 @@ IsNoClass fault = (class : ImageClass) → fault ≢ Refused class
 abbrev pub IsExplainedBy : Result State SessionFault → List ℕ → Result State Unfit → Type 0
 IsExplainedBy begun bytes (Ok s) = begun ≡ Ok s
 IsExplainedBy begun bytes (Err (Image class e)) = (begun ≡ Err (Refused class)) × Explains bytes class e
-IsExplainedBy begun bytes (Err (Fault fault)) = ((begun ≡ Err fault) × IsNoClass fault) ⊎ ((fault ≡ OutOfMemory) × ((class : ImageClass) × (begun ≡ Err (Refused class))))
+IsExplainedBy begun bytes (Err (Fault fault)) = ((begun ≡ Err fault) × IsNoClass fault) ⊎ (IsMemoryFault fault × ((class : ImageClass) × (begun ≡ Err (Refused class))))
 
 -- the bytes that were read have the class, and this is said of them
 pub record IsExplained (image : Given) (class : ImageClass) (e : Explanation) : Type 0 where
@@ -58,7 +58,7 @@ pub record IsExplainedFrom {D : Type 0} (step : D → Event → D → Type 0) (o
 pub record IsUnkept {D : Type 0} (step : D → Event → D → Type 0) (old new : D) (path : List ℕ) (fault : SessionFault) : Type 0 where
   pub class : ImageClass
   pub opens_file : OpensFile step old new path ReadOnly (Err (Refused class))
-  pub memory : fault ≡ OutOfMemory
+  pub memory : IsMemoryFault fault
 
 -- the file has no segment, for this reason, which is no class of its image
 pub record IsFaulty {D : Type 0} (step : D → Event → D → Type 0) (old new : D) (path : List ℕ) (fault : SessionFault) : Type 0 where

@@ -11,6 +11,9 @@ use Rattle.segment_dump.specs.Notes.{without_notes}
 use Rattle.segment_dump.specs.Texts.{dump_text}
 use Rattle.segment_dump.specs.declared.faults.LoadError.{LoadError}
 use Rattle.segment_dump.specs.declared.faults.LoadError.TheVariants as load
+use Rattle.image_check.specs.declared.errors.MemoryFault.{MemoryFault}
+use Rattle.image_check.specs.declared.errors.MemoryFault.TheVariants.{BlockMap, Bytes}
+use Rattle.raw_region.specs.Refusals.{refusal_of}
 use Rattle.segment_cli.specs.declared.faults.SessionFault.{SessionFault}
 use Rattle.segment_cli.specs.declared.faults.SessionFault.TheVariants.{Image as Refused, BadSize, RegionTooSmall, OutOfMemory, ReadFault, WriteFault, ScriptTooLong}
 use Rattle.segment_commands.specs.declared.program_faults.ProgramFault.{ProgramFault}
@@ -44,20 +47,25 @@ abbrev pub IsWhyUnread : Given → SessionFault → Type 0
 IsWhyUnread given (Refused c) = ⊥
 IsWhyUnread given BadSize = ⊥
 IsWhyUnread given RegionTooSmall = ⊥
-IsWhyUnread given OutOfMemory = given.failed ≡ false
+IsWhyUnread given (OutOfMemory (Bytes refusal)) = (given.failed ≡ false) × (refusal ≡ refusal_of (length given.bytes))
+IsWhyUnread given (OutOfMemory (BlockMap refusal)) = ⊥
 IsWhyUnread given ReadFault = given.failed ≡ true
 IsWhyUnread given WriteFault = ⊥
 IsWhyUnread given ScriptTooLong = IsTooLong given
 
 -- ---- a segment that is made of it, but for the notes at its end
 
--- why a load is refused, as the program answers it; the room for a text is memory
+-- why a load is refused, as the program answers it
 abbrev pub load_fault : LoadError → ProgramFault
 load_fault (load.BadDump bad) = BadDump bad
 load_fault load.BadSize = Session BadSize
 load_fault load.RegionTooSmall = Session RegionTooSmall
 load_fault load.NoSpace = NoSpace
-load_fault load.LongText = Session OutOfMemory
+load_fault load.LongText = NoSpace
+
+-- memory was refused
+abbrev pub IsNoMemory : ProgramFault → Type 0
+IsNoMemory fault = (why : MemoryFault) × (fault ≡ Session (OutOfMemory why))
 
 -- the region has room for a segment of the size that was asked for
 abbrev pub HasRoomFor : Option ℕ → List ℕ → Type 0
@@ -76,7 +84,7 @@ pub record IsLoadRefused (text : List ℕ) (size : Option ℕ) (fault : ProgramF
 
 -- the text is the dump of the segment, or there is none: for a reason of the load, or since memory was refused
 abbrev pub LoadsSegment : List ℕ → Option ℕ → Result State ProgramFault → Type 0
-LoadsSegment text size result = MatchResult result (IsLoaded (without_notes text) size) (λ fault. IsLoadRefused text size fault ⊎ (fault ≡ Session OutOfMemory))
+LoadsSegment text size result = MatchResult result (IsLoaded (without_notes text) size) (λ fault. IsLoadRefused text size fault ⊎ IsNoMemory fault)
 
 -- as many bytes as are asked for, or else as the text says
 abbrev pub IsWanted : List ℕ → Option ℕ → ℕ → Type 0
@@ -95,7 +103,7 @@ pub record IsFitting (text : List ℕ) (size : Option ℕ) : Type 0 where
 
 -- a segment is made, if memory is given
 abbrev pub IsMadeIfGiven : Result State ProgramFault → Type 0
-IsMadeIfGiven result = MatchResult result (λ segment. ⊤) (λ fault. fault ≡ Session OutOfMemory)
+IsMadeIfGiven result = MatchResult result (λ segment. ⊤) IsNoMemory
 
 -- a segment may have the size that was asked for, if one was
 abbrev pub IsSizeFit : Option ℕ → Type 0
@@ -164,4 +172,4 @@ module _ {D : Type 0} (step : D → Event → D → Type 0) (old new : D) (path 
   -- Where a dump was read that fits, of whatever segment, and with whatever notes, its segment is in the file, but for
   -- something that is there, memory that is not given, or a file that cannot be written.
   pub record LoadsWhatFits : Type 0 where
-    pub loads : (text : List ℕ) → IsReadWhole (given_since script script') text → IsFitting text size → IsTakenLoad ⊎ ((result ≡ Err (Session OutOfMemory)) ⊎ IsLoadedTo)
+    pub loads : (text : List ℕ) → IsReadWhole (given_since script script') text → IsFitting text size → IsTakenLoad ⊎ (((fault : ProgramFault) × IsNoMemory fault × (result ≡ Err fault)) ⊎ IsLoadedTo)

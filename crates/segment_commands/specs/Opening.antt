@@ -1,12 +1,17 @@
 -- How the segment of a file is opened, or only its image checked.
-use Rattle.std.specs.Prelude.{◌≡◌, ◌⊎◌, ◌≤◌, ◌<◌, ℕ, true, List, Result, Ok, Err, MatchResult, length}
+use Rattle.std.specs.Prelude.{◌≡◌, ◌⊎◌, ◌≤◌, ◌<◌, ⊤, ℕ, true, List, Result, Ok, Err, MatchResult, length}
+use Rattle.grow_shrink.specs.LargerRegion.{region_len}
 use Rattle.raw_region.specs.Device.{Gave, Given}
+use Rattle.raw_region.specs.Refusals.{refusal_of}
 use Rattle.segment_manager.specs.declared.modes.Mode.{Mode}
 use Rattle.segment_manager.specs.declared.modes.Mode.TheVariants.{ReadOnly}
 use Rattle.segment_manager.specs.State.{State}
 use Rattle.segment_cli.specs.declared.faults.SessionFault.{SessionFault}
-use Rattle.segment_cli.specs.declared.faults.SessionFault.TheVariants.{Image as Refused, OutOfMemory, ReadFault, RegionTooSmall}
+use Rattle.segment_cli.specs.declared.faults.SessionFault.TheVariants.{Image as Refused, BadSize, OutOfMemory, ReadFault}
+use Rattle.segment_cli.specs.declared.faults.SessionFault.TheVariants.{RegionTooSmall, ScriptTooLong, WriteFault}
 use Rattle.image_check.specs.declared.classes.ImageClass.TheVariants.{Truncated}
+use Rattle.image_check.specs.declared.errors.MemoryFault.{MemoryFault}
+use Rattle.image_check.specs.declared.errors.MemoryFault.TheVariants.{BlockMap, Bytes}
 use Rattle.segment_cli.specs.declared.faults.Start.{Start}
 use Rattle.segment_cli.specs.declared.faults.Start.TheVariants.{Image}
 use Rattle.segment_cli.specs.Beginning.{Starts}
@@ -29,10 +34,30 @@ abbrev pub IsToldByLength : ℕ → Gave → SessionFault → Type 0
 IsToldByLength room gave fault =
     ((fault ≡ Refused Truncated) × EndsWithin room gave) ⊎ ((fault ≡ RegionTooSmall) × GoesBeyond room gave)
 
+-- memory for a region with room for so many bytes was refused
+abbrev pub region_refused : ℕ → SessionFault
+region_refused room = OutOfMemory (Bytes (refusal_of (region_len room)))
+
+-- some memory was refused
+abbrev pub IsMemoryFault : SessionFault → Type 0
+IsMemoryFault fault = (why : MemoryFault) × (fault ≡ OutOfMemory why)
+
+-- where memory for bytes was refused, it is that for a region with room for so many
+abbrev pub RefusesNoOther : ℕ → SessionFault → Type 0
+RefusesNoOther room (OutOfMemory (Bytes refusal)) = refusal ≡ refusal_of (region_len room)
+RefusesNoOther room (OutOfMemory (BlockMap refusal)) = ⊤
+RefusesNoOther room (Refused c) = ⊤
+RefusesNoOther room BadSize = ⊤
+RefusesNoOther room RegionTooSmall = ⊤
+RefusesNoOther room ReadFault = ⊤
+RefusesNoOther room WriteFault = ⊤
+RefusesNoOther room ScriptTooLong = ⊤
+
 -- memory for a region was refused before the image was read
 pub record IsRegionless (image : Given) (result : Result State SessionFault) : Type 0 where
   pub unread : IsUntouched image
-  pub refused : result ≡ Err OutOfMemory
+  pub room : ℕ
+  pub refused : result ≡ Err (region_refused room)
 
 -- a session began in a region of some capacity
 pub record IsBegunIn (start : Start) (mode : Mode) (image : Given) (result : Result State SessionFault) : Type 0 where

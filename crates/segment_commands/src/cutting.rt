@@ -7,10 +7,10 @@ ghost use Rattle.segment_commands.specs.Migrating.{BeginsAny};
 ghost use Rattle.segment_commands.specs.Opening.{BeginsIn, EndsWithin, GoesBeyond, IsToldByLength, VerifiesIn};
 
 use crate::counting::Counted;
-use image_check::{ImageClass, OpenError, open_any, verify};
+use grow_shrink::region_for;
+use image_check::{ImageClass, MemoryFault, OpenError, open_any, verify};
 use raw_region::{Source, Steps};
 use segment_cli::{SessionFault, Start, begin};
-use segment_file::region_for;
 use segment_manager::{Mode, Segment};
 use std::alloc::Global;
 
@@ -63,8 +63,9 @@ fn begin_counted<S: Source>(
     requires few { room ≤ 1073741824 }
     ensures { BeginsIn OfImage mode (given_since nothing_given (S.history reader.new.inner)) result }
 {
-    let Ok(region) = region_for(alloc, room) else {
-        return Err(SessionFault::OutOfMemory);
+    let region = match region_for(alloc, room) {
+        Ok(region) => region,
+        Err(refusal) => return Err(SessionFault::OutOfMemory(MemoryFault::Bytes(refusal))),
     };
     match begin(alloc, Start::Image, mode, reader, region, 0) {
         Ok(segment) => Ok(segment),
@@ -85,8 +86,9 @@ fn begin_any_counted<S: Source>(
     requires few { room ≤ 1073741824 }
     ensures { BeginsAny (given_since nothing_given (S.history reader.new.inner)) result }
 {
-    let Ok(region) = region_for(alloc, room) else {
-        return Err(SessionFault::OutOfMemory);
+    let region = match region_for(alloc, room) {
+        Ok(region) => region,
+        Err(refusal) => return Err(SessionFault::OutOfMemory(MemoryFault::Bytes(refusal))),
     };
     match open_any(alloc, reader, region, 0, Mode::Write, &mut Steps::new()) {
         Ok(segment) => Ok(segment),
@@ -107,8 +109,9 @@ fn verify_counted<S: Source>(
     requires few { room ≤ 1073741824 }
     ensures { VerifiesIn (given_since nothing_given (S.history reader.new.inner)) result }
 {
-    let Ok(region) = region_for(alloc, room) else {
-        return Err(SessionFault::OutOfMemory);
+    let region = match region_for(alloc, room) {
+        Ok(region) => region,
+        Err(refusal) => return Err(SessionFault::OutOfMemory(MemoryFault::Bytes(refusal))),
     };
     match verify(alloc, reader, region, 0, &mut Steps::new()) {
         Ok(_) => Ok(()),

@@ -9,7 +9,7 @@ use crate::cutting::begin_from;
 use crate::keeping::Kept;
 use crate::program_faults::ProgramFault;
 use crate::telling::tell;
-use image_check::ImageClass;
+use image_check::{ImageClass, MemoryFault};
 use image_explain::Explanation;
 use raw_region::{DeviceFault, Sink, Source};
 use segment_cli::SessionFault;
@@ -52,8 +52,10 @@ fn explained_by<S: Source>(
     match begun {
         Ok(segment) => Ok(segment),
         Err(SessionFault::Image(class)) => match kept.explained(class) {
-            Some(explanation) => Err(Unfit::Image(class, explanation)),
-            None => Err(Unfit::Fault(SessionFault::OutOfMemory)),
+            Ok(explanation) => Err(Unfit::Image(class, explanation)),
+            Err(refusal) => Err(Unfit::Fault(SessionFault::OutOfMemory(MemoryFault::Bytes(
+                refusal,
+            )))),
         },
         Err(fault) => Err(Unfit::Fault(fault)),
     }

@@ -1,20 +1,20 @@
 //! A reader that keeps what it gives.
-ghost use Rattle.std.specs.Prelude.{◌≡◌, false, IfSome};
+ghost use Rattle.std.specs.Prelude.{◌≡◌, IfOk, None};
 ghost use Rattle.image_explain.specs.Explains.{Explains};
 ghost use Rattle.segment_disk.specs.Events.{nothing_given};
 
 use image_check::ImageClass;
 use image_explain::{Explanation, explain};
-use raw_region::{DeviceFault, Source};
+use raw_region::{DeviceFault, OutOfMemory, Source, append};
 use std::alloc::Global;
 
 /// A reader that gave nothing when it was put here, with a copy of what it gave since.
 pub(crate) struct Kept<S: Source> {
     pub(crate) inner: S,
     bytes: Vec<u8>,
-    /// Whether memory for the copy was refused.
-    is_cut: bool,
-    ghost kept: { is_cut ≡ false → bytes.items ≡ (S.history inner).bytes },
+    /// The refusal of memory for the copy, if there was one.
+    refusal: Option<OutOfMemory>,
+    ghost kept: { refusal ≡ None → bytes.items ≡ (S.history inner).bytes },
 }
 
 impl<S: Source> Kept<S> {
@@ -25,18 +25,22 @@ impl<S: Source> Kept<S> {
         Kept {
             inner,
             bytes: Vec::new(alloc),
-            is_cut: false,
+            refusal: None,
         }
     }
 
-    /// What is said of all that it gave, as an image of a class that is refused, where there was memory to keep it.
-    pub(crate) fn explained(&self, class: ImageClass) -> Option<Explanation>
-        ensures { IfSome result (λ e. Explains (S.history self.now.inner).bytes class e) }
+    /// What is said of all that it gave, as an image of a class that is refused.
+    ///
+    /// # Errors
+    ///
+    /// Where memory to keep it was refused.
+    pub(crate) fn explained(&self, class: ImageClass) -> Result<Explanation, OutOfMemory>
+        ensures { IfOk result (λ e. Explains (S.history self.now.inner).bytes class e) }
     {
-        if self.is_cut {
-            return None;
+        match self.refusal {
+            Some(refusal) => Err(refusal),
+            None => Ok(explain(self.bytes.as_slice(), class)),
         }
-        Some(explain(self.bytes.as_slice(), class))
     }
 
     /// The reader.
@@ -46,7 +50,7 @@ impl<S: Source> Kept<S> {
         let Kept {
             inner,
             bytes: _,
-            is_cut: _,
+            refusal: _,
         } = self;
         inner
     }
@@ -58,8 +62,8 @@ impl<S: Source> Source for Kept<S> {
     fn read(&mut self, into: &mut [u8]) -> Result<usize, DeviceFault> {
         match self.inner.read(into) {
             Ok(count) => {
-                if self.bytes.extend_from_slice(&into[..count]).is_err() {
-                    self.is_cut = true;
+                if let Err(refusal) = append(&mut self.bytes, &into[..count]) {
+                    self.refusal = Some(refusal);
                 }
                 Ok(count)
             }

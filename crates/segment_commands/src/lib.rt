@@ -31,7 +31,7 @@ pub use migrating::migrate;
 pub use modes::run;
 pub use program_faults::ProgramFault;
 pub use reporting::{draw, draw_page, dump, dump_capacities, stat};
-pub use reports::{report, report_file};
+pub use reports::{report, report_file, report_no_memory};
 pub use resizing::{grow, shrink};
 pub use running::{run_in_new_file, run_on_file, run_on_file_or_new};
 pub use strict::run_strict;

@@ -1,6 +1,9 @@
 //! The command that makes a segment of a dump, in a new file.
 ghost use Rattle.std.specs.Prelude.{◌≡◌, ◌^◌, ◌-◌, ◌<◌, ℕ, true, false, Some};
 ghost use Rattle.block_tags.specs.Format.{is_legal_size};
+ghost use Rattle.image_check.specs.declared.errors.MemoryFault.TheVariants.{Bytes};
+ghost use Rattle.segment_cli.specs.declared.faults.SessionFault.TheVariants.{OutOfMemory as NoMemory};
+ghost use Rattle.segment_commands.specs.declared.program_faults.ProgramFault.TheVariants.{Session};
 ghost use Rattle.segment_dump.specs.Loading.{IsAsked};
 ghost use Rattle.segment_commands.specs.Loading.{IsFitting, IsLoad, IsMadeIfGiven, IsSizeFit, IsWanted, LoadsDump, LoadsSegment, LoadsWhatFits, load_fault};
 
@@ -8,16 +11,22 @@ use crate::creating::WRITE_FAULT;
 use crate::gathering::read_text;
 use crate::program_faults::ProgramFault;
 use block_tags::is_legal_size;
-use raw_region::Source;
+use grow_shrink::region_for;
+use image_check::MemoryFault;
+use raw_region::{OutOfMemory, Source};
 use segment_cli::SessionFault;
 use segment_disk::{Disk, Making, Presence};
 use segment_dump::{LoadError, said_size};
-use segment_file::{region_for, write_image};
+use segment_file::write_image;
 use segment_manager::Segment;
 use std::alloc::Global;
 
-/// Memory was refused.
-const OUT_OF_MEMORY: ProgramFault = ProgramFault::Session(SessionFault::OutOfMemory);
+/// What is told of memory that was refused.
+fn no_memory(refusal: OutOfMemory) -> ProgramFault
+    ensures { result ≡ Session (NoMemory (Bytes refusal)) }
+{
+    ProgramFault::Session(SessionFault::OutOfMemory(MemoryFault::Bytes(refusal)))
+}
 
 /// How many bytes the segment of a dump is to have: as many as are asked for, or else as the dump says.
 fn wanted_size(text: &[u8], size: Option<u64>) -> u64
@@ -39,7 +48,7 @@ fn fault_of(error: LoadError) -> ProgramFault
         LoadError::BadSize => ProgramFault::Session(SessionFault::BadSize),
         LoadError::RegionTooSmall => ProgramFault::Session(SessionFault::RegionTooSmall),
         LoadError::NoSpace => ProgramFault::NoSpace,
-        LoadError::LongText => OUT_OF_MEMORY,
+        LoadError::LongText => ProgramFault::NoSpace,
     }
 }
 
@@ -48,11 +57,13 @@ fn segment_of(alloc: Global, text: &[u8], size: Option<u64>) -> Result<Segment, 
     ensures loads { LoadsSegment text.now size result }
     ensures makes { IsFitting text.now size → IsMadeIfGiven result }
 {
-    let Ok(region) = region_for(alloc, wanted_size(text, size)) else {
-        return Err(OUT_OF_MEMORY);
+    let region = match region_for(alloc, wanted_size(text, size)) {
+        Ok(region) => region,
+        Err(refusal) => return Err(no_memory(refusal)),
     };
-    let Ok(mut room) = region_for(alloc, text.len() as u64) else {
-        return Err(OUT_OF_MEMORY);
+    let mut room = match region_for(alloc, text.len() as u64) {
+        Ok(room) => room,
+        Err(refusal) => return Err(no_memory(refusal)),
     };
     let capacity = room.capacity();
     match segment_dump::load(text, room.bytes_mut(0, capacity), region, 0, size) {

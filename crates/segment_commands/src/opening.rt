@@ -1,15 +1,17 @@
 //! The opening of the segment in a file, and its check.
-ghost use Rattle.std.specs.Prelude.{◌≡◌, ◌^◌, ◌-◌, ◌<◌, Err, min};
+ghost use Rattle.std.specs.Prelude.{◌≡◌, ◌^◌, ◌-◌, ◌<◌, Err, IfErr, min};
 ghost use Rattle.raw_region.specs.Device.{given_since};
 ghost use Rattle.segment_cli.specs.declared.faults.SessionFault.TheVariants.{RegionTooSmall};
 ghost use Rattle.segment_cli.specs.Session.{IsTooSmall};
-ghost use Rattle.segment_commands.specs.Opening.{BeginsIn, OpensFile, VerifiesFile};
+ghost use Rattle.segment_commands.specs.Opening.{BeginsIn, OpensFile, RefusesNoOther, VerifiesFile};
 
 use crate::cutting::{begin_from, verify_from};
+use grow_shrink::region_for;
+use image_check::MemoryFault;
 use raw_region::Source;
 use segment_cli::{SessionFault, Start, begin};
 use segment_disk::{Disk, Opened};
-use segment_file::{region_for, room_needed};
+use segment_file::room_needed;
 use segment_manager::{Mode, Segment};
 use std::alloc::Global;
 
@@ -25,9 +27,11 @@ pub(crate) fn begin_in<S: Source>(
     ensures begins { BeginsIn start mode (given_since (S.history reader.old) (S.history reader.new)) result }
     ensures room { result ≡ Err RegionTooSmall
         → IsTooSmall start (given_since (S.history reader.old) (S.history reader.new)) 0 (min bytes 1073741824) }
+    ensures refused { IfErr result (RefusesNoOther bytes) }
 {
-    let Ok(region) = region_for(alloc, bytes) else {
-        return Err(SessionFault::OutOfMemory);
+    let region = match region_for(alloc, bytes) {
+        Ok(region) => region,
+        Err(refusal) => return Err(SessionFault::OutOfMemory(MemoryFault::Bytes(refusal))),
     };
     begin(alloc, start, mode, reader, region, 0)
 }

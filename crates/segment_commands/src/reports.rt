@@ -45,6 +45,13 @@ fn growth_line(error: GrowError) -> &'static [u8]
     }
 }
 
+/// The line of memory that was refused.
+fn no_memory_line() -> &'static [u8]
+    ensures { result.now ≡ line (codes "out of memory") }
+{
+    b"segment: out of memory\n"
+}
+
 /// The line of a session that fails.
 fn session_line(fault: SessionFault) -> &'static [u8]
     ensures { result.now ≡ line (session_words fault) }
@@ -52,7 +59,7 @@ fn session_line(fault: SessionFault) -> &'static [u8]
     match fault {
         SessionFault::Image(class) => class_line(class),
         SessionFault::BadSize | SessionFault::RegionTooSmall => b"segment: size refused\n",
-        SessionFault::OutOfMemory => b"segment: out of memory\n",
+        SessionFault::OutOfMemory(_) => no_memory_line(),
         SessionFault::ReadFault => b"segment: read fault\n",
         SessionFault::WriteFault => b"segment: write fault\n",
         SessionFault::ScriptTooLong => b"segment: script too long\n",
@@ -130,7 +137,7 @@ fn session_status(fault: SessionFault) -> u8
     match fault {
         SessionFault::Image(_) | SessionFault::BadSize | SessionFault::RegionTooSmall => 1,
         SessionFault::ReadFault | SessionFault::WriteFault | SessionFault::ScriptTooLong => 3,
-        SessionFault::OutOfMemory => 4,
+        SessionFault::OutOfMemory(_) => 4,
     }
 }
 
@@ -157,6 +164,17 @@ pub fn report<S: Sink>(fault: ProgramFault, err: &mut S) -> u8
 {
     let _ = put_fault(fault, err);
     status_of(fault)
+}
+
+/// Writes the line of memory that was refused to the program itself, for its command line or its answers, and answers
+/// the status: that of a session without memory.
+pub fn report_no_memory<S: Sink>(err: &mut S) -> u8
+    requires { (S.history err.old).failures < 2 ^ 64 - 1 }
+    ensures status { result ≡ 4 }
+    ensures text { Puts (S.history err.old) (S.history err.new) (line (codes "out of memory")) }
+{
+    let _ = write_all(err, no_memory_line());
+    4
 }
 
 /// What is said of a file.

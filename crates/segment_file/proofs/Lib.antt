@@ -1,4 +1,3 @@
 mod Verified
 mod Written
 mod Standings
-mod Enlarged

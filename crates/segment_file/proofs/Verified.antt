@@ -7,8 +7,8 @@ use Rattle.image_check.specs.declared.errors.OpenRefused.{OpenRefused}
 use Rattle.image_check.specs.Opening.{Verifies}
 use Rattle.segment_file.specs.SegmentFiles.{OpensIn, VerifiesIn, file_error}
 
-module _ (image : Given) (region : List ℕ) where
-  pub verified_in : (back : List ℕ) → Verifies current image region 0 (Ok back) → VerifiesIn image (Ok tt)
+module _ (room : ℕ) (image : Given) (region : List ℕ) where
+  pub verified_in : (back : List ℕ) → Verifies current image region 0 (Ok back) → VerifiesIn room image (Ok tt)
   verified_in back v =
       let s = v.answers.segment in (
         s,
@@ -21,7 +21,7 @@ module _ (image : Given) (region : List ℕ) where
       )
 
   pub not_verified_in : (refused : OpenRefused) → Verifies current image region 0 (Err refused)
-      → OpensIn ReadOnly image (Err (file_error refused.cause))
+      → OpensIn room ReadOnly image (Err (file_error refused.cause))
   not_verified_in refused v =
       inr (record {
         region = region;

@@ -1,8 +1,9 @@
 -- A segment with the path of its file: what the disk is asked, in order, and what becomes of the segment.
-use Rattle.std.specs.Prelude.{◌≡◌, ◌≢◌, ◌⊎◌, ◌≤◌, ◌<◌, ℕ, ◌+◌, ◌%◌, false, List, [], ◌∷◌, length, IsTrue, string_bytes}
-use Rattle.std.specs.Prelude.{Option, Some, None, Result, Ok, Err, IfErr, MatchResult}
+use Rattle.std.specs.Prelude.{◌≡◌, ◌≢◌, ◌⊎◌, ℕ, false, List, [], ◌∷◌, length, IsTrue, string_bytes}
+use Rattle.std.specs.Prelude.{Some, None, Result, Ok, Err, IfErr, MatchResult}
 use Rattle.raw_region.specs.Device.{Given}
 use Rattle.raw_region.specs.Format.{current}
+use Rattle.raw_region.specs.Refusals.{refusal_of}
 use Rattle.block_tags.specs.Format.{is_legal_size}
 use Rattle.segment_manager.specs.declared.modes.Mode.{Mode}
 use Rattle.segment_manager.specs.declared.modes.Mode.TheVariants.{Write, ReadOnly}
@@ -14,11 +15,15 @@ use Rattle.segment_manager.specs.Step.{is_read_only}
 use Rattle.image_check.specs.declared.errors.OpenError.{OpenError}
 use Rattle.image_check.specs.declared.errors.OpenError.TheVariants.{Image as NoImage, RegionTooSmall as NoRoom}
 use Rattle.image_check.specs.declared.errors.OpenError.TheVariants.{OutOfMemory as NoMemory, ReadFault as NotRead}
+use Rattle.image_check.specs.declared.errors.MemoryFault.TheVariants.{BlockMap, Bytes}
 use Rattle.image_check.specs.declared.errors.OpenRefused.{OpenRefused}
 use Rattle.image_check.specs.Opening.{Opens, IsUntouched}
 use Rattle.image_check.specs.OpeningAny.{OpensAny}
+use Rattle.grow_shrink.specs.declared.larger_region.GrowOrMoveError.{GrowOrMoveError}
+use Rattle.grow_shrink.specs.declared.larger_region.GrowOrMoveError.TheVariants.{Growth as NoGrowth, OutOfMemory as NoLargerRegion}
 use Rattle.grow_shrink.specs.declared.refusals.GrowError.{GrowError}
-use Rattle.grow_shrink.specs.Resized.{grown, growth_refusal, room_of, shrink_refusal, shrunk}
+use Rattle.grow_shrink.specs.LargerRegion.{GrowsOrMovesErr, GrowsOrMovesOk, region_len}
+use Rattle.grow_shrink.specs.Resized.{shrink_refusal, shrunk}
 use Rattle.segment_disk.specs.declared.presence.Making.{Making}
 use Rattle.segment_disk.specs.declared.presence.Making.TheVariants.{New, Emptied}
 use Rattle.segment_disk.specs.declared.presence.Presence.{Presence}
@@ -42,17 +47,24 @@ saved = Ok tt
 abbrev pub file_error : OpenError → FileError
 file_error (NoImage c) = Image c
 file_error NoRoom = RegionTooSmall
-file_error NoMemory = OutOfMemory
+file_error (NoMemory refusal) = OutOfMemory (BlockMap refusal)
 file_error NotRead = ReadFault
 
 abbrev pub as_file : Result State OpenRefused → Result State FileError
 as_file (Ok s) = Ok s
 as_file (Err refused) = Err (file_error refused.cause)
 
--- memory for a region was refused before the image was read
-pub record IsWithoutRegion (image : Given) (result : Result State FileError) : Type 0 where
+-- a request for so many bytes was refused; for a region with room for so many
+abbrev pub bytes_refused : ℕ → FileError
+bytes_refused n = OutOfMemory (Bytes (refusal_of n))
+
+abbrev pub region_refused : ℕ → FileError
+region_refused room = bytes_refused (region_len room)
+
+-- memory for a region with room for so many bytes was refused before the image was read
+pub record IsWithoutRegion (room : ℕ) (image : Given) (result : Result State FileError) : Type 0 where
   pub unread : IsUntouched image
-  pub refused : result ≡ Err OutOfMemory
+  pub refused : result ≡ Err (region_refused room)
 
 -- an image was opened at the front of a region, or not
 pub record IsOpenedIn (mode : Mode) (image : Given) (result : Result State FileError) : Type 0 where
@@ -68,16 +80,16 @@ pub record IsOpenedAnyIn (image : Given) (result : Result State FileError) : Typ
   pub opens : OpensAny image region 0 Write opened
   pub answer : result ≡ as_file opened
 
-abbrev pub OpensIn : Mode → Given → Result State FileError → Type 0
-OpensIn mode image result = IsWithoutRegion image result ⊎ IsOpenedIn mode image result
+abbrev pub OpensIn : ℕ → Mode → Given → Result State FileError → Type 0
+OpensIn room mode image result = IsWithoutRegion room image result ⊎ IsOpenedIn mode image result
 
-abbrev pub OpensAnyIn : Given → Result State FileError → Type 0
-OpensAnyIn image result = IsWithoutRegion image result ⊎ IsOpenedAnyIn image result
+abbrev pub OpensAnyIn : ℕ → Given → Result State FileError → Type 0
+OpensAnyIn room image result = IsWithoutRegion room image result ⊎ IsOpenedAnyIn image result
 
 -- an image is opened for reading, but that no segment is made: there is one, or this is why there is none
-abbrev pub VerifiesIn : Given → Result (Unit {0}) FileError → Type 0
-VerifiesIn image result =
-    MatchResult result (λ done. (s : State) × OpensIn ReadOnly image (Ok s)) (λ why. OpensIn ReadOnly image (Err why))
+abbrev pub VerifiesIn : ℕ → Given → Result (Unit {0}) FileError → Type 0
+VerifiesIn room image result =
+    MatchResult result (λ done. (s : State) × OpensIn room ReadOnly image (Ok s)) (λ why. OpensIn room ReadOnly image (Err why))
 
 module _ {D : Type 0} (step : D → Event → D → Type 0) (old new : D) (path : List ℕ) where
   -- the file could not be opened, and nothing else was asked
@@ -85,15 +97,16 @@ module _ {D : Type 0} (step : D → Event → D → Type 0) (old new : D) (path 
     pub asked : After step old (does_not_open path) new
     pub refused : result ≡ Err ReadFault
 
-  -- the file was opened, read and closed, and nothing else was asked
-  pub record IsReadAs (opened : Given → Result State FileError → Type 0) (result : Result State FileError) : Type 0 where
+  -- the file was opened, read and closed, and nothing else was asked; its segment was to have some room
+  pub record IsReadAs (opened : ℕ → Given → Result State FileError → Type 0) (result : Result State FileError) : Type 0 where
+    pub room : ℕ
     pub image : Given
     pub asked : After step old (opens path image) new
-    pub answer : opened image result
+    pub answer : opened room image result
 
   -- the segment of a file
   abbrev pub ReadsSegment : Mode → Result State FileError → Type 0
-  ReadsSegment mode result = IsUnreadable result ⊎ IsReadAs (OpensIn mode) result
+  ReadsSegment mode result = IsUnreadable result ⊎ IsReadAs (λ room. OpensIn room mode) result
 
   -- the same of a file of any of the three formats
   abbrev pub ReadsAnySegment : Result State FileError → Type 0
@@ -109,7 +122,7 @@ pub record IsEmptySegment (size : ℕ) (s : State) : Type 0 where
 -- no segment has the size, whatever memory there is; or it has, and memory for its region was refused
 abbrev pub IsWhyNoSegment : ℕ → FileError → Type 0
 IsWhyNoSegment size why =
-    ((is_legal_size size ≡ false) × (why ≡ BadSize)) ⊎ (IsTrue (is_legal_size size) × (why ≡ OutOfMemory))
+    ((is_legal_size size ≡ false) × (why ≡ BadSize)) ⊎ (IsTrue (is_legal_size size) × (why ≡ region_refused size))
 
 module _ {D : Type 0} (step : D → Event → D → Type 0) (old new : D) (path : List ℕ) (size : ℕ) where
   -- the image of an empty segment was written to a new file
@@ -166,12 +179,12 @@ pub record IsFileOf (path : List ℕ) (comes : Result State FileError → Type 0
   pub segment : comes (Ok file.segment)
 
 -- memory for the path was refused, and nothing was asked
-pub record IsPathless {D : Type 0} (old new : D) (why : FileError) : Type 0 where
+pub record IsPathless {D : Type 0} (old new : D) (path : List ℕ) (why : FileError) : Type 0 where
   pub asked : new ≡ old
-  pub refused : why ≡ OutOfMemory
+  pub refused : why ≡ bytes_refused (length path)
 
 abbrev pub KeepsFile : {D : Type 0} → D → D → List ℕ → (Result State FileError → Type 0) → Result SegmentFile FileError → Type 0
-KeepsFile old new path comes result = MatchResult result (IsFileOf path comes) (λ why. IsPathless old new why ⊎ comes (Err why))
+KeepsFile old new path comes result = MatchResult result (IsFileOf path comes) (λ why. IsPathless old new path why ⊎ comes (Err why))
 
 -- ---- a segment that is written
 
@@ -245,57 +258,20 @@ Migrates step old new path result = IsUnmigrated step old new path result ⊎ Is
 
 -- ---- other sizes
 
--- the first reason not to grow a segment, which is none of its region
-abbrev pub growth_reason : Mode → ℕ → ℕ → Option GrowError
-growth_reason mode size extra = growth_refusal mode size extra (size + extra)
+-- why a segment does not grow, as a file's call answers it
+abbrev pub growing_error : GrowOrMoveError → FileError
+growing_error (NoGrowth reason) = Growth reason
+growing_error (NoLargerRegion refusal) = OutOfMemory (Bytes refusal)
 
--- it may grow
-pub record MayGrow (s : State) (extra : ℕ) : Type 0 where
-  pub may : (d : Directory) → StandsFor s.cut.bytes d → growth_reason s.mode d.size extra ≡ None
-
--- its region has no room for so many bytes more
-abbrev pub IsTooLongFor : State → ℕ → Type 0
-IsTooLongFor s extra = room_of s.cut < length s.cut.bytes + extra
-
--- it may grow, and its region has no room for it
-pub record IsShortOfRoom (s : State) (extra : ℕ) : Type 0 where
-  pub writing : is_read_only s.mode ≡ false
-  pub long : 32 ≤ extra
-  pub whole : extra % 16 ≡ 0
-  pub small : length s.cut.bytes + extra ≤ 1073741824
-  pub may : MayGrow s extra
-  pub short : IsTooLongFor s extra
-
--- open as it was, and each directory has so many bytes more; at its place in its region, or that has no room for it
-pub record IsLonger (old new : State) (extra : ℕ) : Type 0 where
-  pub may : MayGrow old extra
-  pub mode : new.mode ≡ old.mode
-  pub denotes : (d : Directory) → StandsFor old.cut.bytes d → StandsFor new.cut.bytes (grown d extra)
-  pub place : Resizes old new (λ d. grown d extra) ⊎ IsTooLongFor old extra
-
--- it does not grow, for this reason
+-- it does not grow, and may not move, for this reason
 pub record IsNotLonger (old new : State) (extra : ℕ) (why : FileError) : Type 0 where
-  pub same : new ≡ old
-  pub reason : GrowError
-  pub applies : (d : Directory) → StandsFor old.cut.bytes d → growth_reason old.mode d.size extra ≡ Some reason
-  pub refused : why ≡ Growth reason
-
--- it may grow, its region has no room for it, and memory for a larger one was refused
-pub record IsWithoutRoom (old new : State) (extra : ℕ) (why : FileError) : Type 0 where
-  pub same : new ≡ old
-  pub may : MayGrow old extra
-  pub short : IsTooLongFor old extra
-  pub refused : why ≡ OutOfMemory
+  pub cause : GrowOrMoveError
+  pub refused : GrowsOrMovesErr old new extra cause
+  pub answer : why ≡ growing_error cause
 
 -- `grow`
 abbrev pub Grows : State → State → ℕ → Result (Unit {0}) FileError → Type 0
-Grows old new extra result = MatchResult result (λ u. IsLonger old new extra) (λ why. IsNotLonger old new extra why ⊎ IsWithoutRoom old new extra why)
-
--- a copy of a segment, in a region with room for so many bytes from its base on
-pub record IsCopyWithRoom (old new : State) (bytes : ℕ) : Type 0 where
-  pub bytes_same : new.cut.bytes ≡ old.cut.bytes
-  pub mode : new.mode ≡ old.mode
-  pub room : bytes ≤ room_of new.cut
+Grows old new extra result = MatchResult result (λ u. GrowsOrMovesOk old new extra) (IsNotLonger old new extra)
 
 -- it ends behind its last block
 pub record IsShorter (old new : State) : Type 0 where

@@ -1,11 +1,12 @@
 //! Why a segment's file is not made, read or written.
 ghost use Rattle.std.specs.Prelude.{◌≡◌};
+ghost use Rattle.image_check.specs.declared.errors.MemoryFault.TheVariants.{Bytes};
 ghost use Rattle.segment_file.specs.declared.file_errors.FileError.TheVariants.{Growth, OutOfMemory as NoMemory};
-ghost use Rattle.segment_file.specs.SegmentFiles.{file_error};
+ghost use Rattle.segment_file.specs.SegmentFiles.{file_error, growing_error};
 
-use grow_shrink::GrowError;
-use image_check::{ImageClass, OpenError, OpenRefused};
-use std::alloc::AllocError;
+use grow_shrink::{GrowError, GrowOrMoveError};
+use image_check::{ImageClass, MemoryFault, OpenError, OpenRefused};
+use raw_region::OutOfMemory;
 use thiserror::Error;
 
 /// Why a call of a [`SegmentFile`](crate::SegmentFile) is refused.
@@ -24,8 +25,8 @@ pub enum FileError {
     #[error("the file is shorter than it says")]
     RegionTooSmall,
     /// Memory was refused: for the path, for the region of the segment, or for the check of the image.
-    #[error("out of memory")]
-    OutOfMemory,
+    #[error("{0}")]
+    OutOfMemory(MemoryFault),
     /// The file can't be opened, or reading it failed.
     #[error("the file can't be read")]
     ReadFault,
@@ -50,7 +51,9 @@ impl From<OpenRefused> for FileError {
         match refused.cause {
             OpenError::Image(class) => FileError::Image(class),
             OpenError::RegionTooSmall => FileError::RegionTooSmall,
-            OpenError::OutOfMemory => FileError::OutOfMemory,
+            OpenError::OutOfMemory(refusal) => FileError::OutOfMemory(MemoryFault::BlockMap(
+                refusal,
+            )),
             OpenError::ReadFault => FileError::ReadFault,
         }
     }
@@ -64,10 +67,23 @@ impl From<GrowError> for FileError {
     }
 }
 
-impl From<AllocError> for FileError {
-    ghost from_gives = { λ refused error. error ≡ NoMemory };
+impl From<OutOfMemory> for FileError {
+    ghost from_gives = { λ refusal error. error ≡ NoMemory (Bytes refusal) };
 
-    fn from(_refused: AllocError) -> FileError {
-        FileError::OutOfMemory
+    fn from(refusal: OutOfMemory) -> FileError {
+        FileError::OutOfMemory(MemoryFault::Bytes(refusal))
+    }
+}
+
+impl From<GrowOrMoveError> for FileError {
+    ghost from_gives = { λ why error. error ≡ growing_error why };
+
+    fn from(why: GrowOrMoveError) -> FileError {
+        match why {
+            GrowOrMoveError::Growth(reason) => FileError::Growth(reason),
+            GrowOrMoveError::OutOfMemory(refusal) => FileError::OutOfMemory(MemoryFault::Bytes(
+                refusal,
+            )),
+        }
     }
 }

@@ -4,9 +4,10 @@ ghost use Rattle.raw_region.specs.Device.{given_since};
 ghost use Rattle.segment_file.specs.SegmentFiles.{ChecksFile, IsEmptySegment, IsWhyNoSegment, MakesSegmentFile, Migrates, OpensAnyIn, OpensIn, ReadsAnySegment, ReadsSegment, VerifiesIn, WritesHeld};
 
 use crate::file_errors::FileError;
-use crate::regions::{region_for, room_needed};
+use crate::regions::room_needed;
 use crate::writing::write_image;
 use block_tags::is_legal_size;
+use grow_shrink::region_for;
 use image_check::{open, open_any, verify};
 use raw_region::{Source, Steps};
 use segment_disk::{Disk, Making, Opened};
@@ -21,10 +22,11 @@ fn open_in<S: Source>(
     bytes: u64,
 ) -> Result<Segment, FileError>
     requires { (S.history reader.old).failures < 2 ^ 64 - 1 }
-    ensures { OpensIn mode (given_since (S.history reader.old) (S.history reader.new)) result }
+    ensures { OpensIn bytes mode (given_since (S.history reader.old) (S.history reader.new)) result }
 {
-    let Ok(region) = region_for(alloc, bytes) else {
-        return Err(FileError::OutOfMemory);
+    let region = match region_for(alloc, bytes) {
+        Ok(region) => region,
+        Err(refusal) => return Err(FileError::from(refusal)),
     };
     match open(alloc, reader, region, 0, mode, &mut Steps::new()) {
         Ok(segment) => Ok(segment),
@@ -35,10 +37,11 @@ fn open_in<S: Source>(
 /// The same of an image of any of the three formats, for writing.
 fn open_any_in<S: Source>(alloc: Global, reader: &mut S, bytes: u64) -> Result<Segment, FileError>
     requires { (S.history reader.old).failures < 2 ^ 64 - 1 }
-    ensures { OpensAnyIn (given_since (S.history reader.old) (S.history reader.new)) result }
+    ensures { OpensAnyIn bytes (given_since (S.history reader.old) (S.history reader.new)) result }
 {
-    let Ok(region) = region_for(alloc, bytes) else {
-        return Err(FileError::OutOfMemory);
+    let region = match region_for(alloc, bytes) {
+        Ok(region) => region,
+        Err(refusal) => return Err(FileError::from(refusal)),
     };
     match open_any(alloc, reader, region, 0, Mode::Write, &mut Steps::new()) {
         Ok(segment) => Ok(segment),
@@ -49,10 +52,11 @@ fn open_any_in<S: Source>(alloc: Global, reader: &mut S, bytes: u64) -> Result<S
 /// Whether there is a segment of an image, which is read to the front of a region with room for so many bytes.
 fn verify_in<S: Source>(alloc: Global, reader: &mut S, bytes: u64) -> Result<(), FileError>
     requires { (S.history reader.old).failures < 2 ^ 64 - 1 }
-    ensures { VerifiesIn (given_since (S.history reader.old) (S.history reader.new)) result }
+    ensures { VerifiesIn bytes (given_since (S.history reader.old) (S.history reader.new)) result }
 {
-    let Ok(region) = region_for(alloc, bytes) else {
-        return Err(FileError::OutOfMemory);
+    let region = match region_for(alloc, bytes) {
+        Ok(region) => region,
+        Err(refusal) => return Err(FileError::from(refusal)),
     };
     match verify(alloc, reader, region, 0, &mut Steps::new()) {
         Ok(_) => Ok(()),
@@ -127,8 +131,9 @@ fn empty_segment(alloc: Global, size: u64) -> Result<Segment, FileError>
     if !is_legal_size(size) {
         return Err(FileError::BadSize);
     }
-    let Ok(region) = region_for(alloc, size) else {
-        return Err(FileError::OutOfMemory);
+    let region = match region_for(alloc, size) {
+        Ok(region) => region,
+        Err(refusal) => return Err(FileError::from(refusal)),
     };
     match Segment::create(region, 0, size, Mode::Write) {
         Ok(segment) => Ok(segment),

@@ -1,7 +1,6 @@
 //! Segments in files: a segment with the path of its file, and the writing of its image, over any disk.
 #![tactic(auto)]
 
-mod enlarging;
 mod file_errors;
 mod file_steps;
 mod regions;
@@ -10,7 +9,7 @@ mod theorems;
 mod writing;
 
 pub use file_errors::FileError;
-pub use regions::{region_for, room_needed};
+pub use regions::room_needed;
 pub use segment_files::SegmentFile;
 pub use theorems::{
     emptying_tears, replacing_keeps_one_whole, saving_ends_whole, unplaced_leaves_the_old,

@@ -3,13 +3,13 @@ ghost use Rattle.std.specs.Prelude.{◌≡◌, IfOk, string_bytes};
 ghost use Rattle.segment_disk.specs.declared.presence.Making.TheVariants.{Beside, Emptied};
 ghost use Rattle.segment_file.specs.SegmentFiles.{ChecksFile, CreatesSegment, Grows, HoldsFile, KeepsFile, Migrates, OpensOrCreates, ReadsSegment, Saves, SavesAs, Shrinks};
 
-use crate::enlarging::grow_segment;
 use crate::file_errors::FileError;
 use crate::file_steps::{
     make_segment_file, migrate_segment, read_segment, verify_file, write_held,
 };
 use crate::writing::write_image;
-use grow_shrink::shrink_to_fit;
+use grow_shrink::{grow_or_move, shrink_to_fit};
+use raw_region::copy_text;
 use segment_disk::{Disk, Making, Presence};
 use segment_manager::{Mode, Segment};
 use std::alloc::Global;
@@ -42,7 +42,7 @@ impl SegmentFile {
     ) -> Result<SegmentFile, FileError>
         ensures { KeepsFile disk.old disk.new path.now (CreatesSegment D.step disk.old disk.new path.now size) result }
     {
-        let kept = String::from_str(alloc, path)?;
+        let kept = copy_text(alloc, path)?;
         if disk.look(path) == Presence::There {
             return Err(FileError::Exists);
         }
@@ -70,7 +70,7 @@ impl SegmentFile {
     ) -> Result<SegmentFile, FileError>
         ensures { KeepsFile disk.old disk.new path.now (ReadsSegment D.step disk.old disk.new path.now mode) result }
     {
-        let kept = String::from_str(alloc, path)?;
+        let kept = copy_text(alloc, path)?;
         let segment = read_segment(alloc, disk, path, mode)?;
         Ok(SegmentFile {
             segment,
@@ -95,7 +95,7 @@ impl SegmentFile {
     ) -> Result<SegmentFile, FileError>
         ensures { KeepsFile disk.old disk.new path.now (OpensOrCreates D.step disk.old disk.new path.now size) result }
     {
-        let kept = String::from_str(alloc, path)?;
+        let kept = copy_text(alloc, path)?;
         let segment = if disk.look(path) == Presence::Absent {
             make_segment_file(alloc, disk, path, size)?
         } else {
@@ -184,7 +184,10 @@ impl SegmentFile {
         ensures grows { Grows self.old.segment self.new.segment extra result }
         ensures path { self.new.path ≡ self.old.path }
     {
-        grow_segment(alloc, &mut self.segment, extra)
+        match grow_or_move(alloc, &mut self.segment, extra) {
+            Ok(()) => Ok(()),
+            Err(why) => Err(FileError::from(why)),
+        }
     }
 
     /// Makes the segment as short as its last block lets it be. Every object keeps its handle and its value. The file

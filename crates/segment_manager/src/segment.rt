@@ -108,8 +108,20 @@ pub fn adopt(window: Window, mode: Mode) -> Segment
     ensures cut { result.cut ≡ window }
     ensures mode { result.mode ≡ mode }
 {
-    Segment {
-        heap: Heap::adopt(window),
-        mode,
-    }
+    segment_of(Heap::adopt(window), mode)
+}
+
+/// The segment that the bytes of a heap already are. No byte changes, and no tile is read.
+///
+/// Example: `let segment = segment_of(heap, Mode::Write)`.
+///
+/// # Conditions
+///
+/// As those of [`adopt`].
+pub fn segment_of(heap: Heap, mode: Mode) -> Segment
+    requires { IsSegment heap.bytes }
+    ensures cut { result.cut ≡ heap }
+    ensures mode { result.mode ≡ mode }
+{
+    Segment { heap, mode }
 }

@@ -25,7 +25,9 @@ mod naming;
 pub use best_fit::{Heap, NoSpace};
 pub use block_tags::Role;
 pub use grow_shrink::{GrowError, grow, shrink_to_fit};
-pub use image_check::{ImageClass, OpenError, OpenRefused, open, open_any, open_bytes, verify};
+pub use image_check::{
+    ImageClass, MemoryFault, NoMemory, OpenError, OpenRefused, open, open_any, open_bytes, verify,
+};
 pub use naming::named;
 pub use raw_region::stream::{Reading, Writing};
 pub use raw_region::{DeviceFault, OutOfMemory, RawRegion, Sink, Source, Steps, Window};

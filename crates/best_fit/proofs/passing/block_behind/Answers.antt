@@ -1,7 +1,7 @@
 -- The tile behind a block is one in use, or a gap, behind which another one in use stands.
 use Rattle.best_fit.proofs.Common.{◌≡◌, sym, subst, ◌∙◌, ◌-◌, List, arith, Cut, Tile, next_in, HasTileAt, SaysTiles}
 use Rattle.best_fit.proofs.Walks.{left_goes_on, left_next}
-use Rattle.best_fit.proofs.WayPoints.{Beyond, beyond_next, beyond_other, left_behind, used_is_live}
+use Rattle.best_fit.proofs.HintedBlocks.{Beyond, beyond_next, beyond_other, left_behind, used_is_live}
 use Rattle.best_fit.proofs.Writes.{block_tile, live_block}
 use Rattle.best_fit.proofs.passing.block_behind.Goals as goal
 

@@ -1,11 +1,16 @@
 -- The first pass that fails has its class, and all passes together spend what each may.
 use Rattle.std.proofs.Common.{◌≡◌, refl, sym, ap, ◌∙◌}
-use Rattle.std.specs.Prelude.{Option, Some}
+use Rattle.std.specs.Prelude.{Option, Some, OnOk, Result, Ok, Err}
 use Rattle.image_check.specs.declared.classes.ImageClass.{ImageClass}
 use Rattle.image_check.specs.Visits.{both, index_rates, object_rates, sharing_rates, container_rates, orphan_rates}
 use Rattle.image_check.proofs.Budget.{spend-both, spend-less}
 use Rattle.image_check.proofs.Checked.{late-index, late-object, late-shared, late-container, late-orphans}
 use Rattle.image_check.proofs.checking.check_blocks.Goals as goal
+
+-- what holds always holds where a pass went well
+on-ok : {A E : Type 0} (r : Result A E) (P : Type 0) → P → OnOk r P
+on-ok (Ok x) P p = p
+on-ok (Err e) P p = tt
 
 some : (c k : ImageClass) (o : Option ImageClass) → o ≡ Some k → c ≡ k → o ≡ Some c
 some c k o e f = e ∙ ap (λ (x : ImageClass). Some x) (sym f)
@@ -78,3 +83,6 @@ returns-clause-visits c =
     (spend-both b sharing_rates (both container_rates orphan_rates) 20 22 _ _ _ c.in_default-check_sharing.ensures.visits
     (spend-both b container_rates orphan_rates 20 2 _ _ _ c.in_default-check_containers.ensures.visits
     (c.check_orphans.ensures.visits b c.requires.tiles c.in_default-check_sharing.ensures.whole.marking.frame))))
+
+pub returns-clause-frame : goal.returns-clause-frame
+returns-clause-frame c = on-ok c.check_orphans.result _ c.in_default-check_sharing.ensures.whole.marking.frame

@@ -1,15 +1,23 @@
+use Rattle.std.proofs.Common.{refl}
 use Rattle.raw_region.specs.Device.{given_since}
 use Rattle.raw_region.specs.Format.{current}
-use Rattle.image_check.proofs.Refused.{refused}
+use Rattle.image_check.proofs.Refused.{opened, refused}
 use Rattle.image_check.proofs.opening.open.Goals as goal
 
-pub check-requires-clause-front : goal.check-requires-clause-front
+pub check_noting-requires-clause-front : goal.check_noting-requires-clause-front
 unfolding current
-check-requires-clause-front g c = c.in_ok-window.ensures.reads.front
+check_noting-requires-clause-front g c = c.in_ok-window.ensures.reads.front
 
-pub adopt-requires : goal.adopt-requires
+pub into_segment-requires-clause-image : goal.into_segment-requires-clause-image
 unfolding current
-adopt-requires g c = rw c.into_window.ensures (let there = c.in-Ok.ensures.answers in (there.0, record { denotes = there.1 }))
+into_segment-requires-clause-image g c = c.in-Ok.ensures.answers.image
+
+pub returns-in-Ok-clause-opens : goal.returns-in-Ok-clause-opens
+unfolding current
+returns-in-Ok-clause-opens g c =
+    opened current (given_since (g.S.Source.history c.args.reader.now) (g.S.Source.history c.read_image.new.reader)) c.args.region c.args.base c.in_ok-window.window
+    c.in_ok-window.ensures.reads c.args.mode c.into_segment.result refl c.in-Ok.ensures.answers.image
+    c.into_segment.ensures.place c.into_segment.ensures.renewed c.into_segment.ensures.mode
 
 pub returns-in-Err-clause-opens : goal.returns-in-Err-clause-opens
 unfolding current

@@ -1,14 +1,22 @@
+use Rattle.std.proofs.Common.{refl}
 use Rattle.raw_region.specs.Format.{current}
-use Rattle.image_check.proofs.PlacedBytes.{refused-bytes}
+use Rattle.image_check.proofs.PlacedBytes.{opened-bytes, refused-bytes}
 use Rattle.image_check.proofs.opening_bytes.open_bytes.Goals as goal
 
-pub check-requires-clause-front : goal.check-requires-clause-front
+pub check_noting-requires-clause-front : goal.check_noting-requires-clause-front
 unfolding current
-check-requires-clause-front c = c.in_ok-window.ensures.front
+check_noting-requires-clause-front c = c.in_ok-window.ensures.front
 
-pub adopt-requires : goal.adopt-requires
+pub into_segment-requires-clause-image : goal.into_segment-requires-clause-image
 unfolding current
-adopt-requires c = rw c.into_window.ensures (let there = c.in-Ok.ensures.answers in (there.0, record { denotes = there.1 }))
+into_segment-requires-clause-image c = c.in-Ok.ensures.answers.image
+
+pub returns-in-Ok-clause-opens : goal.returns-in-Ok-clause-opens
+unfolding current
+returns-in-Ok-clause-opens c =
+    opened-bytes current c.args.image.now c.args.region c.args.base c.in_ok-window.window c.in_ok-window.ensures
+    c.args.mode c.into_segment.result refl c.in-Ok.ensures.answers.image
+    c.into_segment.ensures.place c.into_segment.ensures.renewed c.into_segment.ensures.mode
 
 pub returns-in-Err-clause-opens : goal.returns-in-Err-clause-opens
 unfolding current

@@ -1,29 +1,22 @@
-use Rattle.std.proofs.Common.{◌∙◌, None, Some, ap, sym}
-use Rattle.grow_shrink.specs.declared.refusals.GrowError.{GrowError}
-use Rattle.grow_shrink.specs.declared.refusals.GrowError.TheVariants.{ReadOnly, BadGrow, TooLarge}
-use Rattle.segment_c.proofs.LongerSegments.{elsewhere, in-any-region, short_of_room}
+use Rattle.std.proofs.Common.{arith, sym, subst}
+use Rattle.segment_c.specs.Growing.{IsGrowthCode}
+use Rattle.segment_c.proofs.LongerSegments.{grown_code, is_code, kept_same, refused_code}
 use Rattle.segment_c.proofs.resizing.grow.Goals as goal
 
 pub returns-in-Ok-clause-code : goal.returns-in-Ok-clause-code
-returns-in-Ok-clause-code c = λ d st. in-any-region c.args.segment.now c.args.extra None (λ e. absurd (cc)) d (c.in-Ok.ensures.refused.refused d st)
+returns-in-Ok-clause-code c = grown_code c.args.segment.now c.grow_or_move.new.segment c.args.extra c.in-Ok.ensures
 
 pub returns-in-Ok-clause-grown : goal.returns-in-Ok-clause-grown
-returns-in-Ok-clause-grown c = λ _. record { mode = c.in-Ok.ensures.grown.mode; denotes = c.in-Ok.ensures.grown.denotes }
+returns-in-Ok-clause-grown c = λ _. record { mode = c.in-Ok.ensures.mode; denotes = c.in-Ok.ensures.denotes }
 
-pub returns-in-ReadOnly-clause-code : goal.returns-in-ReadOnly-clause-code
-returns-in-ReadOnly-clause-code c = λ d st. in-any-region c.args.segment.now c.args.extra (Some ReadOnly) (λ e. absurd (cc)) d (ap (λ (w : GrowError). Some w) (sym c.in-ReadOnly.is) ∙ c.in-Err.ensures.refused.refused d st)
+pub returns-clause-code : goal.returns-clause-code
+returns-clause-code c = λ d st.
+    subst (λ n. IsGrowthCode c.args.segment.now.mode c.args.extra n d) (sym c.code_of_growing.ensures)
+    (refused_code c.args.segment.now c.grow_or_move.new.segment c.args.extra c.in-Err.why c.in-Err.ensures d st)
 
-pub returns-in-BadGrow-clause-code : goal.returns-in-BadGrow-clause-code
-returns-in-BadGrow-clause-code c = λ d st. in-any-region c.args.segment.now c.args.extra (Some BadGrow) (λ e. absurd (cc)) d (ap (λ (w : GrowError). Some w) (sym c.in-BadGrow.is) ∙ c.in-Err.ensures.refused.refused d st)
+pub returns-clause-grown : goal.returns-clause-grown
+returns-clause-grown c = λ e.
+    let some = is_code c.in-Err.why in let same = c.code_of_growing.ensures in absurd (omega arith)
 
-pub returns-in-TooLarge-clause-code : goal.returns-in-TooLarge-clause-code
-returns-in-TooLarge-clause-code c = λ d st. in-any-region c.args.segment.now c.args.extra (Some TooLarge) (λ e. absurd (cc)) d (ap (λ (w : GrowError). Some w) (sym c.in-TooLarge.is) ∙ c.in-Err.ensures.refused.refused d st)
-
-pub grow_elsewhere-requires-clause-short : goal.grow_elsewhere-requires-clause-short
-grow_elsewhere-requires-clause-short c =
-    rw c.in-Err.ensures.unchanged
-    (short_of_room c.args.segment.now c.args.extra (λ d st. ap (λ (w : GrowError). Some w) (sym c.in-RegionTooSmall.is) ∙ c.in-Err.ensures.refused.refused d st) (rw c.in-Err.ensures.unchanged at c.size_of-size.ensures.denotes))
-
-pub returns-in-RegionTooSmall-clause-code : goal.returns-in-RegionTooSmall-clause-code
-returns-in-RegionTooSmall-clause-code c = λ d st.
-    elsewhere c.args.segment.now c.args.extra (λ d st. ap (λ (w : GrowError). Some w) (sym c.in-RegionTooSmall.is) ∙ c.in-Err.ensures.refused.refused d st) c.grow_elsewhere.result c.grow_elsewhere.ensures.code d st
+pub returns-clause-kept : goal.returns-clause-kept
+returns-clause-kept c = λ _. kept_same c.args.segment.now c.grow_or_move.new.segment c.args.extra c.in-Err.why c.in-Err.ensures

@@ -10,5 +10,5 @@ returns c =
       legal = legal;
       image = _;
       begins = c.begin_in.ensures.begins;
-      memory = memory_alone c.args.size legal _ c.begin_in.result c.begin_in.ensures.begins c.begin_in.ensures.room;
+      memory = memory_alone c.args.size legal _ c.begin_in.result c.begin_in.ensures.begins c.begin_in.ensures.room c.begin_in.ensures.refused;
     })

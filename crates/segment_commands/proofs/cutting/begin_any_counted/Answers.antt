@@ -9,7 +9,7 @@ use Rattle.segment_commands.proofs.cutting.begin_any_counted.Goals as goal
 
 pub returns-in-RegionTooSmall : goal.returns-in-RegionTooSmall
 returns-in-RegionTooSmall g c =
-    let fresh = c.requires.fresh in let few = c.requires.few in let least = c.in-Ok.ensures in
+    let fresh = c.requires.fresh in let few = c.requires.few in let least = c.in-Ok.ensures.room in
     let mid = g.S.Source.history c.open_any.new.reader.inner in
     let opens : OpensAny (given_since nothing_given mid) c.in-Ok.region 0 Write (Err c.in-Err.refused) = rw fresh at c.in-Err.ensures.opens in
     let why = subst (λ (e : OpenError). IsWhyNotAny (given_since nothing_given mid) 0 (length c.in-Ok.region) e) c.in-RegionTooSmall.is opens.answers.why in

@@ -9,7 +9,7 @@ use Rattle.segment_commands.proofs.cutting.begin_counted.Goals as goal
 
 pub returns-in-RegionTooSmall : goal.returns-in-RegionTooSmall
 returns-in-RegionTooSmall g c =
-    let fresh = c.requires.fresh in let few = c.requires.few in let least = c.in-Ok.ensures in
+    let fresh = c.requires.fresh in let few = c.requires.few in let least = c.in-Ok.ensures.room in
     let mid = g.S.Source.history c.begin.new.image.inner in
     let starts = subst (λ (f : SessionFault). Starts OfImage c.args.mode 0 (length c.in-Ok.region) (given_since nothing_given mid) (Err f)) c.in-RegionTooSmall.is
     (rw fresh at c.in-Err.ensures.starts) in
@@ -20,3 +20,8 @@ pub returns-in_default-fault : goal.returns-in_default-fault
 returns-in_default-fault g c =
     let fresh = c.requires.fresh in
     inr (record { capacity = length c.in-Ok.region; starts = rw fresh at c.in-Err.ensures.starts })
+
+pub returns-in-Ok-begin : goal.returns-in-Ok-begin
+returns-in-Ok-begin g c =
+    let fresh = c.requires.fresh in
+    inr (record { capacity = length c.in-Ok.region; starts = rw fresh at c.in-Ok-begin.ensures.starts })

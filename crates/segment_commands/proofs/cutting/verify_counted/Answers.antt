@@ -20,7 +20,7 @@ returns-in-Ok-verify g c =
 
 pub returns-in-RegionTooSmall : goal.returns-in-RegionTooSmall
 returns-in-RegionTooSmall g c =
-    let fresh = c.requires.fresh in let few = c.requires.few in let least = c.in-Ok.ensures in
+    let fresh = c.requires.fresh in let few = c.requires.few in let least = c.in-Ok.ensures.room in
     let mid = g.S.Source.history c.verify.new.reader.inner in
     let given = given_since nothing_given mid in
     let v : Verifies current given c.in-Ok.region 0 (Err c.in-Err.refused) = rw fresh at c.in-Err.ensures.verifies in

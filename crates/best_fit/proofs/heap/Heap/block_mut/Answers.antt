@@ -2,7 +2,7 @@
 use Rattle.best_fit.proofs.Common.{◌≡◌, refl, sym, subst, ap, ◌∙◌, ◌-◌, arith, Cut, part, live_of, payload_at}
 use Rattle.best_fit.proofs.Payloads.{ReadAt, live_at, payload_written, read_at, with_payload-lent}
 use Rattle.best_fit.proofs.Writes.{block_payload}
-use Rattle.best_fit.proofs.WayPoints.{held-same}
+use Rattle.best_fit.proofs.HintedBlocks.{held-same}
 use Rattle.best_fit.proofs.heap.Heap.block_mut.Goals.{After-tile_at-len}
 use Rattle.best_fit.proofs.heap.Heap.block_mut.Goals as goal
 

@@ -3,7 +3,7 @@ use Rattle.best_fit.proofs.Common.{◌≡◌, subst, ◌∙◌, ◌*◌, ◌+◌
 use Rattle.best_fit.proofs.Common.{least_size}
 use Rattle.best_fit.proofs.Common.{of_size, LaysOut, heap_touches, live_of}
 use Rattle.best_fit.proofs.Allocating.{heap_bits}
-use Rattle.best_fit.proofs.WayPoints.{held-on}
+use Rattle.best_fit.proofs.HintedBlocks.{held-on}
 use Rattle.best_fit.proofs.heap.Heap.cut_end.Goals as goal
 
 pub invariant_of-self : goal.invariant_of-self

@@ -3,7 +3,7 @@ use Rattle.best_fit.proofs.Common.{◌≡◌, ap, subst, ◌+◌, ◌≤◌, Lis
 use Rattle.best_fit.proofs.Common.{HasEndMoved, of_size, Gap, gaps_in, heap_touches, live_of}
 use Rattle.best_fit.proofs.Allocating.{heap_bits}
 use Rattle.best_fit.proofs.Appended.{behind_heap, behind_live, end_moved}
-use Rattle.best_fit.proofs.WayPoints.{held-on}
+use Rattle.best_fit.proofs.HintedBlocks.{held-on}
 use Rattle.best_fit.proofs.heap.Heap.extend_end.Goals.{After-append_block-at}
 use Rattle.best_fit.proofs.heap.Heap.extend_end.Goals as goal
 

@@ -1,7 +1,7 @@
 -- The link lies in a block, and no tag changes.
 use Rattle.best_fit.proofs.Common.{◌≡◌, sym, subst, ◌+◌, arith, Cut, current, IsChanged}
 use Rattle.best_fit.proofs.Linked.{link_changed, spot}
-use Rattle.best_fit.proofs.WayPoints.{held-same}
+use Rattle.best_fit.proofs.HintedBlocks.{held-same}
 use Rattle.best_fit.proofs.heap.Heap.set_link.Goals as goal
 
 pub overflow_add-handle : goal.overflow_add-handle

@@ -3,7 +3,7 @@ use Rattle.best_fit.proofs.Common.{◌≡◌, sym, subst, ◌-◌, arith, IsTrue
 use Rattle.best_fit.proofs.Common.{live_of}
 use Rattle.best_fit.proofs.Recolours.{node_may, recoloured}
 use Rattle.best_fit.proofs.Writes.{node_block}
-use Rattle.best_fit.proofs.WayPoints.{held-same}
+use Rattle.best_fit.proofs.HintedBlocks.{held-same}
 use Rattle.best_fit.proofs.heap.Heap.set_node_red.Goals as goal
 
 pub overflow_sub-handle : goal.overflow_sub-handle

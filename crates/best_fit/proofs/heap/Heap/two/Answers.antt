@@ -3,7 +3,7 @@ use Rattle.best_fit.proofs.Common.{◌≡◌, sym, subst, ap, ◌∙◌, ◌-◌
 use Rattle.best_fit.proofs.Common.{live_of, payload_at, IsHeld}
 use Rattle.best_fit.proofs.Payloads.{ReadAt, live_at, payload_written, read_at, with_payload-lent}
 use Rattle.best_fit.proofs.TwoLent.{all_lent, blocks_apart, called_at, payload_lent}
-use Rattle.best_fit.proofs.WayPoints.{held-same}
+use Rattle.best_fit.proofs.HintedBlocks.{held-same}
 use Rattle.best_fit.proofs.heap.Heap.two.Given.{Over}
 use Rattle.best_fit.proofs.heap.Heap.two.Goals.{After-bytes_mut-bytes, After-on_two}
 use Rattle.best_fit.proofs.heap.Heap.two.Goals as goal

@@ -1,0 +1,36 @@
+-- Each row is a tile in use, and one visit more.
+use Rattle.std.proofs.Common.{arith}
+use Rattle.image_check.proofs.Budget.{noted-raised}
+use Rattle.image_check.proofs.OwnedRows.{image-blocks, rows-count, rows-weigh}
+use Rattle.image_check.proofs.checking.note_counted.Goals as goal
+
+pub returns-in-Ok-clause-answers : goal.returns-in-Ok-clause-answers
+returns-in-Ok-clause-answers c =
+    let b = c.args.window.now.bytes in
+    let p = c.in-Ok.ensures.passed in
+    record {
+      image = c.in-Ok.ensures.answers;
+      points = c.note_blocks.ensures.points b (image-blocks b c.in-Ok.owners.blocks.entries p.tiles p.frame);
+    }
+
+pub returns-in-Ok-clause-visits : goal.returns-in-Ok-clause-visits
+returns-in-Ok-clause-visits c =
+    let b = c.args.window.now.bytes in
+    let p = c.in-Ok.ensures.passed in
+    noted-raised c.args.window.now _ _ _ _ p.tiles p.spent (rows-weigh b c.in-Ok.owners.blocks.entries p.tiles p.frame)
+    c.note_blocks.ensures.visits
+
+pub returns-in-Ok-clause-tiles : goal.returns-in-Ok-clause-tiles
+returns-in-Ok-clause-tiles c =
+    let counted = c.in-Ok.ensures.passed.counted in
+    let one = c.note_blocks.ensures.visits in
+    omega arith
+
+pub returns-in-Ok-clause-blocks : goal.returns-in-Ok-clause-blocks
+returns-in-Ok-clause-blocks c =
+    let b = c.args.window.now.bytes in
+    let p = c.in-Ok.ensures.passed in
+    let counted = p.counted in
+    let all = rows-count b c.in-Ok.owners.blocks.entries p.frame in
+    let one = c.note_blocks.ensures.visits in
+    omega arith

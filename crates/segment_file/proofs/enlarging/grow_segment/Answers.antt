@@ -1,9 +1,0 @@
--- The region has no room, and nothing else is in the way.
-use Rattle.segment_file.proofs.Enlarged.{short_of_room}
-use Rattle.segment_file.proofs.enlarging.grow_segment.Goals as goal
-
-pub grow_elsewhere-requires-clause-short : goal.grow_elsewhere-requires-clause-short
-grow_elsewhere-requires-clause-short c =
-    let why = c.in-Err-RegionTooSmall.field-0 in
-    rw c.in-Err-RegionTooSmall.ensures.unchanged
-    (short_of_room c.args.segment.now c.args.extra why c.in-Err-RegionTooSmall.field-0-is c.in-Err-RegionTooSmall.ensures.refused (rw c.in-Err-RegionTooSmall.ensures.unchanged at c.size_of-size.ensures.denotes))

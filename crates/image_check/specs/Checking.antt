@@ -1,6 +1,6 @@
 -- What the check of an image that stands in its window finds.
-use Rattle.std.specs.Prelude.{◌≡◌, ℕ, Bool, false, Option, Some, None, List, IsTrue, Result, MatchResult, if◌then◌else◌}
-use Rattle.raw_region.specs.Memory.{Memory, bytes_of}
+use Rattle.std.specs.Prelude.{◌≡◌, ℕ, Bool, false, Option, Some, None, List, IsTrue, if◌then◌else◌}
+use Rattle.raw_region.specs.Memory.{Memory}
 use Rattle.block_tags.specs.declared.tile.Tile.{Tile}
 use Rattle.image_check.specs.declared.classes.ImageClass.{ImageClass}
 use Rattle.image_check.specs.declared.classes.ImageClass.TheVariants.{BadIndex, BadObject, SharedBlock, BadContainer, OrphanBlock}
@@ -10,9 +10,11 @@ use Rattle.image_check.specs.declared.errors.OpenError.{OpenError}
 use Rattle.image_check.specs.declared.errors.OpenError.TheVariants.{Image, OutOfMemory}
 use Rattle.image_check.specs.ObjectTests.{has_indexes, has_objects}
 use Rattle.image_check.specs.Fields.{is_shared, is_orphaned, has_containers}
-use Rattle.image_check.specs.Passes.{tiles_in, has_block}
-use Rattle.image_check.specs.Classes.{class_of}
+use Rattle.image_check.specs.Passes.{has_block}
+use Rattle.image_check.specs.declared.errors.ExamineError.{ExamineError}
+use Rattle.image_check.specs.declared.errors.ExamineError.TheVariants.{Image as Examined, OutOfMemory as Exhausted}
 use Rattle.image_check.specs.Opening.{has_early_class}
+use Rattle.image_check.specs.Verdicts.{IsVerdict}
 
 -- the first class from the eighth on, by the five tests
 abbrev pub late_by : Bool → Bool → Bool → Bool → Bool → Option ImageClass
@@ -24,17 +26,17 @@ late_by indexes objects shared containers orphaned =
 unfoldable pub late_class : ℕ → Memory → List Tile → Option ImageClass
 late_class format m ts = late_by (has_indexes m ts) (has_objects format m ts) (is_shared format m ts) (has_containers format m ts) (is_orphaned format m ts)
 
--- a pass finds the first class from the eighth on, or that there is none
-abbrev pub FindsLate : ℕ → List ℕ → Result (Unit {0}) ImageClass → Type 0
-FindsLate format b result =
-    MatchResult result (λ done. late_class format (bytes_of b) (tiles_in b) ≡ None) (λ c. late_class format (bytes_of b) (tiles_in b) ≡ Some c)
-
 -- why an image is not opened
 abbrev pub IsWhyRefused : ℕ → List ℕ → CheckError → Type 0
-IsWhyRefused format b (Class c) = class_of format b ≡ Some c
+IsWhyRefused format b (Class v) = IsVerdict format b v
 IsWhyRefused format b (NoMemory refusal) = (has_early_class format b ≡ false) × IsTrue (has_block b)
 
 -- the same as an answer to an opening
 abbrev pub cause_for : CheckError → OpenError
-cause_for (Class c) = Image c
+cause_for (Class v) = Image v.class
 cause_for (NoMemory refusal) = OutOfMemory
+
+-- and with the place
+abbrev pub examined_for : CheckError → ExamineError
+examined_for (Class v) = Examined v
+examined_for (NoMemory refusal) = Exhausted

@@ -327,6 +327,26 @@ noted-raised c old passed new count h x few e =
     all-part c (both all_rates note_rates) 115 old new h noted-most (omega arith)
     (spend-both c.bytes all_rates note_rates 115 0 old passed new x (omega arith, omega arith))
 
--- where the tags are wrong, they alone were read
-pub tags-raised : (b : List ℕ) (old tags new : ℕ) → 32 * tags + 112 ≤ length b → new ≡ old + tags → IsRaisedFor (length b) old new
-tags-raised b old tags new few e = (omega arith, omega arith)
+-- where the tags are wrong, they alone were read, and read again up to the wrong one
+pub tags-twice : (b : List ℕ) (old tags mid new : ℕ) → 32 * tags + 112 ≤ length b → mid ≡ old + tags → mid ≤ new
+    → 32 * new + 112 ≤ 32 * mid + length b → IsRaisedFor (length b) old new
+tags-twice b old tags mid new few e more again = (omega arith, omega arith)
+
+-- a walk up to a wrong tag spends no more than one over all
+pub wrong-spend : (c : Cut) (old new : ℕ) → HasTiles c.bytes → old ≤ new → 32 * new + 112 ≤ 32 * old + length c.bytes
+    → Spends tag_rates 1 c.bytes old new
+wrong-spend c old new h more few = tags-spend c old (new - old) new h (omega arith) (omega arith)
+
+plain-most : (u : Option Role) → rate_of (both tag_rates (both tag_rates tag_rates)) u ≤ 64
+plain-most None = omega arith
+plain-most (Some Object) = omega arith
+plain-most (Some Index) = omega arith
+plain-most (Some Storage) = omega arith
+plain-most (Some Node) = omega arith
+
+-- so it is where it follows two walks
+pub plain-raised : (c : Cut) (old mid new : ℕ) → HasTiles c.bytes → Spends tag_rates 1 c.bytes old mid
+    → Spends (both tag_rates tag_rates) 1 c.bytes mid new → IsRaisedFor (length c.bytes) old new
+plain-raised c old mid new h x y =
+    all-part c (both tag_rates (both tag_rates tag_rates)) 2 old new h plain-most (omega arith)
+    (spend-both c.bytes tag_rates (both tag_rates tag_rates) 1 1 old mid new x y)

@@ -1,6 +1,6 @@
 -- What the check of a whole image finds: its first class, or a directory.
-use Rattle.std.proofs.Common.{◌≡◌, refl, sym, ap, ◌∙◌, ℕ, ◌<◌, ◌≤◌, inl, inr, Bool, true, false, not, ◌||◌, List, [], ◌∷◌, length, arith}
-use Rattle.std.specs.Prelude.{IsTrue, IsOk, is_some, Option, Some, None, Result, Ok, Err, MatchResult}
+use Rattle.std.proofs.Common.{◌≡◌, refl, sym, ap, subst, ◌∙◌, ℕ, ◌<◌, ◌≤◌, inl, inr, Bool, true, false, not, ◌||◌, List, [], ◌∷◌, length, arith}
+use Rattle.std.specs.Prelude.{IsTrue, IsOk, is_some, Option, Some, None, Result, Err}
 use Rattle.std.specs.List.{list_any}
 use Rattle.std.proofs.lemmas.Bool.{cases_Bool}
 use Rattle.raw_region.specs.Memory.{Cut, bytes_of}
@@ -14,15 +14,17 @@ use Rattle.image_check.specs.declared.classes.ImageClass.TheVariants.{BadTag, Ba
 use Rattle.image_check.specs.EarlyTests.{has_free_tree, has_reserved, is_tiled}
 use Rattle.image_check.specs.ObjectTests.{has_indexes, has_objects}
 use Rattle.image_check.specs.Fields.{is_shared, is_orphaned, has_containers}
-use Rattle.image_check.specs.Checking.{FindsLate, late_by, late_class}
+use Rattle.image_check.specs.Checking.{late_by, late_class}
 use Rattle.image_check.specs.Classes.{are_bytes, class_of}
 use Rattle.image_check.specs.Frame.{has_frame}
 use Rattle.image_check.specs.Meaning.{HasOneDirectory}
-use Rattle.image_check.specs.OlderFormats.{FindsWithoutTree}
 use Rattle.image_check.specs.Opening.{IsImage}
 use Rattle.image_check.specs.Owners.{entries_of}
-use Rattle.image_check.specs.Passes.{Finds, HasTiles, has_block, tiles_in}
+use Rattle.image_check.specs.Passes.{HasTiles, has_block, tiles_in}
 use Rattle.image_check.specs.Reading.{HasFront}
+use Rattle.image_check.specs.declared.verdict.Verdict.{Verdict}
+use Rattle.image_check.specs.Verdicts.{IsVerdict, Shows, said_tiles}
+use Rattle.image_check.specs.WrongTags.{StopsAt}
 use Rattle.image_check.proofs.Early.{tree-BadFreeTree}
 use Rattle.image_check.proofs.Filled.{HasFront-IsRight}
 use Rattle.image_check.proofs.FormatTags.{good-has_tags, later-has_tags}
@@ -46,18 +48,22 @@ pub checked-tiles : (format : ℕ) (w : Cut) → IsChecked format w → HasTiles
 checked-tiles format w h = record { size = (HasFront-IsRight format w h.front).legal; tags = good-has_tags format (bytes_of w.bytes) (length w.bytes) h.tags }
 
 -- the tags are wrong
-pub checked-tags : (format : ℕ) (w : Cut) → HasFront format w → has_reserved w.bytes ≡ true → has_tags format (bytes_of w.bytes) (length w.bytes) ≡ false → class_of format w.bytes ≡ Some BadTag
-checked-tags format w h r e = first-tag format w h r (ap (has_tags format (bytes_of w.bytes)) h.says ∙ e)
+pub checked-tags : (format : ℕ) (w : Cut) (v : Verdict) → HasFront format w → has_reserved w.bytes ≡ true → has_tags format (bytes_of w.bytes) (length w.bytes) ≡ false → v.class ≡ BadTag
+    → StopsAt format (bytes_of w.bytes) (length w.bytes) v.place → IsVerdict format w.bytes v
+checked-tags format w v h r e k s = (
+  first-tag format w h r (ap (has_tags format (bytes_of w.bytes)) h.says ∙ e) ∙ ap (λ (x : ImageClass). Some x) (sym k),
+  subst (λ (x : ImageClass). Shows format w.bytes x v.place) (sym k) (subst (λ n. StopsAt format (bytes_of w.bytes) n v.place) (sym h.says) s),
+)
 
 -- the tags that are good by the current format are those of each later than the first
 pub later-checked : (format : ℕ) (w : Cut) → 0 < format → HasFront format w → has_reserved w.bytes ≡ true → has_tags current (bytes_of w.bytes) (length w.bytes) ≡ true → IsChecked format w
 later-checked format w l h r e = record { front = h; reserved = r; tags = later-has_tags format (bytes_of w.bytes) (length w.bytes) l ∙ e }
 
 -- the free tree is not right
-pub checked-tree : (format : ℕ) (w : Cut) → IsChecked format w → has_free_tree format (bytes_of w.bytes) (tiles_of (bytes_of w.bytes) (length w.bytes)) ≡ false → class_of format w.bytes ≡ Some BadFreeTree
+pub checked-tree : (format : ℕ) (w : Cut) → IsChecked format w → has_free_tree format (bytes_of w.bytes) (tiles_in w.bytes) ≡ false → IsVerdict format w.bytes (record { class = BadFreeTree; place = 24 })
 checked-tree format w h e =
-    first-tree format w h.front h.reserved (checked-tiled format w h)
-    (tree-BadFreeTree format w.bytes (checked-tiled format w h) (ap (λ n. has_free_tree format (bytes_of w.bytes) (tiles_of (bytes_of w.bytes) n)) h.front.says ∙ e))
+    let holds = tree-BadFreeTree format w.bytes (checked-tiled format w h) (ap (λ n. has_free_tree format (bytes_of w.bytes) (tiles_of (bytes_of w.bytes) n)) h.front.says ∙ e) in
+    (first-tree format w h.front h.reserved (checked-tiled format w h) holds, refl)
 
 -- or it is
 pub checked-frame : (format : ℕ) (w : Cut) → IsChecked format w → has_free_tree format (bytes_of w.bytes) (tiles_of (bytes_of w.bytes) (length w.bytes)) ≡ true → IsTrue (has_frame format w.bytes)
@@ -71,14 +77,6 @@ checked-frame format w h e =
       tiled = checked-tiled format w h;
       tree = ap (λ n. has_free_tree format (bytes_of w.bytes) (tiles_of (bytes_of w.bytes) n)) h.front.says ∙ e;
     })
-
--- where format 0 is read, the last parts of the frame are looked at together
-module _ (w : Cut) (h : HasFront 0 w) (r : has_reserved w.bytes ≡ true) where
-  pub treeless-finds : {A : Type 0} (k : Result A ImageClass) → FindsWithoutTree w.bytes k
-      → MatchResult k (λ done. IsTrue (has_frame 0 w.bytes)) (λ class. class_of 0 w.bytes ≡ Some class)
-  treeless-finds (Ok u) f = checked-frame 0 w (record { front = h; reserved = r; tags = f.tags }) f.no_tree
-  treeless-finds (Err k) (inl f) = checked-tags 0 w h r f.1 ∙ ap (λ (x : ImageClass). Some x) (sym f.0)
-  treeless-finds (Err k) (inr f) = checked-tree 0 w (record { front = h; reserved = r; tags = f.1 }) f.2 ∙ ap (λ (x : ImageClass). Some x) (sym f.0)
 
 -- good tags are a part of a frame
 pub frame-tiles : (format : ℕ) (b : List ℕ) → IsTrue (has_frame format b) → HasTiles b
@@ -140,11 +138,6 @@ module _ (format : ℕ) (b : List ℕ) where
   unfolding late_class
   late-none d e f g h = λ k. late_by (d k) (e k) (unshared s f k) (g k) (unshared r h k)
 
-  -- the last pass decides
-  pub late-orphans : i ≡ true → o ≡ true → not s ≡ true → c ≡ true → (k : Result (Unit {0}) ImageClass) → Finds OrphanBlock (not r) k → FindsLate format b k
-  late-orphans d e f g (Ok u) h = late-none d e f g h
-  late-orphans d e f g (Err k) h = late-orphan d e f g h.1 ∙ ap (λ (x : ImageClass). Some x) (sym h.0)
-
 -- ---- the memory
 
 -- tiles of which none is in use are no blocks
@@ -171,11 +164,16 @@ no-memory-used b r e h n = elim (cases_Bool (has_block b)) [
 -- ---- the whole
 
 -- behind a right frame, the first class of the blocks is that of the image
-pub blocks-class : (format : ℕ) (b : List ℕ) (k : ImageClass) → IsTrue (has_frame format b) → late_class format (bytes_of b) (tiles_in b) ≡ Some k → class_of format b ≡ Some k
-blocks-class format b k h e = late-class format b h ∙ e
+module _ (format : ℕ) (b : List ℕ) (h : IsTrue (has_frame format b)) where
+  pub blocks-class : (o : Option ImageClass) → late_class format (bytes_of b) (tiles_in b) ≡ o → class_of format b ≡ o
+  blocks-class o e = late-class format b h ∙ e
+
+  -- and what is so of the tiles is so by the size that the header says
+  pub of-tiles : (Is : List Tile → Type 0) → Is (tiles_in b) → Is (said_tiles b)
+  of-tiles Is i =
+      let s = has_whole_size-HasWholeSize b (has_frame-IsFrame format b h).size in
+      subst (λ n. Is (tiles_of (bytes_of b) n)) (sym s.same) i
 
 -- or no class holds of it, so it denotes a directory
-pub blocks-image : (format : ℕ) (b : List ℕ) → format ≤ 2 → IsTrue (are_bytes b) → IsTrue (has_frame format b) → late_class format (bytes_of b) (tiles_in b) ≡ None → IsImage format b
-blocks-image format b few small h e =
-    let law : HasOneDirectory format b = one_directory format b (omega arith) small in
-    law.some (late-class format b h ∙ e)
+pub blocks-image : (format : ℕ) (b : List ℕ) → format ≤ 2 → IsTrue (are_bytes b) → class_of format b ≡ None → IsImage format b
+blocks-image format b few small e = let law : HasOneDirectory format b = one_directory format b (omega arith) small in law.some e

@@ -1,5 +1,5 @@
 -- The walk over the containers: what it keeps of the tiles that it has passed, and what its answer says.
-use Rattle.std.proofs.Common.{◌≡◌, refl, sym, ap, subst, ◌∙◌, ℕ, ◌+◌, ◌-◌, ◌*◌, ◌/◌, ◌≤◌, inl, inr, Bool, true, false, ◌&&◌, ◌==◌, List, [], ◌∷◌, ◌++◌, length, arith}
+use Rattle.std.proofs.Common.{◌≡◌, refl, sym, ap, subst, ◌∙◌, ℕ, ◌+◌, ◌-◌, ◌*◌, ◌/◌, ◌≤◌, inl, inr, Bool, true, ◌&&◌, ◌==◌, List, [], ◌∷◌, ◌++◌, length, arith}
 use Rattle.std.specs.Prelude.{Option, Some, None, Contains, filter, filter_map, option_map}
 use Rattle.std.specs.List.{list_all, cons_option}
 use Rattle.std.proofs.lemmas.Bool.{cases_Bool, cond-true, cond-false, and_parts}
@@ -22,7 +22,7 @@ use Rattle.image_check.proofs.Rooted.{node-followed}
 use Rattle.image_check.proofs.RowWalks.{PassesGaps, free-object, recoloured}
 use Rattle.image_check.proofs.TilePlaces.{tile-lies}
 use Rattle.best_fit.proofs.Laws.{Row, said_row}
-use Rattle.image_check.proofs.WalkedTiles.{WalksAt, all-fails, all-more}
+use Rattle.image_check.proofs.WalkedTiles.{WalksAt, all-more}
 
 -- ---- the test of all tiles is that of all values
 
@@ -164,11 +164,6 @@ module _ (format : ℕ) (c : Cut) (es : Blocks) (old now new : ℕ) (here : Tile
       let more = weigh-more a.front here a.back in
       let most = below-all (here.offset + here.len) es in
       (omega arith, omega arith)
-
-  pub right-fails : has_container format (bytes_of c.bytes) (tiles_in c.bytes) here ≡ false → list_all (has_container format (bytes_of c.bytes) (tiles_in c.bytes)) (tiles_in c.bytes) ≡ false
-  right-fails h =
-      let test = has_container format (bytes_of c.bytes) (tiles_in c.bytes) in
-      ap (list_all test) (tiles_are_read_off c (a.front ++ here ∷ a.back) a.said) ∙ all-fails test a.front here a.back h
 
 -- a free tile is passed over
 pub paid-gap : (format : ℕ) (c : Cut) (es : Blocks) (old now : ℕ) → PassesGaps c (IsPaid format c es old now)

@@ -1,5 +1,5 @@
 -- What a pass may spend on all tiles, from what it spends on each.
-use Rattle.std.proofs.Common.{◌≡◌, ap, ℕ, ◌+◌, ◌*◌, ◌/◌, ◌≤◌, List, [], ◌∷◌, ◌++◌, length, arith}
+use Rattle.std.proofs.Common.{◌≡◌, ap, ℕ, ◌+◌, ◌*◌, ◌/◌, ◌≤◌, List, [], ◌∷◌, length, arith}
 use Rattle.block_tags.specs.declared.tile.Tile.{Tile}
 use Rattle.std.proofs.Common.{add-one}
 use Rattle.image_check.proofs.Passing.{mul-next}

@@ -119,7 +119,7 @@ free-block b o e = no-owner b.owner (sym (ap root_in (cond-true (same_role b.rol
 
 module _ (ts : List Tile) (old es : Blocks) (root : ℕ) (front : List (Option ℕ)) (a : AreAdded ts old es root (targets_of front)) where
   -- an object that is none of those before and has no entry can be entered
-  can : (n : ℕ) → is_some (tile_of ts Object n) ≡ true → is_among (targets_of front) n ≡ false → index_of old n ≡ None → can_enter es (Some n) ≡ true
+  pub can : (n : ℕ) → is_some (tile_of ts Object n) ≡ true → is_among (targets_of front) n ≡ false → index_of old n ≡ None → can_enter es (Some n) ≡ true
   can n g d f = can-if (tile_of ts Object n) refl g
     where
       can-if : (o : Option Tile) → tile_of ts Object n ≡ o → is_some o ≡ true → can_enter es (Some n) ≡ true

@@ -1,6 +1,6 @@
 -- Both indexes, one after the other: whether they pass their test, and what is noted then.
 use Rattle.std.proofs.Common.{◌≡◌, refl, sym, ap, subst, ◌∙◌, ℕ, ◌+◌, Bool, true, false, ◌&&◌, List, [], ◌∷◌, ◌++◌, cond}
-use Rattle.std.specs.Prelude.{Option, Some, None, nat_eq}
+use Rattle.std.specs.Prelude.{Option, Some, None, is_some, nat_eq}
 use Rattle.std.specs.List.{cons_option}
 use Rattle.std.proofs.lemmas.Bool.{and_from, and_parts, both_ways, cases_Bool, cond-false, cond-true}
 use mathlib.Core.Logic.{inl, inr}
@@ -16,7 +16,7 @@ use Rattle.image_check.specs.EarlyTests.{is_among}
 use Rattle.image_check.specs.ObjectTests.{are_distinct, has_index, has_indexes, targets}
 use Rattle.image_check.specs.Owners.{Blocks, IsMarking, IsUnmarked, block_at, entries_of, entry_in, entry_of, frames, new_block, owner_at}
 use Rattle.image_check.specs.Passes.{HasTiles, tiles_in}
-use Rattle.image_check.specs.Entered.{AreAdded, AreEntered, are_new, index_of, is_enterable, listed, root_in}
+use Rattle.image_check.specs.Entered.{AreAdded, AreEntered, HaveEntries, are_new, index_of, is_enterable, listed, root_in}
 use Rattle.image_check.proofs.IndexEntries.{Distinct, distinct-append, distinct-passes}
 use Rattle.image_check.proofs.Members.{Mem, Mem-is_among, is_among-Mem}
 use Rattle.image_check.proofs.EntriesNoted.{distinct-parts, new-from, new-parts, passes-distinct}
@@ -58,6 +58,10 @@ module _ (ts : List Tile) where
       by-block None e = refl
       by-block (Some b) e = ap root_in (none-if-not (same_role b.role Object) b.owner (blocks-free ts n b e))
 
+-- so none has an entry
+pub none-entered : (ts : List Tile) (es : Blocks) → es ≡ entries_of ts → HaveEntries es []
+none-entered ts es gathered n = ap is_some (ap (λ (es : Blocks). index_of es n) gathered ∙ no-index ts n)
+
 -- ---- both tests
 
 module _ (m : Memory) (ts : List Tile) (es0 es1 : Blocks) (gathered : es0 ≡ entries_of ts) (a : AreAdded ts es0 es1 32 (targets m 32)) where
@@ -69,6 +73,14 @@ module _ (m : Memory) (ts : List Tile) (es0 es1 : Blocks) (gathered : es0 ≡ en
 
   index-none : (n : ℕ) → index_of es0 n ≡ None
   index-none n = ap (λ (es : Blocks). index_of es n) gathered ∙ no-index ts n
+
+  -- those of the first index have one
+  pub first-entered : HaveEntries es1 (targets m 32)
+  first-entered n = ap is_some (a.entered n) ∙ by (is_among xs n)
+    where
+      by : (x : Bool) → is_some (cond x (Some 32) (index_of es0 n)) ≡ x
+      by true = refl
+      by false = ap is_some (index-none n)
 
   -- what has an entry in the first index has it noted
   was-entered : (n : ℕ) → Mem n (targets m 32) → index_of es1 n ≡ None → ⊥

@@ -10,12 +10,12 @@ use Rattle.block_tags.specs.declared.tile.Role.{Role}
 use Rattle.block_tags.specs.declared.tile.Role.TheVariants.{Object, Storage, Node}
 use Rattle.block_tags.specs.declared.tile.Tile.{Tile}
 use Rattle.best_fit.specs.Table.{same_role}
-use Rattle.image_check.specs.declared.classes.ImageClass.TheVariants.{SharedBlock}
 use Rattle.image_check.specs.declared.owners.Block.{Block}
 use Rattle.image_check.specs.declared.owners.Owner.{Owner}
 use Rattle.image_check.specs.ObjectTests.{tile_of}
 use Rattle.image_check.specs.Meaning.{LeadsTo, Counts}
-use Rattle.image_check.specs.Owners.{Blocks, block_at, owner_in, owner_at, IsTileAt, IsBlockAt, due, due_of, debt, frame_of, frames, IsWaiting, IsChain, Stands, MayCount, IsNoted, IsFollowed, IsRooted, IsMarking, IsMarked, IsSharedClass}
+use Rattle.image_check.specs.OwnerPlaces.{IsSharedAt}
+use Rattle.image_check.specs.Owners.{Blocks, block_at, owner_in, owner_at, IsTileAt, IsBlockAt, due, due_of, debt, frame_of, frames, IsWaiting, IsChain, Stands, MayCount, IsNoted, IsFollowed, IsRooted, IsMarking, IsMarked}
 
 -- ---- one block in the place of another
 
@@ -139,9 +139,14 @@ module _ (format : ℕ) (m : Memory) (ts : List Tile) (now : Option ℕ) (es : B
           leads : LeadsTo m ts role link.at target
           leads = let w = k.blocks.tiles target b is in (sym points, (w.tile, ap (λ x. tile_of ts x target) (sym r) ∙ w.is))
 
-          pub shared : (o : Owner) → b.owner ≡ Some o → o.at ≢ link.at → IsSharedClass format m ts SharedBlock
-          shared o e d =
-              (refl, record { first = link.at; second = o.at; target = target; two = λ e. d (sym e); from_first = may target leads; from_second = k.counts target o (was-owned ∙ e) })
+          pub shared : (o : Owner) → b.owner ≡ Some o → o.at ≢ link.at → IsSharedAt format m ts link.at
+          shared o e d = record {
+            target = target;
+            other = o.at;
+            apart = λ e. d (sym e);
+            here = may target leads;
+            there = k.counts target o (was-owned ∙ e);
+          }
 
           module _ (start : IsRooted ts es link) (free : b.owner ≡ None) where
             abbrev pub owned : Block

@@ -8,8 +8,6 @@ use Rattle.image_check.specs.Owners.{Blocks, IsMarkingOf}
 use Rattle.image_check.specs.Passes.{HasTiles, tiles_in}
 use Rattle.image_check.specs.Sharing.{AreValuesNoted}
 use Rattle.std.specs.Prelude.{Result, Ok, Err, MatchResult, OnOk, not}
-use Rattle.image_check.specs.declared.classes.ImageClass.{ImageClass}
-use Rattle.image_check.specs.declared.classes.ImageClass.TheVariants.{SharedBlock}
 use Rattle.image_check.specs.Fields.{is_shared}
 use Rattle.image_check.specs.Owners.{IsAllFollowed, IsSharedIn, IsUnmarked, IsWholeMarkingOf}
 use Rattle.image_check.specs.Passes.{Finds}
@@ -44,10 +42,10 @@ whole format b es p1 w1 fs p2 w2 gs p3 w3 x y z = record {
   root = λ k v at c n l. z.keeps n _ ((y.noted (Map k v) at c).root k v refl n l);
 }
 
-pub finds-from : {A : Type 0} (format : ℕ) (b : List ℕ) (P : A → Type 0) (r : Result A ImageClass) → HasTiles b → MatchResult r P (IsSharedIn format b) → ((x : A) → P x → not (is_shared format (bytes_of b) (tiles_in b)) ≡ true)
-    → Finds SharedBlock (not (is_shared format (bytes_of b) (tiles_in b))) r
+pub finds-from : {A : Type 0} (format : ℕ) (b : List ℕ) (P : A → Type 0) (r : Result A ℕ) → HasTiles b → MatchResult r P (IsSharedIn format b) → ((x : A) → P x → not (is_shared format (bytes_of b) (tiles_in b)) ≡ true)
+    → Finds (not (is_shared format (bytes_of b) (tiles_in b))) (IsSharedIn format b) r
 finds-from format b P (Ok x) h m f = f x m
-finds-from format b P (Err x) h m f = (m.0, some-shared-in format b h m.1)
+finds-from format b P (Err x) h m f = (some-shared-in format b x h m, m)
 
 pub on-ok : {A E : Type 0} (P : A → Type 0) (Q : E → Type 0) (R : Type 0) (r : Result A E) → MatchResult r P Q → ((x : A) → P x → R) → OnOk r R
 on-ok P Q R (Ok x) m f = f x m

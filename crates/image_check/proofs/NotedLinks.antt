@@ -9,7 +9,6 @@ use Rattle.offset_link.specs.Link.{link_at}
 use Rattle.block_tags.specs.declared.tile.Role.{Role}
 use Rattle.block_tags.specs.declared.tile.Role.TheVariants.{Index, Storage, Node}
 use Rattle.block_tags.specs.declared.tile.Tile.{Tile}
-use Rattle.image_check.specs.declared.classes.ImageClass.{ImageClass}
 use Rattle.image_check.specs.declared.owners.Owner.{Owner}
 use Rattle.image_check.specs.ObjectTests.{index_capacity}
 use Rattle.image_check.specs.Meaning.{Counts}
@@ -21,7 +20,7 @@ use Rattle.image_check.proofs.Following.{debts-small}
 use Rattle.image_check.proofs.Inside.{payload-inside}
 
 -- what noting a link at a place does, where no other link leads to it
-abbrev pub Marks : ℕ → List ℕ → Role → Option ℕ → Blocks → ℕ → Blocks → Option ℕ → ℕ → Result (Unit {0}) ImageClass → ℕ → Type 0
+abbrev pub Marks : ℕ → List ℕ → Role → Option ℕ → Blocks → ℕ → Blocks → Option ℕ → ℕ → Result (Unit {0}) ℕ → ℕ → Type 0
 Marks format b role target old waited es pending waiting r at =
     target ≡ link_at (bytes_of b) at → MayCount format (bytes_of b) (tiles_in b) role at → IsRooted (tiles_in b) old (owner at at)
     → MatchResult r (λ done. IsMarked format (bytes_of b) (tiles_in b) None role (owner at at) old waited es pending waiting) (IsSharedIn format b)

@@ -1,6 +1,6 @@
 -- The links behind a value, noted one after another.
-use Rattle.std.proofs.Common.{◌≡◌, refl, sym, ap, subst, ◌∙◌, ℕ, ◌+◌, ◌*◌, ◌/◌, ◌%◌, ◌≤◌, ◌<◌, true, false, List, length, arith}
-use Rattle.std.specs.Prelude.{Option, Some, None, IsTrue, ◌⊎◌, ◌==◌, option_map}
+use Rattle.std.proofs.Common.{◌≡◌, refl, sym, ap, subst, ◌∙◌, ℕ, ◌+◌, ◌*◌, ◌%◌, ◌≤◌, ◌<◌, List, length, arith}
+use Rattle.std.specs.Prelude.{Option, Some, None, IsTrue, ◌⊎◌, option_map}
 use Rattle.std.proofs.lemmas.Bool.{false≢true}
 use mathlib.Core.Logic.{inl, inr}
 use Rattle.raw_region.specs.Memory.{bytes_of, word_at}

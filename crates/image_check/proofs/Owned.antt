@@ -1,6 +1,6 @@
 -- What is noted in the end decides which blocks are shared and which have no owner.
 use Rattle.std.proofs.Common.{◌≡◌, refl, sym, ap, subst, ◌∙◌, ℕ, ◌-◌, Bool, true, false, not, ◌&&◌, ◌||◌, ◌==◌, List, [], ◌∷◌, length}
-use Rattle.std.specs.Prelude.{Option, Some, None, IsTrue, is_some}
+use Rattle.std.specs.Prelude.{Option, Some, None, IsTrue, Result, Ok, Err, find, is_some}
 use Rattle.std.specs.List.{list_all, list_any}
 use Rattle.std.proofs.lemmas.Bool.{eqb-true, eq-eqb, false≢true}
 use Rattle.raw_region.specs.Memory.{Memory, bytes_of}
@@ -9,10 +9,12 @@ use Rattle.block_tags.specs.declared.tile.Tile.{Tile}
 use Rattle.best_fit.proofs.Laws.{Row}
 use Rattle.image_check.specs.declared.owners.Owner.{Owner}
 use Rattle.image_check.specs.ObjectTests.{payload}
-use Rattle.image_check.specs.Fields.{Field, counted_fields, is_orphaned, is_shared, leads_there, leave_some, needs_owner}
+use Rattle.image_check.specs.Fields.{Field, counted_fields, is_left, is_orphaned, is_shared, leads_there, leave_some, needs_owner}
 use Rattle.image_check.specs.Meaning.{Counts, IsShared}
+use Rattle.image_check.specs.OwnerPlaces.{IsSharedAt}
 use Rattle.image_check.specs.Owners.{Blocks, IsWholeMarking, IsWholeMarkingOf, has_owner, owner, owner_at}
-use Rattle.image_check.specs.Passes.{HasTiles, tiles_in}
+use Rattle.image_check.specs.ObjectPlaces.{IsFirstTile, IsFirstWrongTile}
+use Rattle.image_check.specs.Passes.{Finds, HasTiles, tiles_in}
 use Rattle.image_check.proofs.Members.{list_any_from, list_any_of}
 use Rattle.image_check.proofs.Tags.{has_tags-AreWholeTiles}
 use Rattle.image_check.proofs.CountedFields.{Contains-Mem, Mem-Contains, counted-means}
@@ -73,10 +75,14 @@ module _ (format : ℕ) (m : Memory) (ts : List Tile) (es : Blocks) (waiting : �
     not-and true b = refl
     not-and false b = refl
 
+    -- a tile to which no field leads is one without an owner
+    pub left-owner : (t : Tile) → is_left (counted_fields format m ts) t ≡ not (has_owner es t)
+    left-owner t = flipped (needs_owner t) (list_any (leads_there t) (counted_fields format m ts)) (is_some (owner_at es (payload t))) (same-owner (payload t))
+
     left-some : (us : List Tile) → leave_some us (counted_fields format m ts) ≡ not (list_all (has_owner es) us)
     left-some [] = refl
     left-some (t ∷ us) =
-        (λ i. flipped (needs_owner t) (list_any (leads_there t) (counted_fields format m ts)) (is_some (owner_at es (payload t))) (same-owner (payload t)) i || left-some us i)
+        (λ i. left-owner t i || left-some us i)
         ∙ not-and (has_owner es t) (list_all (has_owner es) us)
 
     -- the test of orphans goes through the tiles and looks each up
@@ -89,11 +95,12 @@ pub none-shared-in : (format : ℕ) (b : List ℕ) (es : Blocks) (waiting : ℕ)
 none-shared-in format b es waiting h w =
     ap not (not-shared format (bytes_of b) (tiles_in b) es waiting w (length b - 16) (has_tags-AreWholeTiles current (bytes_of b) (length b) h.tags).row)
 
-pub some-shared-in : (format : ℕ) (b : List ℕ) → HasTiles b → IsShared format (bytes_of b) (tiles_in b) → not (is_shared format (bytes_of b) (tiles_in b)) ≡ false
-some-shared-in format b h s =
-    ap not ((shared-means format (bytes_of b) (tiles_in b) (length b - 16) (has_tags-AreWholeTiles current (bytes_of b) (length b) h.tags).row).1 s)
+pub some-shared-in : (format : ℕ) (b : List ℕ) (at : ℕ) → HasTiles b → IsSharedAt format (bytes_of b) (tiles_in b) at → not (is_shared format (bytes_of b) (tiles_in b)) ≡ false
+some-shared-in format b at h s =
+    ap not ((shared-means format (bytes_of b) (tiles_in b) (length b - 16) (has_tags-AreWholeTiles current (bytes_of b) (length b) h.tags).row).1
+    (record { first = at; second = s.other; target = s.target; two = s.apart; from_first = s.here; from_second = s.there }))
 
-pub owned-in : (format : ℕ) (b : List ℕ) (es : Blocks) (waiting : ℕ) → HasTiles b → IsWholeMarkingOf format b es waiting → not (is_orphaned format (bytes_of b) (tiles_in b)) ≡ list_all (has_owner es) (tiles_in b)
+owned-in : (format : ℕ) (b : List ℕ) (es : Blocks) (waiting : ℕ) → HasTiles b → IsWholeMarkingOf format b es waiting → not (is_orphaned format (bytes_of b) (tiles_in b)) ≡ list_all (has_owner es) (tiles_in b)
 owned-in format b es waiting h w =
     ap not (orphaned format (bytes_of b) (tiles_in b) es waiting w (length b - 16) (has_tags-AreWholeTiles current (bytes_of b) (length b) h.tags).row)
     ∙ twice (list_all (has_owner es) (tiles_in b))
@@ -101,3 +108,20 @@ owned-in format b es waiting h w =
     twice : (x : Bool) → not (not x) ≡ x
     twice true = refl
     twice false = refl
+
+-- a look at the owners finds the first block without one
+pub orphan-found : (format : ℕ) (b : List ℕ) (es : Blocks) (waiting : ℕ) → HasTiles b → IsWholeMarkingOf format b es waiting → (k : Result (Unit {0}) ℕ)
+    → Finds (list_all (has_owner es) (tiles_in b)) (IsFirstWrongTile (has_owner es) (tiles_in b)) k
+    → Finds (not (is_orphaned format (bytes_of b) (tiles_in b))) (IsFirstTile (is_left (counted_fields format (bytes_of b) (tiles_in b))) (tiles_in b)) k
+orphan-found format b es waiting h w (Ok done) f = owned-in format b es waiting h w ∙ f
+orphan-found format b es waiting h w (Err place) f =
+    let m = bytes_of b in
+    let ts = tiles_in b in
+    let row = (has_tags-AreWholeTiles current m (length b) h.tags).row in (
+      owned-in format b es waiting h w ∙ f.0,
+      record {
+        tile = f.1.tile;
+        is = (λ i. find (λ t. left-owner format m ts es waiting w (length b - 16) row t i) ts) ∙ f.1.is;
+        at = f.1.at;
+      },
+    )

@@ -38,6 +38,10 @@ module _ (format : ℕ) (old mid front region : List ℕ) (base size : ℕ) (w :
   bytes_right = subst (λ x. IsRight format x size) (sym bytes_are) (IsRight-append format front rest size front_right)
 
   -- there are as many bytes as the first ones say
+  -- the reader gave the first 24 bytes of the window
+  pub begun-start : mid ≡ old ++ take 24 w.bytes
+  begun-start = b.front_read.read ∙ ap (λ x. old ++ x) (sym begun-take)
+
   pub begun-length : length w.bytes ≡ size
   unfolding rest
   begun-length =
@@ -136,7 +140,7 @@ module _ (format : ℕ) (old mid front region : List ℕ) (base size : ℕ) (w :
       → IsNotRead format (read_since old new ended f h) region base (record { region = back; cause = cause })
   begun-stops new ended f g h v back cause grows d e p l s =
       let same : g ≡ f = omega arith in
-      let stops = s old (b.front_read.read ∙ ap (λ x. old ++ x) (sym begun-take)) in
+      let stops = s old begun-start in
       record {
         stops = subst (λ k. Stops format (read_since old new ended k h) base (length region) cause) same
             (subst (λ k. Stops format (read_since old new ended g h) base k cause) begun-whole

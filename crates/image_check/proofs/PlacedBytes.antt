@@ -86,7 +86,7 @@ misfit-more format b base capacity size r room l = record {
 -- the check refused it
 module _ (format : ℕ) (b region : List ℕ) (base : ℕ) (w : Cut) (h : IsImageRead format (as_given b) region base w) where
   why-not-of : (why : CheckError) → IsWhyRefused format w.bytes why → IsWhyNotOf format b base (length region) (cause_for why)
-  why-not-of (Class c) x = subst (λ (y : List ℕ). class_of format y ≡ Some c) h.bytes x
+  why-not-of (Class v) x = subst (λ (y : List ℕ). class_of format y ≡ Some v.class) h.bytes x.0
   why-not-of (NoMemory refusal) x = (
     record {
       read = h.read;

@@ -1,5 +1,5 @@
 -- What was read of the tile that a walk over the tiles of a window stands at.
-use Rattle.std.proofs.Common.{◌≡◌, ℕ, ◌<◌, List}
+use Rattle.std.proofs.Common.{◌≡◌, ◌<◌, List}
 use Rattle.std.specs.Prelude.{Option, Some}
 use Rattle.raw_region.specs.Memory.{Cut}
 use Rattle.block_tags.specs.declared.tile.Tile.{Tile}

@@ -12,9 +12,14 @@ use Rattle.image_check.specs.declared.errors.CheckError.TheVariants.{Class, NoMe
 use Rattle.image_check.specs.EarlyTests.{has_front, size_word}
 use Rattle.image_check.specs.Classes.{class_of}
 use Rattle.image_check.specs.Opening.{IsHandedBack, IsTooSmallFor, IsImage, IsWhyNot, Opens, Verifies, has_early_class}
-use Rattle.image_check.specs.Checking.{IsWhyRefused, cause_for}
+use Rattle.image_check.specs.Checking.{IsWhyRefused, cause_for, examined_for}
+use Rattle.image_check.specs.declared.errors.ExamineError.{ExamineError}
+use Rattle.image_check.specs.declared.errors.ExamineRefused.{ExamineRefused}
+use Rattle.image_check.specs.Causes.{IsShown, error_for, opened_as}
+use Rattle.image_check.specs.Examining.{Examines}
+use Rattle.image_check.specs.Verdicts.{Shows}
 use Rattle.image_check.specs.OpeningAny.{IsRenewed}
-use Rattle.image_check.specs.Reading.{IsImageRead}
+use Rattle.image_check.specs.Reading.{IsImageRead, IsNotRead}
 use Rattle.image_check.specs.Passes.{IsRefusalFor, has_block}
 use Rattle.image_check.proofs.Filled.{HasFront-IsRight, HasFront-least}
 use Rattle.image_check.proofs.HandedBack.{written-back}
@@ -31,7 +36,7 @@ module _ (format : ℕ) (image : Given) (region : List ℕ) (base : ℕ) (w : Cu
       omega arith
 
   why-not : (why : CheckError) → IsWhyRefused format w.bytes why → IsWhyNot format image base (length region) (cause_for why)
-  why-not (Class c) x = record { sound = h.read.failed; right = inl (h.read.ended, subst (λ (b : List ℕ). class_of format b ≡ Some c) h.bytes x) }
+  why-not (Class v) x = record { sound = h.read.failed; right = inl (h.read.ended, subst (λ (b : List ℕ). class_of format b ≡ Some v.class) h.bytes x.0) }
   why-not (NoMemory refusal) x = (
     record {
       read = h.read;
@@ -81,15 +86,27 @@ module _ (format : ℕ) (image : Given) (region : List ℕ) (base : ℕ) (w : Cu
     too_small = λ t. absurd (no-room t);
   }
 
-  -- the answers of a check of which no segment is made
-  pub not-verified : (why : CheckError) (cause : OpenError) (back : List ℕ)
-      → IsWhyRefused format w.bytes why → cause ≡ cause_for why → back ≡ whole w
-      → Verifies format image region base (Err (record { region = back; cause = cause }))
-  not-verified why cause back x e f =
-      let opens = refused ReadOnly why cause back x e f in
-      record { answers = opens.answers; too_small = opens.too_small }
+  -- a place that shows the class of the window shows that of what was read
+  shown-why : (why : CheckError) → IsWhyRefused format w.bytes why → IsShown format image.bytes (examined_for why)
+  shown-why (Class v) x = subst (λ (b : List ℕ). Shows format b v.class v.place) h.bytes x.1
+  shown-why (NoMemory refusal) x = tt
 
-  pub verified : (back : List ℕ) → IsImage format w.bytes → back ≡ whole w → Verifies format image region base (Ok back)
+  same-error : (why : CheckError) → error_for (examined_for why) ≡ cause_for why
+  same-error (Class v) = refl
+  same-error (NoMemory refusal) = refl
+
+  -- the answers of a check of which no segment is made
+  pub not-examined : (why : CheckError) (cause : ExamineError) (back : List ℕ)
+      → IsWhyRefused format w.bytes why → cause ≡ examined_for why → back ≡ whole w
+      → Examines format image region base (Err (record { region = back; cause = cause }))
+  not-examined why cause back x e f =
+      let opens = refused ReadOnly why (error_for cause) back x (ap error_for e ∙ same-error why) f in
+      record {
+        verifies = record { answers = opens.answers; too_small = opens.too_small };
+        shown = subst (IsShown format image.bytes) (sym e) (shown-why why x);
+      }
+
+  verified : (back : List ℕ) → IsImage format w.bytes → back ≡ whole w → Verifies format image region base (Ok back)
   verified back d f = record {
     answers = record {
       segment = record { cut = w; mode = ReadOnly };
@@ -104,3 +121,17 @@ module _ (format : ℕ) (image : Given) (region : List ℕ) (base : ℕ) (w : Cu
     };
     too_small = no-room;
   }
+
+  pub examined : (back : List ℕ) → IsImage format w.bytes → back ≡ whole w → Examines format image region base (Ok back)
+  examined back d f = record { verifies = verified back d f; shown = tt }
+
+-- one that was not read
+pub unread : (format : ℕ) (image : Given) (region : List ℕ) (base : ℕ) (refused : ExamineRefused) → IsNotRead format image region base (opened_as refused)
+    → IsShown format image.bytes refused.cause → Examines format image region base (Err refused)
+unread format image region base refused n s = record {
+  verifies = record {
+    answers = record { why = n.stops.why; handed_back = n.handed_back };
+    too_small = n.stops.too_small;
+  };
+  shown = s;
+}

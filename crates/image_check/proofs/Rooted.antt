@@ -1,5 +1,5 @@
 -- Where the links begin that lead to a block, once all that count are noted.
-use Rattle.std.proofs.Common.{◌≡◌, ℕ, ◌+◌, ◌*◌, ◌<◌, ◌≤◌, List}
+use Rattle.std.proofs.Common.{◌≡◌, ℕ, ◌+◌, List}
 use Rattle.std.specs.Prelude.{Some}
 use mathlib.Core.Logic.{inl, inr}
 use Rattle.raw_region.specs.Memory.{Memory}

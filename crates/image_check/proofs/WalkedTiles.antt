@@ -1,10 +1,10 @@
 -- A walk over the tiles of a window, from the first by `next`, that keeps something of the tiles behind it.
-use Rattle.std.proofs.Common.{◌≡◌, refl, sym, ap, subst, ◌∙◌, ℕ, ◌+◌, ◌-◌, ◌*◌, ◌%◌, ◌<◌, ◌≤◌, inl, inr, Bool, true, false, ◌&&◌, List, [], ◌∷◌, ◌++◌, length, arith}
-use Rattle.std.specs.Prelude.{IsTrue, Option, Some, None}
+use Rattle.std.proofs.Common.{◌≡◌, refl, sym, ap, subst, ◌∙◌, ℕ, ◌+◌, ◌-◌, ◌*◌, ◌%◌, ◌<◌, ◌≤◌, inl, inr, Bool, true, false, not, ◌&&◌, List, [], ◌∷◌, ◌++◌, length, arith}
+use Rattle.std.specs.Prelude.{IsTrue, Option, Some, None, find}
 use Rattle.std.specs.List.{list_all}
 use Rattle.std.proofs.lemmas.List.Folds.{list_all-append}
 use Rattle.std.proofs.lemmas.List.{append-nil}
-use Rattle.std.proofs.lemmas.Bool.{and_from, cases_Bool}
+use Rattle.std.proofs.lemmas.Bool.{and_from, and_parts, cases_Bool, cond-false, cond-true}
 use Rattle.raw_region.specs.Memory.{Cut, bytes_of}
 use Rattle.raw_region.specs.Format.{current}
 use Rattle.block_tags.specs.declared.tile.Tile.{Tile}
@@ -13,6 +13,7 @@ use Rattle.block_tags.specs.Lists.{first_in, next_in}
 use Rattle.block_tags.specs.Tiles.{has_tags, tiles_of}
 use Rattle.block_tags.specs.Windows.{SaysTiles, IsTiled}
 use Rattle.block_tags.proofs.Laws.{good_tags_say_tiles, tiles_are_read_off}
+use Rattle.image_check.specs.ObjectPlaces.{IsFirstWrongTile}
 use Rattle.best_fit.proofs.Laws.{Meets, Row, first_here, meets, next_here, next_nearer, none_left, passed_on, said_row, to_go}
 
 -- ---- where a tile stands in a row
@@ -123,6 +124,28 @@ all-fails test (t ∷ front) here back h = elim (cases_Bool (test t)) [
   | inl e ↦ ap (λ b. b && list_all test (front ++ here ∷ back)) e ∙ all-fails test front here back h
   | inr e ↦ ap (λ b. b && list_all test (front ++ here ∷ back)) e
 ]
+
+-- the first that fails it, behind those that pass it
+pub first-fails : (test : Tile → Bool) (front : List Tile) (here : Tile) (back : List Tile) → list_all test front ≡ true → test here ≡ false
+    → find (λ t. not (test t)) (front ++ here ∷ back) ≡ Some here
+first-fails test [] here back p h = cond-true (not (test here)) (Some here) (find (λ t. not (test t)) back) (ap not h)
+first-fails test (t ∷ front) here back p h =
+    let q = and_parts (test t) (list_all test front) p in
+    cond-false (not (test t)) (Some t) (find (λ t. not (test t)) (front ++ here ∷ back)) (ap not q.0)
+    ∙ first-fails test front here back q.1 h
+
+-- where a walk stands at it
+pub fails-there : (c : Cut) (Kept : List Tile → Type 0) (test : Tile → Bool) (here : Tile) (place : ℕ) → (a : WalksAt c Kept here) → list_all test a.front ≡ true → test here ≡ false
+    → here.offset + 16 ≡ place → (list_all test (tiles_of (bytes_of c.bytes) (length c.bytes)) ≡ false) × IsFirstWrongTile test (tiles_of (bytes_of c.bytes) (length c.bytes)) place
+fails-there c Kept test here place a p h e =
+    let all = tiles_are_read_off c (a.front ++ here ∷ a.back) a.said in (
+      ap (list_all test) all ∙ all-fails test a.front here a.back h,
+      record {
+        tile = here;
+        is = ap (find (λ t. not (test t))) all ∙ first-fails test a.front here a.back p h;
+        at = sym e;
+      },
+    )
 
 -- where a walk stands at a tile, it stands at what was read of it
 pub walk-read : (o : Option Tile) (unread here : Tile) → o ≡ Some unread → here ≡ unread → o ≡ Some here

@@ -1,6 +1,6 @@
 -- What the check of an image that stands in its window finds.
-use Rattle.std.specs.Prelude.{◌≡◌, ℕ, Bool, false, Option, Some, None, List, IsTrue, Result, MatchResult, if◌then◌else◌}
-use Rattle.raw_region.specs.Memory.{Memory, bytes_of}
+use Rattle.std.specs.Prelude.{◌≡◌, ℕ, Bool, false, Option, Some, None, List, IsTrue, if◌then◌else◌}
+use Rattle.raw_region.specs.Memory.{Memory}
 use Rattle.block_tags.specs.declared.tile.Tile.{Tile}
 use Rattle.image_check.specs.declared.classes.ImageClass.{ImageClass}
 use Rattle.image_check.specs.declared.classes.ImageClass.TheVariants.{BadIndex, BadObject, SharedBlock, BadContainer, OrphanBlock}
@@ -14,8 +14,10 @@ use Rattle.best_fit.specs.WayPoints.{LeadToBlocks}
 use Rattle.best_fit.specs.declared.way_points.WayPoints.{WayPoints}
 use Rattle.image_check.specs.Owners.{Blocks, entries_of, frames}
 use Rattle.image_check.specs.Passes.{CountsTiles, HasTiles, IsRefusalFor, Spends, tiles_in, has_block}
-use Rattle.image_check.specs.Classes.{class_of}
+use Rattle.image_check.specs.declared.errors.ExamineError.{ExamineError}
+use Rattle.image_check.specs.declared.errors.ExamineError.TheVariants.{Image as Examined, OutOfMemory as Exhausted}
 use Rattle.image_check.specs.Opening.{IsImage, has_early_class}
+use Rattle.image_check.specs.Verdicts.{IsVerdict}
 use Rattle.image_check.specs.Visits.{all_rates}
 
 -- the first class from the eighth on, by the five tests
@@ -28,14 +30,9 @@ late_by indexes objects shared containers orphaned =
 unfoldable pub late_class : ℕ → Memory → List Tile → Option ImageClass
 late_class format m ts = late_by (has_indexes m ts) (has_objects format m ts) (is_shared format m ts) (has_containers format m ts) (is_orphaned format m ts)
 
--- a pass finds the first class from the eighth on, or that there is none
-abbrev pub FindsLate : ℕ → List ℕ → Result (Unit {0}) ImageClass → Type 0
-FindsLate format b result =
-    MatchResult result (λ done. late_class format (bytes_of b) (tiles_in b) ≡ None) (λ c. late_class format (bytes_of b) (tiles_in b) ≡ Some c)
-
 -- why an image is not opened
 abbrev pub IsWhyRefused : ℕ → List ℕ → CheckError → Type 0
-IsWhyRefused format b (Class c) = class_of format b ≡ Some c
+IsWhyRefused format b (Class v) = IsVerdict format b v
 IsWhyRefused format b (NoMemory refusal) =
     (has_early_class format b ≡ false) × IsTrue (has_block b) × IsRefusalFor b refusal
 
@@ -53,5 +50,10 @@ pub record ArePassed (b : List ℕ) (es : Blocks) (old new : ℕ) : Type 0 where
 
 -- the same as an answer to an opening
 abbrev pub cause_for : CheckError → OpenError
-cause_for (Class c) = Image c
+cause_for (Class v) = Image v.class
 cause_for (NoMemory refusal) = OutOfMemory refusal
+
+-- and with the place
+abbrev pub examined_for : CheckError → ExamineError
+examined_for (Class v) = Examined v
+examined_for (NoMemory refusal) = Exhausted refusal

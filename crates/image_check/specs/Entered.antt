@@ -31,6 +31,10 @@ pub record AreEntered (m : Memory) (es : Blocks) : Type 0 where
   pub apart : (n : ℕ) → is_among (targets m 32) n ≡ true → is_among (targets m 56) n ≡ false
   pub at : (n : ℕ) → index_of es n ≡ listed (targets m 32) (targets m 56) n
 
+-- the objects that are noted to have an entry are these
+abbrev pub HaveEntries : Blocks → List ℕ → Type 0
+HaveEntries es xs = (n : ℕ) → is_some (index_of es n) ≡ is_among xs n
+
 -- ---- one entry more
 
 -- a block of an object that has no entry yet

@@ -102,9 +102,12 @@ needs_owner t = is_use Index t || is_use Storage t || is_use Node t
 abbrev pub leads_there : Tile → Field → Bool
 leads_there t f = f.target == payload t
 
--- a tile is the target of no field
+-- a tile is the target of no field, and is to be that of one
+abbrev pub is_left : List Field → Tile → Bool
+is_left fields t = needs_owner t && not (list_any (leads_there t) fields)
+
 abbrev pub leave_some : List Tile → List Field → Bool
-leave_some ts fields = list_any (λ t. needs_owner t && not (list_any (leads_there t) fields)) ts
+leave_some ts fields = list_any (is_left fields) ts
 
 abbrev pub is_orphaned : ℕ → Memory → List Tile → Bool
 is_orphaned format m ts = leave_some ts (counted_fields format m ts)

@@ -7,8 +7,6 @@ use Rattle.block_tags.specs.declared.tile.Role.{Role}
 use Rattle.block_tags.specs.declared.tile.Role.TheVariants.{Object, Index, Storage, Node}
 use Rattle.block_tags.specs.declared.tile.Tile.{Tile}
 use Rattle.best_fit.specs.Table.{same_role}
-use Rattle.image_check.specs.declared.classes.ImageClass.{ImageClass}
-use Rattle.image_check.specs.declared.classes.ImageClass.TheVariants.{SharedBlock}
 use Rattle.image_check.specs.declared.owners.Block.{Block}
 use Rattle.image_check.specs.declared.owners.Owner.{Owner}
 use Rattle.seg_types.specs.declared.kinds.ScalarKind.{ScalarKind}
@@ -17,7 +15,8 @@ use Rattle.seg_types.specs.declared.kinds.Kind.TheVariants.{Map, Strings}
 use Rattle.image_check.specs.ObjectTests.{tile_of, good_for, payload, index_capacity}
 use Rattle.image_check.specs.Fields.{values, has_storage, needs_owner}
 use Rattle.image_check.specs.Passes.{tiles_in}
-use Rattle.image_check.specs.Meaning.{LeadsTo, Counts, IsShared}
+use Rattle.image_check.specs.Meaning.{LeadsTo, Counts}
+use Rattle.image_check.specs.OwnerPlaces.{IsSharedAt}
 
 -- the entries of the map
 abbrev pub Blocks : Type 0
@@ -198,16 +197,13 @@ pub record IsMarked (format : ℕ) (m : Memory) (ts : List Tile) (now : Option �
   pub paid : role ≡ Storage → (target : ℕ) (t : Tile) → link_at m link.at ≡ Some target → tile_of ts Storage target ≡ Some t → owner_at old target ≡ None
       → 6 * waiting + debt es + 3 * (t.len / 16) ≤ 6 * waited + debt old
 
-abbrev pub IsSharedClass : ℕ → Memory → List Tile → ImageClass → Type 0
-IsSharedClass format m ts class = (class ≡ SharedBlock) × IsShared format m ts
-
 -- ---- of an image
 
 abbrev pub IsMarkingOf : ℕ → List ℕ → Option ℕ → Blocks → Option ℕ → ℕ → Type 0
 IsMarkingOf format b now es pending waiting = IsMarking format (bytes_of b) (tiles_in b) now es pending waiting
 
-abbrev pub IsSharedIn : ℕ → List ℕ → ImageClass → Type 0
-IsSharedIn format b class = IsSharedClass format (bytes_of b) (tiles_in b) class
+abbrev pub IsSharedIn : ℕ → List ℕ → ℕ → Type 0
+IsSharedIn format b at = IsSharedAt format (bytes_of b) (tiles_in b) at
 
 abbrev pub next_in : Option Block → Option ℕ
 next_in None = None

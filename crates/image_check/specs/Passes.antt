@@ -6,7 +6,6 @@ use Rattle.raw_region.specs.Format.{current}
 use Rattle.block_tags.specs.Format.{is_legal_size}
 use Rattle.block_tags.specs.Tiles.{tiles_of, has_tags}
 use Rattle.block_tags.specs.declared.tile.Tile.{Tile}
-use Rattle.image_check.specs.declared.classes.ImageClass.{ImageClass}
 use Rattle.image_check.specs.declared.errors.MemoryFault.{MemoryFault}
 use Rattle.image_check.specs.declared.errors.MemoryFault.TheVariants.{Bytes, BlockMap}
 use Rattle.image_check.specs.declared.room.NoMemory.{NoMemory}
@@ -28,9 +27,9 @@ pub record HasTiles (b : List ℕ) : Type 0 where
   pub size : IsTrue (is_legal_size (length b))
   pub tags : IsTrue (has_tags current (bytes_of b) (length b))
 
--- a pass that answers its class exactly where its test fails
-abbrev pub Finds : {A : Type 0} → ImageClass → Bool → Result A ImageClass → Type 0
-Finds class fine result = MatchResult result (λ done. fine ≡ true) (λ c. (c ≡ class) × (fine ≡ false))
+-- a pass that answers a place that shows it exactly where its test fails
+abbrev pub Finds : {A : Type 0} → Bool → (ℕ → Type 0) → Result A ℕ → Type 0
+Finds fine Shows result = MatchResult result (λ done. fine ≡ true) (λ at. (fine ≡ false) × Shows at)
 
 -- a pass raises the count by no more than so many, and so many for each 16 bytes of a tile
 abbrev pub Spends : Rates → ℕ → List ℕ → ℕ → ℕ → Type 0

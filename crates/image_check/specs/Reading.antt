@@ -10,6 +10,8 @@ use Rattle.image_check.specs.declared.errors.OpenRefused.{OpenRefused}
 use Rattle.image_check.specs.declared.classes.ImageClass.{ImageClass}
 use Rattle.image_check.specs.declared.classes.ImageClass.TheVariants.{Truncated, BadMagic, UnsupportedVersion, BadSize}
 use Rattle.image_check.specs.declared.versions.Versions.{Versions}
+use Rattle.image_check.specs.declared.errors.ExamineError.{ExamineError}
+use Rattle.image_check.specs.Causes.{IsShown}
 use Rattle.image_check.specs.Formats.{format_in}
 use Rattle.image_check.specs.EarlyTests.{has_magic, has_version, has_front, size_word}
 use Rattle.image_check.specs.Opening.{IsHandedBack, IsReadToEnd, IsWhyNot, IsTooSmallFor, is_late}
@@ -75,3 +77,6 @@ IsReadBy versions image = IsImageRead (format_in versions image.bytes) image
 
 abbrev pub IsNotReadBy : Versions → Given → List ℕ → ℕ → OpenRefused → Type 0
 IsNotReadBy versions image = IsNotRead (format_in versions image.bytes) image
+
+abbrev pub IsShownBy : Versions → Given → ExamineError → Type 0
+IsShownBy versions image = IsShown (format_in versions image.bytes) image.bytes

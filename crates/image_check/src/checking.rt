@@ -1,16 +1,23 @@
 //! Whether a whole image is that of a directory.
-ghost use Rattle.std.specs.Prelude.{◌≡◌, ◌≤◌, IfErr, IfOk, IsTrue, None, Some, MatchResult, OnErr, OnOk};
+ghost use Rattle.std.specs.Prelude.{◌≡◌, ◌≤◌, ◌+◌, ◌*◌, IfErr, IfOk, IsTrue, None, Some, MatchResult, OnErr, OnOk};
 ghost use Rattle.std.specs.Prelude.{false, length, true};
-ghost use Rattle.image_check.specs.Checking.{ArePassed, FindsLate, IsImageNoted, IsWhyRefused, cause_for};
-ghost use Rattle.image_check.specs.Classes.{are_bytes, class_of};
+ghost use Rattle.raw_region.specs.Memory.{bytes_of};
+ghost use Rattle.block_tags.specs.Format.{is_legal_size};
+ghost use Rattle.block_tags.specs.Tiles.{has_tags};
+ghost use Rattle.image_check.specs.Checking.{ArePassed, IsImageNoted, IsWhyRefused, cause_for};
+ghost use Rattle.image_check.specs.Classes.{are_bytes};
 ghost use Rattle.image_check.specs.Counting.{AreCounted};
 ghost use Rattle.image_check.specs.EarlyTests.{has_reserved as is_reserved};
 ghost use Rattle.image_check.specs.Frame.{has_frame};
+ghost use Rattle.image_check.specs.HeaderPlaces.{IsFirstReserved};
 ghost use Rattle.image_check.specs.Opening.{IsImage, IsRaisedFor, is_late};
 ghost use Rattle.image_check.specs.Owners.{entries_of, frames};
-ghost use Rattle.image_check.specs.Passes.{CountsBlocks, CountsTiles, HasTiles, Spends, tiles_in};
+ghost use Rattle.image_check.specs.Passes.{CountsBlocks, CountsTiles, Finds, HasTiles, Spends, tiles_in};
 ghost use Rattle.image_check.specs.Reading.{HasFront};
+ghost use Rattle.image_check.specs.Verdicts.{IsVerdict, Judges};
 ghost use Rattle.image_check.specs.Visits.{block_rates, frame_rates};
+ghost use Rattle.image_check.specs.WrongTags.{StopsAt};
+ghost use Rattle.image_check.specs.declared.classes.ImageClass.TheVariants.{BadTag as WrongTag};
 ghost use Rattle.image_check.specs.declared.errors.OpenError.TheVariants.{Image};
 
 mod visits;
@@ -21,16 +28,16 @@ use crate::counting::Counts;
 use crate::errors::CheckError;
 use crate::free_tree::check_free_tree;
 use crate::gathering::gather;
-use crate::heads::is_zero;
-use crate::image_window::ImageWindow;
+use crate::image_window::{ImageWindow, wrong_tag};
 use crate::indexes::check_indexes;
 use crate::noting::note_blocks;
 use crate::object_walk::check_objects;
 use crate::orphans::check_orphans;
 use crate::owners::Owners;
 use crate::sharing::check_sharing;
+use crate::verdict::{Offset, Verdict};
 use crate::without_tree::check_without_tree;
-use best_fit::WayPoints;
+use best_fit::{FREE_TREE, WayPoints};
 use block_tags::FIRST;
 use raw_region::Steps;
 use segment_manager::layout::{FORMAT_AT, RESERVED_AT};
@@ -162,14 +169,14 @@ fn pass_all(
 {
     let counts = match check_frame(format, window, visits) {
         Ok(counts) => counts,
-        Err(class) => return Err(CheckError::Class(class)),
+        Err(verdict) => return Err(CheckError::Class(verdict)),
     };
     let mut owners = match gather(alloc, window, counts, visits) {
         Ok(owners) => owners,
         Err(refusal) => return Err(CheckError::NoMemory(refusal)),
     };
-    if let Err(class) = check_blocks(format, window, &mut owners, visits) {
-        return Err(CheckError::Class(class));
+    if let Err(verdict) = check_blocks(format, window, &mut owners, visits) {
+        return Err(CheckError::Class(verdict));
     }
     Ok(owners)
 }
@@ -179,74 +186,109 @@ fn pass_all(
 ///
 /// # Errors
 ///
-/// The first of `BadReserved`, `BadTag` and `BadFreeTree` that holds.
-fn check_frame(format: u64, window: &ImageWindow, visits: &mut Visits) -> Result<Counts, ImageClass>
+/// The first of `BadReserved`, `BadTag` and `BadFreeTree` that holds, and the place that shows it.
+fn check_frame(format: u64, window: &ImageWindow, visits: &mut Visits) -> Result<Counts, Verdict>
     requires { HasFront format window.now }
-    ensures finds { MatchResult result (λ counts. IsTrue (has_frame format window.now.bytes))
-        (λ class. class_of format window.now.bytes ≡ Some class) }
+    ensures finds { MatchResult result (λ counts. IsTrue (has_frame format window.now.bytes)) (IsVerdict format window.now.bytes) }
     ensures counted { IfOk result (AreCounted (tiles_in window.now.bytes)) }
     ensures bytes { OnOk result (IsTrue (are_bytes window.now.bytes)) }
     ensures visits { OnOk result (Spends frame_rates 51 window.now.bytes visits.old visits.new) }
     ensures most { OnErr result (IsRaisedFor (length window.now.bytes) visits.old visits.new) }
-    ensures early { IfErr result (λ class. is_late (Image class) ≡ false) }
+    ensures early { IfErr result (λ verdict. is_late (Image verdict.class) ≡ false) }
 {
     window.hold_bytes();
-    if !has_reserved(window) {
-        return Err(ImageClass::BadReserved);
+    if let Err(place) = check_reserved(window) {
+        let class = ImageClass::BadReserved;
+        return Err(Verdict { class, place });
     }
     let tags = window.check_counted(visits);
     if !tags.are_good {
-        return Err(ImageClass::BadTag);
+        return Err(judge_tags(format, window, visits));
     }
     if format == 0 {
         return check_without_tree(window, visits);
     }
     let Some(counts) = check_free_tree(window, visits) else {
-        return Err(ImageClass::BadFreeTree);
+        return Err(Verdict {
+            class: ImageClass::BadFreeTree,
+            place: FREE_TREE,
+        });
     };
     Ok(counts)
+}
+
+/// The verdict on a window whose tags are wrong by the format. One visit for each that is read.
+pub(crate) fn judge_tags(format: u64, window: &ImageWindow, visits: &mut Visits) -> Verdict
+    requires size { IsTrue (is_legal_size (length window.now.bytes)) }
+    requires wrong { has_tags format (bytes_of window.now.bytes) (length window.now.bytes) ≡ false }
+    ensures class { result.class ≡ WrongTag }
+    ensures stops { StopsAt format (bytes_of window.now.bytes) (length window.now.bytes) result.place }
+    ensures more { visits.old ≤ visits.new }
+    ensures few { 32 * visits.new + 112 ≤ 32 * visits.old + length window.now.bytes }
+{
+    let class = ImageClass::BadTag;
+    let place = wrong_tag(format, window, visits);
+    Verdict { class, place }
 }
 
 /// Looks for the classes that are about blocks, one after another, with the blocks in use as they were gathered.
 ///
 /// # Errors
 ///
-/// The first of `BadIndex`, `BadObject`, `SharedBlock`, `BadContainer` and `OrphanBlock` that holds.
+/// The first of `BadIndex`, `BadObject`, `SharedBlock`, `BadContainer` and `OrphanBlock` that holds, and the place that
+/// shows it.
 fn check_blocks(
     format: u64,
     window: &ImageWindow,
     owners: &mut Owners,
     visits: &mut Visits,
-) -> Result<(), ImageClass>
-    requires tiles { HasTiles window.now.bytes }
+) -> Result<(), Verdict>
+    requires frame { IsTrue (has_frame format window.now.bytes) }
     requires blocks { owners.old.blocks.entries ≡ entries_of (tiles_in window.now.bytes) }
     requires pending { owners.old.pending ≡ None }
     requires waiting { owners.old.waiting ≡ 0 }
-    ensures finds { FindsLate format window.now.bytes result }
+    ensures finds { Judges format window.now.bytes result }
     ensures frame { OnOk result (frames owners.new.blocks.entries ≡ frames (entries_of (tiles_in window.now.bytes))) }
     ensures visits { Spends block_rates 62 window.now.bytes visits.old visits.new }
 {
-    if let Err(class) = check_indexes(window, owners, visits) {
-        return Err(class);
+    if let Err(place) = check_indexes(window, owners, visits) {
+        let class = ImageClass::BadIndex;
+        return Err(Verdict { class, place });
     }
-    if let Err(class) = check_objects(format, window, owners, visits) {
-        return Err(class);
+    if let Err(place) = check_objects(format, window, owners, visits) {
+        let class = ImageClass::BadObject;
+        return Err(Verdict { class, place });
     }
-    if let Err(class) = check_sharing(format, window, owners, visits) {
-        return Err(class);
+    if let Err(place) = check_sharing(format, window, owners, visits) {
+        let class = ImageClass::SharedBlock;
+        return Err(Verdict { class, place });
     }
-    if let Err(class) = check_containers(format, window, owners, visits) {
-        return Err(class);
+    if let Err(place) = check_containers(format, window, owners, visits) {
+        let class = ImageClass::BadContainer;
+        return Err(Verdict { class, place });
     }
-    check_orphans(owners, visits)
+    if let Err(place) = check_orphans(owners, visits) {
+        let class = ImageClass::OrphanBlock;
+        return Err(Verdict { class, place });
+    }
+    Ok(())
 }
 
-/// Whether all bytes of the header that are kept for later are zero: the upper half of the word of the format, and
+/// Checks that all bytes of the header that are kept for later are zero: the upper half of the word of the format, and
 /// those behind the indexes.
-fn has_reserved(window: &ImageWindow) -> bool
+///
+/// # Errors
+///
+/// The place of the first that is not.
+fn check_reserved(window: &ImageWindow) -> Result<(), Offset>
     requires { 128 ≤ length window.now.bytes }
-    ensures { result ≡ is_reserved window.now.bytes }
+    ensures { Finds (is_reserved window.now.bytes) (IsFirstReserved window.now.bytes) result }
 {
-    is_zero(window.header(FORMAT_AT + 4, 4))
-        && is_zero(window.header(RESERVED_AT, FIRST - RESERVED_AT))
+    if let Some(place) = window.first_filled(FORMAT_AT + 4, FORMAT_AT + 8) {
+        return Err(place);
+    }
+    if let Some(place) = window.first_filled(RESERVED_AT, FIRST) {
+        return Err(place);
+    }
+    Ok(())
 }

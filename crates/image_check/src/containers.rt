@@ -6,18 +6,18 @@ ghost use Rattle.image_check.specs.ObjectTests.{has_objects};
 ghost use Rattle.image_check.specs.Fields.{has_containers, is_container};
 ghost use Rattle.image_check.specs.Owners.{IsWholeMarkingOf, entries_of, frames};
 ghost use Rattle.image_check.specs.Containers.{AreFollowed, IsLinkNoted, IsReady, LiesInWindow, PaysFor, has_container, is_scalar, rooted_weight, container_walk_rates, weigh_blocks, weight_below};
+ghost use Rattle.image_check.specs.ObjectPlaces.{IsFirstWrongTile};
 ghost use Rattle.image_check.specs.Passes.{Finds, HasTiles, Spends, tiles_in};
 ghost use Rattle.image_check.specs.Visits.{Adds, container_rates, weigh};
-ghost use Rattle.image_check.specs.declared.classes.ImageClass.TheVariants.{BadContainer};
 ghost use Rattle.block_tags.specs.declared.tile.Tile.{Tile};
 
 use crate::arrays::{is_array, is_storage};
 use crate::checking::Visits;
-use crate::classes::ImageClass;
 use crate::heads::kind_of;
 use crate::image_window::{Blocks, ImageWindow, Object, Value};
 use crate::maps::is_map;
 use crate::owners::{Owners, is_object, tile_of};
+use crate::verdict::Offset;
 use block_tags::{TAG, Tile};
 use seg_types::{Kind, ScalarKind};
 
@@ -74,14 +74,23 @@ fn is_right_tile(
     }
 }
 
-/// Whether all containers of the image are right. No tag is read.
-fn are_right(format: u64, window: &ImageWindow, blocks: &Blocks, visits: &mut Visits) -> bool
+/// Checks that all containers of the image are right. No tag is read.
+///
+/// # Errors
+///
+/// The place of the payload of the first object with one that is not.
+fn are_right(
+    format: u64,
+    window: &ImageWindow,
+    blocks: &Blocks,
+    visits: &mut Visits,
+) -> Result<(), Offset>
     requires tiles { HasTiles window.now.bytes }
     requires rows { frames blocks.now.entries ≡ frames (entries_of (tiles_in window.now.bytes)) }
     requires followed { AreFollowed (bytes_of window.now.bytes) (tiles_in window.now.bytes) blocks.now.entries }
     requires ready { (t : Tile) → Contains (tiles_in window.now.bytes) t → IsReady format (bytes_of window.now.bytes) (tiles_in window.now.bytes) blocks.now.entries t }
     requires few { weigh_blocks blocks.now.entries ≤ 2 ^ 40 }
-    ensures value { result ≡ list_all (has_container format (bytes_of window.now.bytes) (tiles_in window.now.bytes)) (tiles_in window.now.bytes) }
+    ensures finds { Finds (list_all (has_container format (bytes_of window.now.bytes) (tiles_in window.now.bytes)) (tiles_in window.now.bytes)) (IsFirstWrongTile (has_container format (bytes_of window.now.bytes) (tiles_in window.now.bytes)) (tiles_in window.now.bytes)) result }
     ensures least { visits.old ≤ visits.new }
     ensures most { visits.new ≤ visits.old + (weigh container_walk_rates (tiles_in window.now.bytes) + weigh_blocks blocks.now.entries) }
 {
@@ -90,11 +99,11 @@ fn are_right(format: u64, window: &ImageWindow, blocks: &Blocks, visits: &mut Vi
         let (payload, block) = blocks.row(number, visits);
         let tile = tile_of(payload, block);
         if !is_right_tile(format, window, blocks, visits, tile) {
-            return false;
+            return Err(payload as u64);
         }
         number += 1;
     }
-    true
+    Ok(())
 }
 
 /// Checks that each container of the image is what its words say: its storage has room for its capacity, its used
@@ -102,22 +111,21 @@ fn are_right(format: u64, window: &ImageWindow, blocks: &Blocks, visits: &mut Vi
 ///
 /// # Errors
 ///
-/// `BadContainer` where one is not.
+/// The place of the payload of the first object with one that is not.
 pub(crate) fn check_containers(
     format: u64,
     window: &ImageWindow,
     owners: &Owners,
     visits: &mut Visits,
-) -> Result<(), ImageClass>
+) -> Result<(), Offset>
     requires tiles { HasTiles window.now.bytes }
     requires objects { has_objects format (bytes_of window.now.bytes) (tiles_in window.now.bytes) ≡ true }
     requires whole { IsWholeMarkingOf format window.now.bytes owners.now.blocks.entries owners.now.waiting }
-    ensures class { Finds BadContainer (has_containers format (bytes_of window.now.bytes) (tiles_in window.now.bytes)) result }
+    ensures finds { Finds (has_containers format (bytes_of window.now.bytes) (tiles_in window.now.bytes)) (IsFirstWrongTile (has_container format (bytes_of window.now.bytes) (tiles_in window.now.bytes)) (tiles_in window.now.bytes)) result }
     ensures visits { Spends container_rates 20 window.now.bytes visits.old visits.new }
 {
-    if are_right(format, window, &owners.blocks, visits) {
-        Ok(())
-    } else {
-        Err(ImageClass::BadContainer)
+    if let Err(place) = are_right(format, window, &owners.blocks, visits) {
+        return Err(place);
     }
+    Ok(())
 }

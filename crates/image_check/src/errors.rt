@@ -1,9 +1,11 @@
 //! Why no segment is opened.
 ghost use Rattle.std.specs.Prelude.{◌≡◌};
-ghost use Rattle.image_check.specs.Checking.{cause_for};
+ghost use Rattle.image_check.specs.Causes.{error_for, opened_as};
+ghost use Rattle.image_check.specs.Checking.{cause_for, examined_for};
 
 use crate::classes::ImageClass;
 use crate::room::NoMemory;
+use crate::verdict::Verdict;
 use raw_region::{OutOfMemory, RawRegion};
 use std::fmt;
 use thiserror::Error;
@@ -78,11 +80,59 @@ impl From<OpenRefused> for OpenError {
     }
 }
 
+/// Why an image is refused: as an [`OpenError`], with the place that shows a class.
+#[derive(Clone, Copy, Debug, PartialEq, Eq)]
+pub enum ExamineError {
+    /// The image denotes no directory.
+    Image(Verdict),
+    /// The region ends before base plus the size that the image says.
+    RegionTooSmall,
+    /// Memory for the check of the image was refused.
+    OutOfMemory(NoMemory),
+    /// The reader failed before the bytes that it gave decided a class.
+    ReadFault,
+}
+
+impl ExamineError {
+    /// The same without the place.
+    pub fn into_error(self) -> OpenError
+        ensures { result ≡ error_for self }
+    {
+        match self {
+            ExamineError::Image(verdict) => OpenError::Image(verdict.class),
+            ExamineError::RegionTooSmall => OpenError::RegionTooSmall,
+            ExamineError::OutOfMemory(refusal) => OpenError::OutOfMemory(refusal),
+            ExamineError::ReadFault => OpenError::ReadFault,
+        }
+    }
+}
+
+/// An image is refused. The region comes back as from an opening.
+#[derive(Drop)]
+pub struct ExamineRefused {
+    /// The region that was handed in.
+    pub region: RawRegion,
+    /// Why.
+    pub cause: ExamineError,
+}
+
+impl ExamineRefused {
+    /// The same without the place.
+    pub fn into_opened(self) -> OpenRefused
+        ensures { result ≡ opened_as self }
+    {
+        OpenRefused {
+            region: self.region,
+            cause: self.cause.into_error(),
+        }
+    }
+}
+
 /// Why an image that stands in its window is not opened.
 #[derive(Clone, Copy)]
 pub enum CheckError {
     /// It denotes no directory.
-    Class(ImageClass),
+    Class(Verdict),
     /// Memory for the check of its blocks was refused.
     NoMemory(NoMemory),
 }
@@ -93,8 +143,18 @@ impl CheckError {
         ensures { result ≡ cause_for self }
     {
         match self {
-            CheckError::Class(class) => OpenError::Image(class),
+            CheckError::Class(verdict) => OpenError::Image(verdict.class),
             CheckError::NoMemory(refusal) => OpenError::OutOfMemory(refusal),
+        }
+    }
+
+    /// The same with the place.
+    pub fn into_examined(self) -> ExamineError
+        ensures { result ≡ examined_for self }
+    {
+        match self {
+            CheckError::Class(verdict) => ExamineError::Image(verdict),
+            CheckError::NoMemory(refusal) => ExamineError::OutOfMemory(refusal),
         }
     }
 }

@@ -1,14 +1,21 @@
 //! The first words of an image: magic, version and size.
-ghost use Rattle.std.specs.Prelude.{◌≡◌, ◌≤◌, length};
+ghost use Rattle.std.specs.Prelude.{◌≡◌, ◌≤◌, IfErr, codes, false, length};
 ghost use Rattle.raw_region.specs.Format.{current};
+ghost use Rattle.image_check.specs.Causes.{class_in};
+ghost use Rattle.image_check.specs.EarlyTests.{has_magic};
 ghost use Rattle.image_check.specs.Formats.{format_in, format_of};
+ghost use Rattle.image_check.specs.HeaderPlaces.{IsFirstOther, IsFrontPlace};
 ghost use Rattle.image_check.specs.Reading.{front_of};
 
 use crate::classes::ImageClass;
+use crate::verdict::{Offset, Verdict};
 use crate::versions::{Versions, version_in};
 use block_tags::{FIRST, TAG, is_legal_size};
 use raw_region::word_in;
-use segment_manager::layout::{MAGIC, MAGIC_AT, SIZE_AT};
+use segment_manager::layout::{FORMAT_AT, MAGIC, MAGIC_AT, SIZE_AT};
+
+/// How an image begins, byte by byte.
+const SPELLED: &[u8; 8] = b"MSEGFILE";
 
 /// How many bytes at the front of an image say its magic, its version and its size.
 pub const FRONT: usize = SIZE_AT as usize + 8;
@@ -52,15 +59,51 @@ pub(crate) fn size_by(versions: Versions, front: &[u8]) -> Result<u64, ImageClas
     requires { 24 ≤ length front.now }
     ensures { result ≡ front_of (format_in versions front.now) front.now }
 {
+    match judge_front(versions, front) {
+        Ok(size) => Ok(size),
+        Err(verdict) => Err(verdict.class),
+    }
+}
+
+/// The same, with the place that shows what is wrong.
+///
+/// # Errors
+///
+/// As [`size_in`]: the first byte that is not the magic's, the version, or the size.
+pub(crate) fn judge_front(versions: Versions, front: &[u8]) -> Result<u64, Verdict>
+    requires { 24 ≤ length front.now }
+    ensures says { class_in result ≡ front_of (format_in versions front.now) front.now }
+    ensures shown { IfErr result (λ verdict. IsFrontPlace front.now verdict.class verdict.place) }
+{
     if word_in(front, MAGIC_AT as usize) != MAGIC {
-        return Err(ImageClass::BadMagic);
+        let class = ImageClass::BadMagic;
+        let place = other_place(front);
+        return Err(Verdict { class, place });
     }
     if !versions.has(version_in(front)) {
-        return Err(ImageClass::UnsupportedVersion);
+        let class = ImageClass::UnsupportedVersion;
+        let place = FORMAT_AT;
+        return Err(Verdict { class, place });
     }
     let size = word_in(front, SIZE_AT as usize);
     if !is_legal_size(size) {
-        return Err(ImageClass::BadSize);
+        let class = ImageClass::BadSize;
+        let place = SIZE_AT;
+        return Err(Verdict { class, place });
     }
     Ok(size)
+}
+
+/// The place of the first byte that is not the magic's, of bytes that do not begin with it.
+fn other_place(front: &[u8]) -> Offset
+    requires long { 24 ≤ length front.now }
+    requires other { has_magic front.now ≡ false }
+    ensures { IsFirstOther front.now (codes "MSEGFILE") result }
+{
+    'bytes: for at in 0..SPELLED.len() {
+        if front[at] != SPELLED[at] {
+            return at as u64;
+        }
+    }
+    0
 }

@@ -111,7 +111,7 @@ pub(crate) fn has_padding(window: &ImageWindow, object: Object) -> bool
 }
 
 /// Whether all bytes are 0.
-pub(crate) fn is_zero(bytes: &[u8]) -> bool
+fn is_zero(bytes: &[u8]) -> bool
     ensures { result ≡ are_zeros bytes.now }
 {
     bytes.iter().all(|byte| *byte == 0)

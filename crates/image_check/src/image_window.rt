@@ -1,8 +1,8 @@
 //! The one way to the bytes of an image that is checked, and to its blocks in use: calls that count what they reach.
 //! Bytes that nobody counts are seen by this module and those in it alone.
-ghost use Rattle.std.specs.Prelude.{◌≡◌, ◌+◌, ◌*◌, ◌%◌, ◌≤◌, ◌↔◌, IfOk, IsTrue, List, is_err, length};
+ghost use Rattle.std.specs.Prelude.{◌≡◌, ◌+◌, ◌*◌, ◌%◌, ◌≤◌, ◌↔◌, IfOk, IsTrue, List, MatchOption, is_err, length};
 ghost use Rattle.raw_region.specs.Format.{current};
-ghost use Rattle.raw_region.specs.Memory.{bytes_of, part, whole, word_at};
+ghost use Rattle.raw_region.specs.Memory.{AreZero, bytes_of, part, whole, word_at};
 ghost use Rattle.offset_link.specs.Link.{link_at};
 ghost use Rattle.offset_link.specs.Relinked.{is_bad};
 ghost use Rattle.block_tags.specs.Format.{is_legal_size};
@@ -11,12 +11,14 @@ ghost use Rattle.block_tags.specs.Tiles.{has_tags};
 ghost use Rattle.block_tags.specs.Windows.{HasTileAt, IsTiled, SaysTiles};
 ghost use Rattle.block_tags.specs.declared.tile.Tile.{Tile as ATile};
 ghost use Rattle.image_check.specs.Classes.{are_bytes};
+ghost use Rattle.image_check.specs.HeaderPlaces.{IsFirstFilled};
 
 mod blocks;
 mod objects;
 mod pairs;
 mod places;
 mod renewing;
+mod tags;
 
 use crate::checking::Visits;
 use block_tags::{Checked, Tile, check_counted, first, next};
@@ -27,6 +29,7 @@ pub(crate) use pairs::check_pairs;
 pub(crate) use places::{Sought, check_places, find_place, has_good_links};
 use raw_region::{RawRegion, Window};
 use std::marker::Model;
+pub(crate) use tags::wrong_tag;
 
 /// The window of an image that is checked.
 #[derive(Drop)]
@@ -155,6 +158,15 @@ impl ImageWindow {
         checked(&self.window, at)
     }
 
+    /// The first byte of the header from `from` on, below `to`, that is not 0.
+    pub fn first_filled(&self, from: u64, to: u64) -> Option<u64>
+        requires header { to ≤ 128 }
+        requires inside { to ≤ length self.now.bytes }
+        ensures { MatchOption result (AreZero (bytes_of self.now.bytes) from to) (IsFirstFilled (bytes_of self.now.bytes) from to) }
+    {
+        first_filled(self.bytes(0, self.size()), from, to)
+    }
+
     /// Bytes are below 256. None is read.
     pub fn hold_bytes(&self)
         ensures { IsTrue (are_bytes self.now.bytes) }
@@ -242,6 +254,19 @@ impl ImageWindow {
             None => None,
         }
     }
+}
+
+/// The first byte from `from` on, below `to`, that is not 0.
+fn first_filled(bytes: &[u8], from: u64, to: u64) -> Option<u64>
+    requires { to ≤ length bytes.now }
+    ensures { MatchOption result (AreZero (bytes_of bytes.now) from to) (IsFirstFilled (bytes_of bytes.now) from to) }
+{
+    'bytes: for at in from..to {
+        if bytes[at as usize] != 0 {
+            return Some(at);
+        }
+    }
+    None
 }
 
 /// Elements of type `u8` are below 256. Nothing is done.

@@ -1,21 +1,20 @@
 //! Whether the two indexes have blocks that are long enough, and entries that lead to objects, each to another.
-ghost use Rattle.std.specs.Prelude.{◌≡◌, ℕ, ◌+◌, ◌*◌, ◌%◌, ◌^◌, ◌<◌, ◌≤◌, true, false, ◌&&◌, None, List, nat_le, length, flat_map, option_to_list, MatchBool, OnOk};
-ghost use Rattle.raw_region.specs.Memory.{bytes_of, word_at};
-ghost use Rattle.offset_link.specs.Link.{link_at};
+ghost use Rattle.std.specs.Prelude.{◌≡◌, ℕ, ◌+◌, ◌*◌, ◌%◌, ◌^◌, ◌<◌, ◌≤◌, true, false, None, List, length, nat_le, MatchResult, OnOk};
+ghost use Rattle.raw_region.specs.Memory.{bytes_of};
 ghost use Rattle.block_tags.specs.declared.tile.Role.TheVariants.{Index};
 ghost use Rattle.block_tags.specs.declared.tile.Tile.{Tile};
-ghost use Rattle.image_check.specs.declared.classes.ImageClass.TheVariants.{BadIndex};
-ghost use Rattle.image_check.specs.ObjectTests.{has_indexes, index_capacity, is_table_link, targets};
+ghost use Rattle.image_check.specs.ObjectTests.{has_indexes, is_table_link, targets};
+ghost use Rattle.image_check.specs.IndexPlaces.{IsFirstWrong, IsWrongAt, IsWrongHead, IsWrongIndex, earlier_targets, first_targets, is_head};
 ghost use Rattle.image_check.specs.Owners.{AreBlocks, IsIndexPlace, IsMarking, IsUnmarked, entries_of};
 ghost use Rattle.image_check.specs.Passes.{HasTiles, Finds, Spends, tiles_in};
 ghost use Rattle.image_check.specs.Visits.{Adds, index_rates, weigh};
-ghost use Rattle.image_check.specs.Entered.{AreAdded, AreEntered, are_enterable, is_enterable, links_in};
+ghost use Rattle.image_check.specs.Entered.{AreAdded, AreEntered, HaveEntries, are_enterable, is_enterable, links_in};
 
 use crate::checking::Visits;
-use crate::classes::ImageClass;
 use crate::entering::enter;
 use crate::image_window::{Blocks, ImageWindow};
 use crate::owners::{Owners, good_len};
+use crate::verdict::Offset;
 use block_tags::Role;
 use segment_manager::layout::{NAMED_AT, UNIQUE_AT};
 
@@ -23,18 +22,19 @@ use segment_manager::layout::{NAMED_AT, UNIQUE_AT};
 ///
 /// # Errors
 ///
-/// `BadIndex` where one has more entries than places, a block that is none or too short, a block but no place, or an
-/// entry that leads to no object or to one that has an entry already.
+/// The place of the first word or entry that is wrong, of the named index before the unique one: a count above the
+/// capacity; a link to no block, to one that is too short, or to one where there is no place; or an entry that leads to
+/// no object or to one that has an entry already.
 pub(crate) fn check_indexes(
     window: &ImageWindow,
     owners: &mut Owners,
     visits: &mut Visits,
-) -> Result<(), ImageClass>
+) -> Result<(), Offset>
     requires tiles { HasTiles window.now.bytes }
     requires gathered { owners.old.blocks.entries ≡ entries_of (tiles_in window.now.bytes) }
     requires pending { owners.old.pending ≡ None }
     requires waiting { owners.old.waiting ≡ 0 }
-    ensures finds { Finds BadIndex (has_indexes (bytes_of window.now.bytes) (tiles_in window.now.bytes)) result }
+    ensures finds { Finds (has_indexes (bytes_of window.now.bytes) (tiles_in window.now.bytes)) (IsWrongIndex (bytes_of window.now.bytes) (tiles_in window.now.bytes)) result }
     ensures entered { OnOk result (AreEntered (bytes_of window.now.bytes) owners.new.blocks.entries) }
     ensures unmarked { OnOk result (IsUnmarked (tiles_in window.now.bytes) owners.new.blocks.entries) }
     ensures marking { OnOk result ((format : ℕ) → IsMarking format (bytes_of window.now.bytes) (tiles_in window.now.bytes) None owners.new.blocks.entries owners.new.pending owners.new.waiting) }
@@ -42,34 +42,44 @@ pub(crate) fn check_indexes(
     ensures waiting { owners.new.waiting ≡ 0 }
     ensures spends { Spends index_rates 10 window.now.bytes visits.old visits.new }
 {
-    if !enter_index(window, owners, visits, NAMED_AT) {
-        return Err(ImageClass::BadIndex);
+    if let Err(place) = enter_index(window, owners, visits, NAMED_AT) {
+        return Err(place);
     }
-    if !enter_index(window, owners, visits, UNIQUE_AT) {
-        return Err(ImageClass::BadIndex);
+    if let Err(place) = enter_index(window, owners, visits, UNIQUE_AT) {
+        return Err(place);
     }
     Ok(())
 }
 
-/// Notes the entries of the index whose words stand at `at`; whether all is right with it, and its entries lead to
-/// objects that had none.
-fn enter_index(window: &ImageWindow, owners: &mut Owners, visits: &mut Visits, at: u64) -> bool
+/// Notes the entries of the index whose words stand at `at`.
+///
+/// # Errors
+///
+/// The place of the first word or entry that is wrong, as of [`check_indexes`].
+fn enter_index(
+    window: &ImageWindow,
+    owners: &mut Owners,
+    visits: &mut Visits,
+    at: u64,
+) -> Result<(), Offset>
     requires tiles { HasTiles window.now.bytes }
     requires place { IsIndexPlace at }
     requires blocks { AreBlocks (tiles_in window.now.bytes) owners.old.blocks.entries }
-    ensures entered { MatchBool result
-        ((is_enterable (bytes_of window.now.bytes) (tiles_in window.now.bytes) owners.old.blocks.entries at ≡ true)
+    requires earlier { HaveEntries owners.old.blocks.entries (earlier_targets (bytes_of window.now.bytes) at) }
+    ensures entered { MatchResult result
+        (λ done. (is_enterable (bytes_of window.now.bytes) (tiles_in window.now.bytes) owners.old.blocks.entries at ≡ true)
         × AreAdded (tiles_in window.now.bytes) owners.old.blocks.entries owners.new.blocks.entries at (targets (bytes_of window.now.bytes) at))
-        (is_enterable (bytes_of window.now.bytes) (tiles_in window.now.bytes) owners.old.blocks.entries at ≡ false) }
+        (λ place. (is_enterable (bytes_of window.now.bytes) (tiles_in window.now.bytes) owners.old.blocks.entries at ≡ false)
+        × IsWrongAt (bytes_of window.now.bytes) (tiles_in window.now.bytes) at place) }
     ensures pending { owners.new.pending ≡ owners.old.pending }
     ensures waiting { owners.new.waiting ≡ owners.old.waiting }
     ensures spends { (visits.old ≤ visits.new) × (2 * visits.new ≤ 2 * visits.old + 10 + weigh index_rates (tiles_in window.now.bytes)) }
 {
-    if !has_places(window, &owners.blocks, visits, at) {
-        return false;
+    if let Err(place) = check_head(window, &owners.blocks, visits, at) {
+        return Err(place);
     }
     match window.header_link(at) {
-        None => true,
+        None => Ok(()),
         Some(block) => enter_all(
             window,
             owners,
@@ -81,21 +91,40 @@ fn enter_index(window: &ImageWindow, owners: &mut Owners, visits: &mut Visits, a
     }
 }
 
-/// Whether the index has no more entries than places, and a block with room for its places where it has any.
-fn has_places(window: &ImageWindow, blocks: &Blocks, visits: &mut Visits, at: u64) -> bool
+/// Checks that the index has no more entries than places, and a block with room for its places where it has any.
+///
+/// # Errors
+///
+/// The place of its count, or else of its link, where that is not so.
+fn check_head(
+    window: &ImageWindow,
+    blocks: &Blocks,
+    visits: &mut Visits,
+    at: u64,
+) -> Result<(), Offset>
     requires tiles { HasTiles window.now.bytes }
     requires place { IsIndexPlace at }
     requires blocks { AreBlocks (tiles_in window.now.bytes) blocks.now.entries }
-    ensures is { result ≡ (nat_le (word_at (bytes_of window.now.bytes) (at + 8)) (index_capacity (bytes_of window.now.bytes) at)
-        && is_table_link (tiles_in window.now.bytes) Index (link_at (bytes_of window.now.bytes) at) 8 (index_capacity (bytes_of window.now.bytes) at)) }
+    ensures finds { Finds (is_head (bytes_of window.now.bytes) (tiles_in window.now.bytes) at) (IsWrongHead (bytes_of window.now.bytes) (tiles_in window.now.bytes) at) result }
     ensures spends { Adds 2 visits.old visits.new }
 {
     visits.visit();
     let capacity = window.header_word(at + 16);
     if window.header_word(at + 8) > capacity {
-        return false;
+        return Err(at + 8);
     }
-    let link = window.header_link(at);
+    if has_places(blocks, visits, window.header_link(at), capacity) {
+        Ok(())
+    } else {
+        Err(at)
+    }
+}
+
+/// Whether the link of an index leads to a block with room for so many places, or nowhere where there are none.
+fn has_places(blocks: &Blocks, visits: &mut Visits, link: Option<u64>, capacity: u64) -> bool
+    ensures is { (ts : List Tile) → AreBlocks ts blocks.now.entries → result ≡ is_table_link ts Index link 8 capacity }
+    ensures spends { Adds 1 visits.old visits.new }
+{
     if capacity == 0 {
         return link.is_none();
     }
@@ -112,7 +141,11 @@ fn has_room(capacity: u64, len: u64) -> bool
     capacity < len / 8 && capacity + 1 < len / 8
 }
 
-/// Notes the entries in the first `count` places of a block; whether each leads to an object that had none.
+/// Notes the entries in the first `count` places of a block.
+///
+/// # Errors
+///
+/// The place of the first that leads to no object or to one that has an entry already.
 fn enter_all(
     window: &ImageWindow,
     owners: &mut Owners,
@@ -120,14 +153,15 @@ fn enter_all(
     block: u64,
     count: u64,
     root: u32,
-) -> bool
+) -> Result<(), Offset>
     requires small { length window.now.bytes < 2 ^ 32 }
     requires aligned { block % 8 ≡ 0 }
     requires inside { block + 8 * count ≤ length window.now.bytes }
-    ensures entered { (ts : List Tile) → AreBlocks ts owners.old.blocks.entries → MatchBool result
-        ((are_enterable ts owners.old.blocks.entries (links_in (bytes_of window.now.bytes) block count) ≡ true)
-        × AreAdded ts owners.old.blocks.entries owners.new.blocks.entries root (flat_map option_to_list (links_in (bytes_of window.now.bytes) block count)))
-        (are_enterable ts owners.old.blocks.entries (links_in (bytes_of window.now.bytes) block count) ≡ false) }
+    ensures entered { (ts : List Tile) → AreBlocks ts owners.old.blocks.entries → MatchResult result
+        (λ done. (are_enterable ts owners.old.blocks.entries (links_in (bytes_of window.now.bytes) block count) ≡ true)
+        × AreAdded ts owners.old.blocks.entries owners.new.blocks.entries root (first_targets (bytes_of window.now.bytes) block count))
+        (λ place. (are_enterable ts owners.old.blocks.entries (links_in (bytes_of window.now.bytes) block count) ≡ false)
+        × ((earlier : List ℕ) → HaveEntries owners.old.blocks.entries earlier → IsFirstWrong (bytes_of window.now.bytes) ts earlier block count place)) }
     ensures pending { owners.new.pending ≡ owners.old.pending }
     ensures waiting { owners.new.waiting ≡ owners.old.waiting }
     ensures spends { Adds (3 * count) visits.old visits.new }
@@ -137,9 +171,9 @@ fn enter_all(
         let place = block + 8 * i;
         let link = window.link(place, visits);
         if !enter(owners, visits, link, place as u32, root) {
-            return false;
+            return Err(place);
         }
         i += 1;
     }
-    true
+    Ok(())
 }

@@ -7,23 +7,23 @@ ghost use Rattle.image_check.specs.Sharing.{AreElementsNoted, IsIndexNoted, IsSt
 ghost use Rattle.image_check.specs.Visits.{Adds};
 
 use crate::checking::Visits;
-use crate::classes::ImageClass;
 use crate::image_window::{ImageWindow, Value};
 use crate::marks::mark;
 use crate::owners::{Owner, Owners};
+use crate::verdict::Offset;
 use block_tags::Role;
 
 /// Notes the link of the index whose words stand at `at`, where it has places. At most two visits.
 ///
 /// # Errors
 ///
-/// `SharedBlock` where another link leads there.
+/// The link's place, where another link leads there.
 pub(crate) fn mark_index(
     window: &ImageWindow,
     owners: &mut Owners,
     at: u64,
     visits: &mut Visits,
-) -> Result<(), ImageClass>
+) -> Result<(), Offset>
     ghost format: { ℕ }
     requires tiles { HasTiles window.now.bytes }
     requires place { IsIndexPlace at }
@@ -48,13 +48,13 @@ pub(crate) fn mark_index(
 ///
 /// # Errors
 ///
-/// `SharedBlock` where another link leads there.
+/// The link's place, where another link leads there.
 pub(crate) fn mark_storage(
     window: &ImageWindow,
     owners: &mut Owners,
     value: Value,
     visits: &mut Visits,
-) -> Result<(), ImageClass>
+) -> Result<(), Offset>
     ghost format: { ℕ }
     requires tiles { HasTiles window.now.bytes }
     requires marking { IsMarkingOf format window.now.bytes None owners.old.blocks.entries owners.old.pending owners.old.waiting }
@@ -78,14 +78,14 @@ pub(crate) fn mark_storage(
 ///
 /// # Errors
 ///
-/// `SharedBlock` where one of them leads to a block to which another link leads.
+/// The link's place, where one of them leads to a block to which another link leads.
 pub(crate) fn mark_elements(
     window: &ImageWindow,
     owners: &mut Owners,
     array: u64,
     count: u64,
     visits: &mut Visits,
-) -> Result<(), ImageClass>
+) -> Result<(), Offset>
     ghost format: { ℕ }
     requires tiles { HasTiles window.now.bytes }
     requires marking { IsMarkingOf format window.now.bytes None owners.old.blocks.entries owners.old.pending owners.old.waiting }
@@ -106,8 +106,8 @@ pub(crate) fn mark_elements(
             at: place,
             root: place,
         };
-        if let Err(class) = mark(owners, Role::Storage, link, target, visits) {
-            return Err(class);
+        if let Err(place) = mark(owners, Role::Storage, link, target, visits) {
+            return Err(place);
         }
         i += 1;
     }

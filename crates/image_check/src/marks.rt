@@ -5,28 +5,29 @@ ghost use Rattle.offset_link.specs.Link.{link_at};
 ghost use Rattle.block_tags.specs.declared.tile.Role.TheVariants.{Object as ObjectRole};
 ghost use Rattle.block_tags.specs.declared.tile.Tile.{Tile};
 ghost use Rattle.best_fit.specs.Table.{same_role};
-ghost use Rattle.image_check.specs.Owners.{IsAllFollowed, IsMarked, IsMarking, IsMarkingOf, IsRooted, IsSharedClass, IsSharedIn, IsTurn, MayCount, debt, next_in as next_there, root_in as root_there};
+ghost use Rattle.image_check.specs.Owners.{IsAllFollowed, IsMarked, IsMarking, IsMarkingOf, IsRooted, IsSharedIn, IsTurn, MayCount, debt, next_in as next_there, root_in as root_there};
+ghost use Rattle.image_check.specs.OwnerPlaces.{IsSharedAt};
 ghost use Rattle.image_check.specs.Passes.{HasTiles};
 ghost use Rattle.image_check.specs.Visits.{Adds};
 
 use crate::checking::Visits;
-use crate::classes::ImageClass;
 use crate::image_window::ImageWindow;
 use crate::owners::{Block, Owner, Owners, is_same};
+use crate::verdict::Offset;
 use block_tags::Role;
 
 /// Notes that a link with this target leads to a block of the role, where it does. At most two visits.
 ///
 /// # Errors
 ///
-/// `SharedBlock` where a link at another place leads there.
+/// The link's place, where a link at another place leads there.
 pub(crate) fn mark(
     owners: &mut Owners,
     role: Role,
     link: Owner,
     target: Option<u64>,
     visits: &mut Visits,
-) -> Result<(), ImageClass>
+) -> Result<(), Offset>
     requires room { owners.old.waiting + 1 < 2 ^ 64 }
     requires role { same_role role ObjectRole ≡ false }
     ensures marked { (format : ℕ) (m : Memory) (ts : List Tile) (now : Option ℕ)
@@ -34,7 +35,7 @@ pub(crate) fn mark(
         → target ≡ link_at m link.at → MayCount format m ts role link.at → IsRooted ts owners.old.blocks.entries link
         → MatchResult result
         (λ done. IsMarked format m ts now role link owners.old.blocks.entries owners.old.waiting owners.new.blocks.entries owners.new.pending owners.new.waiting)
-        (IsSharedClass format m ts) }
+        (IsSharedAt format m ts) }
     ensures visits { Adds 2 visits.old visits.new }
 {
     let Some(target) = target else {
@@ -50,7 +51,7 @@ pub(crate) fn mark(
         if owner.at == link.at {
             return Ok(());
         }
-        return Err(ImageClass::SharedBlock);
+        return Err(link.at as u64);
     }
     let owned = Block {
         owner: Some(link),
@@ -92,13 +93,13 @@ fn root_in(block: Option<Block>, target: u32) -> u32
 ///
 /// # Errors
 ///
-/// `SharedBlock` where one of them leads to a node to which another link leads.
+/// The link's place, where one of them leads to a node to which another link leads.
 fn follow_next(
     window: &ImageWindow,
     owners: &mut Owners,
     node: u32,
     visits: &mut Visits,
-) -> Result<(), ImageClass>
+) -> Result<(), Offset>
     ghost format: { ℕ }
     requires tiles { HasTiles window.now.bytes }
     requires marking { IsMarkingOf format window.now.bytes None owners.old.blocks.entries owners.old.pending owners.old.waiting }
@@ -115,7 +116,7 @@ fn follow_next(
     let children = window.links(node as u64, visits);
     let left = Owner { at: node, root };
     match mark(owners, Role::Node, left, children.0, visits) {
-        Err(class) => Err(class),
+        Err(place) => Err(place),
         Ok(()) => {
             let right = Owner { at: node + 8, root };
             mark(owners, Role::Node, right, children.1, visits)
@@ -128,12 +129,12 @@ fn follow_next(
 ///
 /// # Errors
 ///
-/// `SharedBlock` where two of them lead to one node.
+/// The link's place, where two of them lead to one node.
 pub(crate) fn follow(
     window: &ImageWindow,
     owners: &mut Owners,
     visits: &mut Visits,
-) -> Result<(), ImageClass>
+) -> Result<(), Offset>
     ghost format: { ℕ }
     requires tiles { HasTiles window.now.bytes }
     requires marking { IsMarkingOf format window.now.bytes None owners.old.blocks.entries owners.old.pending owners.old.waiting }
@@ -143,8 +144,8 @@ pub(crate) fn follow(
     ensures visits { Adds (6 * owners.old.waiting + debt owners.old.blocks.entries) visits.old visits.new }
 {
     'nodes: while let Some(node) = owners.pending {
-        if let Err(class) = follow_next(window, owners, node, visits) {
-            return Err(class);
+        if let Err(place) = follow_next(window, owners, node, visits) {
+            return Err(place);
         }
     }
     Ok(())

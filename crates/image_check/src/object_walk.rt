@@ -2,22 +2,22 @@
 ghost use Rattle.std.specs.Prelude.{◌≡◌, ℕ, ◌+◌, ◌-◌, ◌*◌, ◌/◌, ◌%◌, ◌^◌, ◌<◌, ◌≤◌, true, length};
 ghost use Rattle.std.specs.List.{list_all};
 ghost use Rattle.raw_region.specs.Memory.{bytes_of};
-ghost use Rattle.image_check.specs.declared.classes.ImageClass.TheVariants.{BadObject};
 ghost use Rattle.image_check.specs.ObjectTests.{has_indexes, has_objects};
 ghost use Rattle.image_check.specs.ObjectPasses.{is_object_at, is_right_tile, object_walk_rates};
+ghost use Rattle.image_check.specs.ObjectPlaces.{IsFirstWrongTile, IsWrongObject};
 ghost use Rattle.image_check.specs.Entered.{AreEntered};
 ghost use Rattle.image_check.specs.Owners.{entries_of, frames};
 ghost use Rattle.image_check.specs.Passes.{HasTiles, Finds, Spends, tiles_in};
 ghost use Rattle.image_check.specs.Visits.{Adds, object_rates, rate_of};
 
 use crate::checking::Visits;
-use crate::classes::ImageClass;
 use crate::heads::{
     NAMED, UNIQUE, has_name, has_padding, has_room, has_spellings, is_indexed, kind_of,
 };
 use crate::image_window::{Blocks, ImageWindow, Object};
 use crate::owners::{Owners, tile_of};
 use crate::ranks::has_order;
+use crate::verdict::Offset;
 use block_tags::{Role, TAG, Tile};
 use segment_manager::layout::{NAMED_AT, UNIQUE_AT};
 
@@ -26,39 +26,49 @@ use segment_manager::layout::{NAMED_AT, UNIQUE_AT};
 ///
 /// # Errors
 ///
-/// `BadObject` where an object has a kind, class, count, name, padding or value that is wrong, or no entry in the index
-/// of its class; or where an index names an object of another class or its keys do not rise.
+/// The place of the payload of the first object that has a kind, class, count, name, padding or value that is wrong, or
+/// no entry in the index of its class; or else the place of the first entry of an index that leads to an object of
+/// another class or to one whose key does not rise.
 pub(crate) fn check_objects(
     format: u64,
     window: &ImageWindow,
     owners: &Owners,
     visits: &mut Visits,
-) -> Result<(), ImageClass>
+) -> Result<(), Offset>
     requires tiles { HasTiles window.now.bytes }
     requires rows { frames owners.now.blocks.entries ≡ frames (entries_of (tiles_in window.now.bytes)) }
     requires indexes { has_indexes (bytes_of window.now.bytes) (tiles_in window.now.bytes) ≡ true }
     requires entered { AreEntered (bytes_of window.now.bytes) owners.now.blocks.entries }
-    ensures finds { Finds BadObject (has_objects format (bytes_of window.now.bytes) (tiles_in window.now.bytes)) result }
+    ensures finds { Finds (has_objects format (bytes_of window.now.bytes) (tiles_in window.now.bytes)) (IsWrongObject format (bytes_of window.now.bytes) (tiles_in window.now.bytes)) result }
     ensures spends { Spends object_rates 10 window.now.bytes visits.old visits.new }
 {
-    if !are_right(format, window, &owners.blocks, visits) {
-        return Err(ImageClass::BadObject);
+    if let Err(place) = are_right(format, window, &owners.blocks, visits) {
+        return Err(place);
     }
-    if !has_order(window, visits, NAMED_AT, NAMED) {
-        return Err(ImageClass::BadObject);
+    if let Err(place) = has_order(window, visits, NAMED_AT, NAMED) {
+        return Err(place);
     }
-    if !has_order(window, visits, UNIQUE_AT, UNIQUE) {
-        return Err(ImageClass::BadObject);
+    if let Err(place) = has_order(window, visits, UNIQUE_AT, UNIQUE) {
+        return Err(place);
     }
     Ok(())
 }
 
-/// Whether each tile is no object's or one of an object that is right. Of the others no tag is read.
-fn are_right(format: u64, window: &ImageWindow, blocks: &Blocks, visits: &mut Visits) -> bool
+/// Checks that each tile is no object's or one of an object that is right. No tag is read.
+///
+/// # Errors
+///
+/// The place of the payload of the first object that is not.
+fn are_right(
+    format: u64,
+    window: &ImageWindow,
+    blocks: &Blocks,
+    visits: &mut Visits,
+) -> Result<(), Offset>
     requires tiles { HasTiles window.now.bytes }
     requires rows { frames blocks.now.entries ≡ frames (entries_of (tiles_in window.now.bytes)) }
     requires entered { AreEntered (bytes_of window.now.bytes) blocks.now.entries }
-    ensures is { result ≡ list_all (is_right_tile format (bytes_of window.now.bytes)) (tiles_in window.now.bytes) }
+    ensures finds { Finds (list_all (is_right_tile format (bytes_of window.now.bytes)) (tiles_in window.now.bytes)) (IsFirstWrongTile (is_right_tile format (bytes_of window.now.bytes)) (tiles_in window.now.bytes)) result }
     ensures spends { Spends object_walk_rates 0 window.now.bytes visits.old visits.new }
 {
     let mut number = 0;
@@ -66,11 +76,11 @@ fn are_right(format: u64, window: &ImageWindow, blocks: &Blocks, visits: &mut Vi
         let (payload, block) = blocks.row(number, visits);
         let tile = tile_of(payload, block);
         if !is_right(format, window, blocks, number, visits, tile) {
-            return false;
+            return Err(payload as u64);
         }
         number += 1;
     }
-    true
+    Ok(())
 }
 
 /// Whether the tile is no object's or one of an object that is right. Its block may be that of number

@@ -1,42 +1,63 @@
 //! Whether the entries of an index lead to objects of its class, whose keys rise.
-ghost use Rattle.std.specs.Prelude.{◌≡◌, ℕ, ◌+◌, ◌*◌, ◌%◌, ◌^◌, ◌<◌, ◌≤◌, true, Some, IsSome, length, flat_map, option_to_list};
+ghost use Rattle.std.specs.Prelude.{◌≡◌, ℕ, ◌+◌, ◌*◌, ◌%◌, ◌^◌, ◌<◌, ◌≤◌, true, Some, IsSome, length};
 ghost use Rattle.raw_region.specs.Memory.{bytes_of};
 ghost use Rattle.offset_link.specs.Link.{link_at};
 ghost use Rattle.seg_index.specs.Keys.{name_len_at};
 ghost use Rattle.image_check.specs.ObjectTests.{has_index, targets};
 ghost use Rattle.image_check.specs.ObjectPasses.{HaveHeads, LeadToHeads, are_ranked, entry_rates, follows as comes_behind, key_before};
 ghost use Rattle.image_check.specs.Owners.{IsIndexPlace};
-ghost use Rattle.image_check.specs.Entered.{links_in};
-ghost use Rattle.image_check.specs.Passes.{HasTiles, tiles_in};
+ghost use Rattle.image_check.specs.IndexPlaces.{first_targets};
+ghost use Rattle.image_check.specs.ObjectPlaces.{IsMisplaced, IsOutOfOrder};
+ghost use Rattle.image_check.specs.Passes.{Finds, HasTiles, tiles_in};
 ghost use Rattle.image_check.specs.Visits.{Adds, weigh};
 
 use crate::checking::Visits;
 use crate::heads::NAMED;
 use crate::image_window::{ImageWindow, Object};
+use crate::verdict::Offset;
 
-/// Whether the entries of the index whose words stand at `at` lead to objects of a class, whose keys rise.
-pub(crate) fn has_order(window: &ImageWindow, visits: &mut Visits, at: u64, class: u64) -> bool
+/// Checks that the entries of the index whose words stand at `at` lead to objects of a class, whose keys rise.
+///
+/// # Errors
+///
+/// The place of the first entry that does not, or whose object has a key that does not rise.
+pub(crate) fn has_order(
+    window: &ImageWindow,
+    visits: &mut Visits,
+    at: u64,
+    class: u64,
+) -> Result<(), Offset>
     requires tiles { HasTiles window.now.bytes }
     requires place { IsIndexPlace at }
     requires index { has_index (bytes_of window.now.bytes) (tiles_in window.now.bytes) at ≡ true }
     requires heads { HaveHeads (bytes_of window.now.bytes) at (length window.now.bytes) }
-    ensures is { result ≡ are_ranked class (bytes_of window.now.bytes) (targets (bytes_of window.now.bytes) at) }
+    ensures finds { Finds (are_ranked class (bytes_of window.now.bytes) (targets (bytes_of window.now.bytes) at)) (IsMisplaced class (bytes_of window.now.bytes) at) result }
     ensures spends { (visits.old ≤ visits.new) × (2 * visits.new ≤ 2 * visits.old + weigh entry_rates (tiles_in window.now.bytes)) }
 {
     match window.header_link(at) {
-        None => true,
+        None => Ok(()),
         Some(block) => rise(window, visits, block, window.header_word(at + 8), class),
     }
 }
 
-/// Whether the links in the first `count` places of a block lead to objects of a class, whose keys rise.
-fn rise(window: &ImageWindow, visits: &mut Visits, block: u64, count: u64, class: u64) -> bool
+/// Checks that the links in the first `count` places of a block lead to objects of a class, whose keys rise.
+///
+/// # Errors
+///
+/// The place of the first that does not, or whose object has a key that does not rise.
+fn rise(
+    window: &ImageWindow,
+    visits: &mut Visits,
+    block: u64,
+    count: u64,
+    class: u64,
+) -> Result<(), Offset>
     requires small { length window.now.bytes < 2 ^ 63 }
     requires aligned { block % 8 ≡ 0 }
     requires inside { block + 8 * count ≤ length window.now.bytes }
     requires links { (i : ℕ) → i < count → IsSome (link_at (bytes_of window.now.bytes) (block + 8 * i)) }
     requires heads { LeadToHeads (bytes_of window.now.bytes) block count (length window.now.bytes) }
-    ensures is { result ≡ are_ranked class (bytes_of window.now.bytes) (flat_map option_to_list (links_in (bytes_of window.now.bytes) block count)) }
+    ensures finds { Finds (are_ranked class (bytes_of window.now.bytes) (first_targets (bytes_of window.now.bytes) block count)) (IsOutOfOrder class (bytes_of window.now.bytes) block count) result }
     ensures spends { Adds (3 * count) visits.old visits.new }
 {
     let mut last = None;
@@ -44,15 +65,15 @@ fn rise(window: &ImageWindow, visits: &mut Visits, block: u64, count: u64, class
     'entries: while i < count {
         let place = block + 8 * i;
         let Some(here) = window.link(place, visits) else {
-            return false;
+            return Err(place);
         };
         if !follows(window, visits, class, last, here) {
-            return false;
+            return Err(place);
         }
         last = Some(here);
         i += 1;
     }
-    true
+    Ok(())
 }
 
 /// Whether an object is of the class, and its key stands behind that of the last one, if there was one. At most two

@@ -4,14 +4,16 @@ ghost use Rattle.raw_region.specs.Answers.{AddsFront};
 ghost use Rattle.raw_region.specs.Device.{Reads, given_since};
 ghost use Rattle.raw_region.specs.Memory.{SamePlace, whole};
 ghost use Rattle.raw_region.specs.Regions.{with_bytes};
+ghost use Rattle.image_check.specs.Causes.{IsBehind, IsEnd, IsShown, error_for, error_in, opened_as, opened_in};
 ghost use Rattle.image_check.specs.Formats.{format_in};
 ghost use Rattle.image_check.specs.Opening.{AsksToTheEnd, cause_of, failed_reads};
-ghost use Rattle.image_check.specs.Reading.{GoesOn, HasFront, IsFrontRead, IsReadBy, IsNotReadBy, IsShort, Stops, StopsBy};
+ghost use Rattle.image_check.specs.Reading.{GoesOn, HasFront, IsFrontRead, IsReadBy, IsNotReadBy, IsShort, IsShownBy, Stops, StopsBy};
 
 use crate::classes::ImageClass;
-use crate::errors::{OpenError, OpenRefused};
-use crate::header::{FRONT, LEAST, size_by};
+use crate::errors::{ExamineError, ExamineRefused, OpenRefused};
+use crate::header::{FRONT, LEAST, judge_front};
 use crate::image_window::ImageWindow;
+use crate::verdict::Verdict;
 use crate::versions::Versions;
 use raw_region::{RawRegion, Source, Window, fill};
 
@@ -35,16 +37,42 @@ pub fn read_image<S: Source>(
     ensures history { Reads (S.history reader.old) (S.history reader.new) (failed_reads (cause_of result)) }
     ensures ends { AsksToTheEnd (S.history reader.old) (S.history reader.new) }
 {
+    match read_judged(versions, reader, region, base) {
+        Ok(window) => Ok(window),
+        Err(refused) => Err(refused.into_opened()),
+    }
+}
+
+/// The same, with the place that shows a class.
+///
+/// # Errors
+///
+/// As [`read_image`].
+pub(crate) fn read_judged<S: Source>(
+    versions: Versions,
+    reader: &mut S,
+    region: RawRegion,
+    base: u64,
+) -> Result<ImageWindow, ExamineRefused>
+    requires aligned { base % 16 ≡ 0 }
+    requires reader { (S.history reader.old).failures < 2 ^ 64 - 1 }
+    ensures reads { MatchResult result
+        (IsReadBy versions (given_since (S.history reader.old) (S.history reader.new)) region base)
+        (λ refused. IsNotReadBy versions (given_since (S.history reader.old) (S.history reader.new)) region base (opened_as refused)) }
+    ensures shown { IfErr result (λ refused. IsShownBy versions (given_since (S.history reader.old) (S.history reader.new)) refused.cause) }
+    ensures history { Reads (S.history reader.old) (S.history reader.new) (failed_reads (cause_of (opened_in result))) }
+    ensures ends { AsksToTheEnd (S.history reader.old) (S.history reader.new) }
+{
     let mut front = [0; FRONT];
     let size = match read_front(versions, reader, &mut front, &region, base) {
         Ok(size) => size,
-        Err(cause) => return Err(OpenRefused { region, cause }),
+        Err(cause) => return Err(ExamineRefused { region, cause }),
     };
     let mut window = Window::new(region, base, size);
     window.write(0, &front);
     match read_rest(reader, &mut window) {
         Ok(()) => Ok(ImageWindow::new(window)),
-        Err(cause) => Err(OpenRefused {
+        Err(cause) => Err(ExamineRefused {
             region: window.into_region(),
             cause,
         }),
@@ -63,21 +91,22 @@ fn read_front<S: Source>(
     front: &mut [u8; FRONT],
     region: &RawRegion,
     base: u64,
-) -> Result<u64, OpenError>
+) -> Result<u64, ExamineError>
     requires { (S.history reader.old).failures < 2 ^ 64 - 1 }
     ensures ok { IfOk result (IsFrontRead (format_in versions front.new) (S.history reader.old).bytes (S.history reader.new).bytes front.new base (length region.now)) }
-    ensures err { IfErr result (StopsBy versions (given_since (S.history reader.old) (S.history reader.new)) base (length region.now)) }
-    ensures history { Reads (S.history reader.old) (S.history reader.new) (failed_reads result) }
+    ensures err { IfErr result (λ cause. StopsBy versions (given_since (S.history reader.old) (S.history reader.new)) base (length region.now) (error_for cause)) }
+    ensures shown { IfErr result (IsShownBy versions (given_since (S.history reader.old) (S.history reader.new))) }
+    ensures history { Reads (S.history reader.old) (S.history reader.new) (failed_reads (error_in result)) }
     ensures ends { AsksToTheEnd (S.history reader.old) (S.history reader.new) }
     ensures more { OnOk result ((S.history reader.new).ended ≡ false) }
 {
-    read_all(reader, front)?;
-    match size_by(versions, front) {
+    read_all(reader, front, 0)?;
+    match judge_front(versions, front) {
         Ok(size) if region.in_range(base, size) => Ok(size),
-        Ok(_) => Err(OpenError::RegionTooSmall),
-        Err(class) => {
-            read_all(reader, &mut [0; LEAST - FRONT])?;
-            Err(OpenError::Image(class))
+        Ok(_) => Err(ExamineError::RegionTooSmall),
+        Err(verdict) => {
+            read_all(reader, &mut [0; LEAST - FRONT], FRONT as u64)?;
+            Err(ExamineError::Image(verdict))
         }
     }
 }
@@ -88,62 +117,72 @@ fn read_front<S: Source>(
 /// # Errors
 ///
 /// As `read_image`.
-fn read_rest<S: Source>(reader: &mut S, window: &mut Window) -> Result<(), OpenError>
+fn read_rest<S: Source>(reader: &mut S, window: &mut Window) -> Result<(), ExamineError>
     requires reader { (S.history reader.old).failures < 2 ^ 64 - 1 }
     requires long { 144 ≤ length window.old.bytes }
     ensures ok { OnOk result (window.new ≡ with_bytes window.old (take 24 window.old.bytes ++ drop (length (S.history reader.old).bytes) (S.history reader.new).bytes)) }
     ensures ended { OnOk result ((S.history reader.new).ended ≡ true) }
     ensures err { IfErr result (λ cause. (format : ℕ) → HasFront format window.old → (start : List ℕ) → (S.history reader.old).bytes ≡ start ++ take 24 window.old.bytes
-        → Stops format (given_since (record (S.history reader.old) { bytes = start }) (S.history reader.new)) (length window.old.before) (length (whole window.old)) cause) }
+        → Stops format (given_since (record (S.history reader.old) { bytes = start }) (S.history reader.new)) (length window.old.before) (length (whole window.old)) (error_for cause)) }
+    ensures shown { IfErr result (λ cause. (format : ℕ) → HasFront format window.old → (start : List ℕ) → (S.history reader.old).bytes ≡ start ++ take 24 window.old.bytes
+        → IsShown format (drop (length start) (S.history reader.new).bytes) cause) }
     ensures place { SamePlace window.old window.new }
     ensures len { length window.new.bytes ≡ length window.old.bytes }
-    ensures history { Reads (S.history reader.old) (S.history reader.new) (failed_reads result) }
+    ensures history { Reads (S.history reader.old) (S.history reader.new) (failed_reads (error_in result)) }
     ensures ends { AsksToTheEnd (S.history reader.old) (S.history reader.new) }
 {
     let front = FRONT as u64;
     let size = window.size();
-    read_all(reader, window.bytes_mut(front, size - front))?;
-    find_end(reader)
+    read_all(reader, window.bytes_mut(front, size - front), front)?;
+    find_end(reader, size)
 }
 
-/// Fills the slice.
+/// Fills the slice with the bytes of an image behind `before` others.
 ///
 /// # Errors
 ///
 /// `ReadFault` where the reader failed, and `Truncated` where it ended, before the slice was full.
-fn read_all<S: Source>(reader: &mut S, into: &mut [u8]) -> Result<(), OpenError>
-    requires { (S.history reader.old).failures < 2 ^ 64 - 1 }
+fn read_all<S: Source>(reader: &mut S, into: &mut [u8], before: u64) -> Result<(), ExamineError>
+    requires reader { (S.history reader.old).failures < 2 ^ 64 - 1 }
+    requires few { before ≤ 24 }
     ensures ok { OnOk result ((S.history reader.new).bytes ≡ (S.history reader.old).bytes ++ into.new) }
-    ensures err { IfErr result (λ cause. AddsFront (S.history reader.old).bytes (S.history reader.new).bytes into.new × IsShort (S.history reader.new).ended cause) }
-    ensures counted { (S.history reader.new).failures ≡ (S.history reader.old).failures + failed_reads result }
+    ensures err { IfErr result (λ cause. AddsFront (S.history reader.old).bytes (S.history reader.new).bytes into.new × IsShort (S.history reader.new).ended (error_for cause)) }
+    ensures shown { IfErr result (IsEnd (before + (length (S.history reader.new).bytes - length (S.history reader.old).bytes))) }
+    ensures counted { (S.history reader.new).failures ≡ (S.history reader.old).failures + failed_reads (error_in result) }
     ensures ends { 0 < length into.old → AsksToTheEnd (S.history reader.old) (S.history reader.new) }
     ensures more { OnOk result (0 < length into.old → (S.history reader.new).ended ≡ false) }
 {
     let Ok(count) = fill(reader, into) else {
-        return Err(OpenError::ReadFault);
+        return Err(ExamineError::ReadFault);
     };
     if count < into.len() {
-        return Err(OpenError::Image(ImageClass::Truncated));
+        let class = ImageClass::Truncated;
+        let place = before + count as u64;
+        return Err(ExamineError::Image(Verdict { class, place }));
     }
     Ok(())
 }
 
-/// Asks for one byte more, of which there is none behind a whole image.
+/// Asks for one byte more, of which there is none behind a whole image of `size` bytes.
 ///
 /// # Errors
 ///
 /// `ReadFault` where the reader failed, and `BadSize` where it gave one.
-fn find_end<S: Source>(reader: &mut S) -> Result<(), OpenError>
+fn find_end<S: Source>(reader: &mut S, size: u64) -> Result<(), ExamineError>
     requires { (S.history reader.old).failures < 2 ^ 64 - 1 }
     ensures same { OnOk result ((S.history reader.new).bytes ≡ (S.history reader.old).bytes) }
     ensures ended { OnOk result ((S.history reader.new).ended ≡ true) }
-    ensures err { IfErr result (GoesOn (S.history reader.old).bytes (S.history reader.new).bytes) }
-    ensures counted { (S.history reader.new).failures ≡ (S.history reader.old).failures + failed_reads result }
+    ensures err { IfErr result (λ cause. GoesOn (S.history reader.old).bytes (S.history reader.new).bytes (error_for cause)) }
+    ensures shown { IfErr result (IsBehind size) }
+    ensures counted { (S.history reader.new).failures ≡ (S.history reader.old).failures + failed_reads (error_in result) }
     ensures ends { AsksToTheEnd (S.history reader.old) (S.history reader.new) }
 {
     match reader.read(&mut [0]) {
-        Err(_) => Err(OpenError::ReadFault),
+        Err(_) => Err(ExamineError::ReadFault),
         Ok(0) => Ok(()),
-        Ok(_) => Err(OpenError::Image(ImageClass::BadSize)),
+        Ok(_) => {
+            let class = ImageClass::BadSize;
+            Err(ExamineError::Image(Verdict { class, place: size }))
+        }
     }
 }

@@ -1,7 +1,6 @@
 //! Whether two links lead to one block.
 ghost use Rattle.std.specs.Prelude.{◌≡◌, ◌+◌, ◌*◌, ◌%◌, ◌<◌, ◌≤◌, ◌^◌, ℕ, IsTrue, MatchResult, None, OnOk, Some, not, true, length};
 ghost use Rattle.raw_region.specs.Memory.{bytes_of, word_at};
-ghost use Rattle.image_check.specs.declared.classes.ImageClass.TheVariants.{SharedBlock};
 ghost use Rattle.seg_types.specs.declared.kinds.Kind.TheVariants.{Strings as StringsKind};
 ghost use Rattle.image_check.specs.ObjectTests.{has_objects};
 ghost use Rattle.image_check.specs.Fields.{is_shared};
@@ -13,12 +12,12 @@ ghost use Rattle.image_check.specs.Owners.{owner_at};
 ghost use Rattle.image_check.specs.declared.owners.Owner.{Owner as OwnerValue};
 
 use crate::checking::Visits;
-use crate::classes::ImageClass;
 use crate::heads::kind_of;
 use crate::image_window::{ImageWindow, Object, Value};
 use crate::links::{mark_elements, mark_index, mark_storage};
 use crate::marks::{follow, mark};
 use crate::owners::{Owner, Owners, good_len, is_object, tile_of};
+use crate::verdict::Offset;
 use block_tags::{Role, TAG, Tile};
 use seg_types::Kind;
 use segment_manager::layout::{NAMED_AT, UNIQUE_AT};
@@ -38,13 +37,13 @@ fn elements_in(length: u64, len: u64) -> u64
 ///
 /// # Errors
 ///
-/// `SharedBlock` where one of them leads to a block to which another link leads.
+/// The link's place, where one of them leads to a block to which another link leads.
 fn mark_texts(
     window: &ImageWindow,
     owners: &mut Owners,
     value: Value,
     visits: &mut Visits,
-) -> Result<(), ImageClass>
+) -> Result<(), Offset>
     ghost format: { ℕ }
     requires tiles { HasTiles window.now.bytes }
     requires marking { IsMarkingOf format window.now.bytes None owners.old.blocks.entries owners.old.pending owners.old.waiting }
@@ -73,13 +72,13 @@ fn mark_texts(
 ///
 /// # Errors
 ///
-/// `SharedBlock` where one of them leads to a block to which another link leads.
+/// The link's place, where one of them leads to a block to which another link leads.
 fn mark_array(
     window: &ImageWindow,
     owners: &mut Owners,
     value: Value,
     visits: &mut Visits,
-) -> Result<(), ImageClass>
+) -> Result<(), Offset>
     ghost format: { ℕ }
     requires tiles { HasTiles window.now.bytes }
     requires marking { IsMarkingOf format window.now.bytes None owners.old.blocks.entries owners.old.pending owners.old.waiting }
@@ -90,7 +89,7 @@ fn mark_array(
     ensures visits { Pays 3 result visits.old (6 * owners.old.waiting + debt owners.old.blocks.entries) visits.new (6 * owners.new.waiting + debt owners.new.blocks.entries) }
 {
     match mark_storage(window, owners, value, visits) {
-        Err(class) => Err(class),
+        Err(place) => Err(place),
         Ok(()) => mark_texts(window, owners, value, visits),
     }
 }
@@ -99,14 +98,14 @@ fn mark_array(
 ///
 /// # Errors
 ///
-/// `SharedBlock` where one of them leads to a block to which another link leads.
+/// The link's place, where one of them leads to a block to which another link leads.
 fn mark_value(
     window: &ImageWindow,
     owners: &mut Owners,
     kind: Kind,
     value: Value,
     visits: &mut Visits,
-) -> Result<(), ImageClass>
+) -> Result<(), Offset>
     ghost format: { ℕ }
     requires tiles { HasTiles window.now.bytes }
     requires marking { IsMarkingOf format window.now.bytes None owners.old.blocks.entries owners.old.pending owners.old.waiting }
@@ -133,14 +132,14 @@ fn mark_value(
 ///
 /// # Errors
 ///
-/// `SharedBlock` where one of them leads to a block to which another link leads.
+/// The link's place, where one of them leads to a block to which another link leads.
 fn mark_object(
     format: u64,
     window: &ImageWindow,
     owners: &mut Owners,
     tile: Tile,
     visits: &mut Visits,
-) -> Result<(), ImageClass>
+) -> Result<(), Offset>
     ghost said: { ℕ }
     requires tiles { HasTiles window.now.bytes }
     requires format { said ≡ format }
@@ -166,13 +165,13 @@ fn mark_object(
 ///
 /// # Errors
 ///
-/// `SharedBlock` where one of them leads to a block to which another link leads.
+/// The link's place, where one of them leads to a block to which another link leads.
 fn mark_values(
     format: u64,
     window: &ImageWindow,
     owners: &mut Owners,
     visits: &mut Visits,
-) -> Result<(), ImageClass>
+) -> Result<(), Offset>
     ghost said: { ℕ }
     requires tiles { HasTiles window.now.bytes }
     requires format { said ≡ format }
@@ -188,8 +187,8 @@ fn mark_values(
     'rows: while number < owners.blocks.len() {
         let (payload, block) = owners.blocks.row(number, visits);
         let tile = tile_of(payload, block);
-        if let Err(class) = mark_object(format, window, owners, tile, visits) {
-            return Err(class);
+        if let Err(place) = mark_object(format, window, owners, tile, visits) {
+            return Err(place);
         }
         number += 1;
     }
@@ -200,12 +199,12 @@ fn mark_values(
 ///
 /// # Errors
 ///
-/// `SharedBlock` where both lead to one block.
+/// The link's place, where both lead to one block.
 fn mark_indexes(
     window: &ImageWindow,
     owners: &mut Owners,
     visits: &mut Visits,
-) -> Result<(), ImageClass>
+) -> Result<(), Offset>
     ghost said: { ℕ }
     requires tiles { HasTiles window.now.bytes }
     requires unmarked { IsUnmarked (tiles_in window.now.bytes) owners.old.blocks.entries }
@@ -217,7 +216,7 @@ fn mark_indexes(
     ensures visits { Adds 4 visits.old visits.new }
 {
     match mark_index(window, owners, NAMED_AT, visits) {
-        Err(class) => Err(class),
+        Err(place) => Err(place),
         Ok(()) => mark_index(window, owners, UNIQUE_AT, visits),
     }
 }
@@ -226,13 +225,13 @@ fn mark_indexes(
 ///
 /// # Errors
 ///
-/// `SharedBlock` where two lead to one.
+/// The link's place, where two lead to one.
 pub(crate) fn check_sharing(
     format: u64,
     window: &ImageWindow,
     owners: &mut Owners,
     visits: &mut Visits,
-) -> Result<(), ImageClass>
+) -> Result<(), Offset>
     ghost said: { ℕ }
     requires tiles { HasTiles window.now.bytes }
     requires format { said ≡ format }
@@ -240,15 +239,15 @@ pub(crate) fn check_sharing(
     requires unmarked { IsUnmarked (tiles_in window.now.bytes) owners.old.blocks.entries }
     requires pending { owners.old.pending ≡ None }
     requires waiting { owners.old.waiting ≡ 0 }
-    ensures finds { Finds SharedBlock (not (is_shared said (bytes_of window.now.bytes) (tiles_in window.now.bytes))) result }
+    ensures finds { Finds (not (is_shared said (bytes_of window.now.bytes) (tiles_in window.now.bytes))) (IsSharedIn said window.now.bytes) result }
     ensures whole { OnOk result (IsWholeMarkingOf said window.now.bytes owners.new.blocks.entries owners.new.waiting) }
     ensures visits { Spends sharing_rates 20 window.now.bytes visits.old visits.new }
 {
-    if let Err(class) = mark_indexes(window, owners, visits) {
-        return Err(class);
+    if let Err(place) = mark_indexes(window, owners, visits) {
+        return Err(place);
     }
-    if let Err(class) = mark_values(format, window, owners, visits) {
-        return Err(class);
+    if let Err(place) = mark_values(format, window, owners, visits) {
+        return Err(place);
     }
     follow(window, owners, visits)
 }

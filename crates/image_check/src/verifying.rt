@@ -6,12 +6,9 @@ ghost use Rattle.image_check.specs.Opening.{AsksToTheEnd, IsRaisedFor, Verifies,
 ghost use Rattle.image_check.specs.Opening.{is_late, size_or_least};
 ghost use Rattle.image_check.specs.Passes.{CountsTiles};
 
-use crate::checking::check;
 use crate::errors::OpenRefused;
-use crate::reading::read_image;
-use crate::versions::Versions;
+use crate::examining::examine;
 use raw_region::{RawRegion, Source, Steps};
-use segment_manager::layout::FORMAT;
 use std::alloc::Global;
 
 /// Reads an image into the region, from `base` on, which is a multiple of 16, and tells whether it denotes a directory.
@@ -42,12 +39,8 @@ pub fn verify<S: Source>(
     ensures late { IfErr result (λ refused. is_late refused.cause ≡ true
         → CountsTiles (given_since (S.history reader.old) (S.history reader.new)).bytes steps.old steps.new) }
 {
-    let window = read_image(Versions::Current, reader, region, base)?;
-    match check(FORMAT, alloc, &window, steps) {
-        Ok(()) => Ok(window.into_region()),
-        Err(why) => Err(OpenRefused {
-            region: window.into_region(),
-            cause: why.into_cause(),
-        }),
+    match examine(alloc, reader, region, base, steps) {
+        Ok(region) => Ok(region),
+        Err(refused) => Err(refused.into_opened()),
     }
 }

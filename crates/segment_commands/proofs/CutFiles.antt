@@ -1,5 +1,5 @@
 -- A file that ends before the size that its first words say is too short, whatever it holds.
-use Rattle.std.proofs.Common.{◌≡◌, ◌<◌, ◌≤◌, ◌&&◌, ◌||◌, ℕ, ◌+◌, Bool, true, false, inl, inr, List, [], ◌++◌, length, drop, Some, Err, IsTrue, nat_lt, find, refl, sym, ap₂, subst, arith}
+use Rattle.std.proofs.Common.{◌≡◌, ◌<◌, ◌≤◌, ◌&&◌, ◌||◌, ℕ, ◌+◌, Bool, true, false, inl, inr, List, [], ◌++◌, length, drop, Some, Err, IsTrue, nat_lt, find, refl, sym, ap, ap₂, subst, arith}
 use Rattle.std.proofs.lemmas.Bool.Decides.{nat_tests}
 use Rattle.std.proofs.lemmas.List.{append-nil, get_or_append_left, length-append}
 use Rattle.raw_region.specs.Device.{Gave, Given, Grows, given_since}
@@ -20,6 +20,9 @@ use Rattle.segment_cli.specs.declared.faults.SessionFault.TheVariants.{Image as 
 use Rattle.segment_cli.specs.Beginning.{Starts}
 use Rattle.segment_disk.specs.Events.{nothing_given}
 use Rattle.segment_commands.specs.Opening.{BeginsIn, EndsWithin, IsToldByLength}
+use Rattle.segment_commands.specs.declared.explaining.Unfit.{Unfit}
+use Rattle.segment_commands.specs.declared.explaining.Unfit.TheVariants.{Image as UnfitImage, Fault as UnfitFault}
+use Rattle.segment_commands.specs.Explaining.{IsUnfitByLength, fault_for}
 use Rattle.segment_commands.specs.Migrating.{BeginsAny}
 
 -- ---- what a reader gives on
@@ -178,3 +181,8 @@ module _ (mid new : Gave) (grows : Grows mid.bytes new.bytes) where
     pub told_any : (region : List ℕ) → length region ≡ capacity → (most : ℕ) → most ≤ capacity → (fault : SessionFault) → IsToldByLength most new fault → BeginsAny image (Err fault)
     told_any region is most room fault (inl t) = subst (λ (f : SessionFault). BeginsAny image (Err f)) (sym t.0) (cut_any most room t.1)
     told_any region is most room fault (inr e) = subst (λ (f : SessionFault). BeginsAny image (Err f)) (sym e.0) (too_small_any region is)
+
+-- what is told of a file by its length, without the place
+pub told_as : (room : ℕ) (gave : Gave) (unfit : Unfit) → IsUnfitByLength room gave unfit → IsToldByLength room gave (fault_for unfit)
+told_as room gave (UnfitImage v) t = inl (ap (λ (c : ImageClass). Refused c) t.0, t.2)
+told_as room gave (UnfitFault fault) t = inr t

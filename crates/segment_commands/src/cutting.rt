@@ -1,14 +1,18 @@
 //! Files that end before the size that their first words say, and the segments of others, made or not.
-ghost use Rattle.std.specs.Prelude.{◌≡◌, ◌≤◌, true, false};
+ghost use Rattle.std.specs.Prelude.{◌≡◌, ◌≤◌, true, false, length};
 ghost use Rattle.raw_region.specs.Device.{Grows, given_since};
 ghost use Rattle.segment_cli.specs.declared.faults.Start.TheVariants.{Image as OfImage};
 ghost use Rattle.segment_disk.specs.Events.{nothing_given};
 ghost use Rattle.segment_commands.specs.Migrating.{BeginsAny};
-ghost use Rattle.segment_commands.specs.Opening.{BeginsIn, EndsWithin, GoesBeyond, IsToldByLength, VerifiesIn};
+ghost use Rattle.segment_commands.specs.Explaining.{ExaminesIn, IsUnfitByLength};
+ghost use Rattle.segment_commands.specs.Opening.{BeginsIn, EndsWithin, GoesBeyond, IsToldByLength};
 
 use crate::counting::Counted;
+use crate::explaining::Unfit;
 use grow_shrink::region_for;
-use image_check::{ImageClass, MemoryFault, OpenError, open_any, verify};
+use image_check::{
+    ExamineError, ImageClass, MemoryFault, OpenError, Verdict, examine, open_any,
+};
 use raw_region::{Source, Steps};
 use segment_cli::{SessionFault, Start, begin};
 use segment_manager::{Mode, Segment};
@@ -21,6 +25,7 @@ const PIECE: usize = 4096;
 fn ends_within<S: Source>(reader: &mut Counted<S>, most: u64) -> bool
     requires { most ≤ 1073741824 }
     ensures within { result ≡ true → EndsWithin most (S.history reader.new.inner) }
+    ensures given { result ≡ true → reader.new.given ≡ length (S.history reader.new.inner).bytes }
     ensures beyond { result ≡ false → GoesBeyond most (S.history reader.new.inner) }
     ensures grows { Grows (S.history reader.old.inner).bytes (S.history reader.new.inner).bytes }
 {
@@ -38,17 +43,29 @@ fn ends_within<S: Source>(reader: &mut Counted<S>, most: u64) -> bool
     false
 }
 
-/// Why there is no segment where the image says a size for which there is no room.
+/// Why there is no segment where the image says a size for which there is no room, with the end of one that is too
+/// short.
+fn unfit_by_length<S: Source>(reader: &mut Counted<S>, room: u64) -> Unfit
+    requires { room ≤ 1073741824 }
+    ensures told { IsUnfitByLength room (S.history reader.new.inner) result }
+    ensures grows { Grows (S.history reader.old.inner).bytes (S.history reader.new.inner).bytes }
+{
+    if ends_within(reader, room) {
+        let class = ImageClass::Truncated;
+        let place = reader.given;
+        Unfit::Image(Verdict { class, place })
+    } else {
+        Unfit::Fault(SessionFault::RegionTooSmall)
+    }
+}
+
+/// The same without the place.
 fn told_by_length<S: Source>(reader: &mut Counted<S>, room: u64) -> SessionFault
     requires { room ≤ 1073741824 }
     ensures told { IsToldByLength room (S.history reader.new.inner) result }
     ensures grows { Grows (S.history reader.old.inner).bytes (S.history reader.new.inner).bytes }
 {
-    if ends_within(reader, room) {
-        SessionFault::Image(ImageClass::Truncated)
-    } else {
-        SessionFault::RegionTooSmall
-    }
+    unfit_by_length(reader, room).into_fault()
 }
 
 /// The segment of the image of a reader, at the front of a region with room for so many bytes. Where the image ends
@@ -99,25 +116,33 @@ fn begin_any_counted<S: Source>(
     }
 }
 
-/// The same of an image that is opened for reading, but that no segment is made.
-fn verify_counted<S: Source>(
+/// Whether the image has a segment that is opened for reading. None is made.
+fn examine_counted<S: Source>(
     alloc: Global,
     reader: &mut Counted<S>,
     room: u64,
-) -> Result<(), SessionFault>
+) -> Result<(), Unfit>
     requires fresh { S.history reader.old.inner ≡ nothing_given }
     requires few { room ≤ 1073741824 }
-    ensures { VerifiesIn (given_since nothing_given (S.history reader.new.inner)) result }
+    ensures { ExaminesIn (given_since nothing_given (S.history reader.new.inner)) result }
 {
     let region = match region_for(alloc, room) {
         Ok(region) => region,
-        Err(refusal) => return Err(SessionFault::OutOfMemory(MemoryFault::Bytes(refusal))),
+        Err(refusal) => {
+            let why = SessionFault::OutOfMemory(MemoryFault::Bytes(refusal));
+            return Err(Unfit::Fault(why));
+        }
     };
-    match verify(alloc, reader, region, 0, &mut Steps::new()) {
+    match examine(alloc, reader, region, 0, &mut Steps::new()) {
         Ok(_) => Ok(()),
         Err(refused) => match refused.cause {
-            OpenError::RegionTooSmall => Err(told_by_length(reader, room)),
-            _ => Err(SessionFault::from(refused)),
+            ExamineError::Image(verdict) => Err(Unfit::Image(verdict)),
+            ExamineError::RegionTooSmall => Err(unfit_by_length(reader, room)),
+            ExamineError::OutOfMemory(refusal) => {
+                let why = SessionFault::OutOfMemory(MemoryFault::BlockMap(refusal));
+                Err(Unfit::Fault(why))
+            }
+            ExamineError::ReadFault => Err(Unfit::Fault(SessionFault::ReadFault)),
         },
     }
 }
@@ -155,16 +180,12 @@ pub(crate) fn begin_any_from<S: Source>(
 
 /// Whether the image of a reader has a segment, read to the front of a region with room for so many bytes, and the
 /// reader.
-pub(crate) fn verify_from<S: Source>(
-    alloc: Global,
-    reader: S,
-    room: u64,
-) -> (Result<(), SessionFault>, S)
+pub(crate) fn examine_from<S: Source>(alloc: Global, reader: S, room: u64) -> (Result<(), Unfit>, S)
     requires fresh { S.history reader ≡ nothing_given }
     requires few { room ≤ 1073741824 }
-    ensures { VerifiesIn (given_since nothing_given (S.history result.1)) result.0 }
+    ensures { ExaminesIn (given_since nothing_given (S.history result.1)) result.0 }
 {
     let mut counted = Counted::new(reader);
-    let verified = verify_counted(alloc, &mut counted, room);
-    (verified, counted.into_inner())
+    let examined = examine_counted(alloc, &mut counted, room);
+    (examined, counted.into_inner())
 }

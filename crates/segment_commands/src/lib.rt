@@ -8,7 +8,6 @@ mod creating;
 mod cutting;
 mod explaining;
 mod gathering;
-mod keeping;
 mod linting;
 mod loading;
 mod migrating;

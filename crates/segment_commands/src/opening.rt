@@ -3,9 +3,11 @@ ghost use Rattle.std.specs.Prelude.{◌≡◌, ◌^◌, ◌-◌, ◌<◌, Err, I
 ghost use Rattle.raw_region.specs.Device.{given_since};
 ghost use Rattle.segment_cli.specs.declared.faults.SessionFault.TheVariants.{RegionTooSmall};
 ghost use Rattle.segment_cli.specs.Session.{IsTooSmall};
+ghost use Rattle.segment_commands.specs.Explaining.{ExaminesFile};
 ghost use Rattle.segment_commands.specs.Opening.{BeginsIn, OpensFile, RefusesNoOther, VerifiesFile};
 
-use crate::cutting::{begin_from, verify_from};
+use crate::cutting::{begin_from, examine_from};
+use crate::explaining::Unfit;
 use grow_shrink::region_for;
 use image_check::MemoryFault;
 use raw_region::Source;
@@ -57,6 +59,19 @@ pub(crate) fn open_segment<D: Disk>(
 }
 
 /// Whether the image in a file has a segment. None is made, and the file is closed.
+pub(crate) fn examine_segment<D: Disk>(alloc: Global, disk: &mut D, path: &str) -> Result<(), Unfit>
+    ensures { ExaminesFile D.step disk.old disk.new path.now result }
+{
+    let Ok(opened) = disk.open(path) else {
+        return Err(Unfit::Fault(SessionFault::ReadFault));
+    };
+    let Opened { reader, len, front } = opened;
+    let (examined, reader) = examine_from(alloc, reader, room_needed(len, &front, 0));
+    disk.close(reader);
+    examined
+}
+
+/// The same without the place that shows why there is none.
 pub(crate) fn verify_segment<D: Disk>(
     alloc: Global,
     disk: &mut D,
@@ -64,11 +79,8 @@ pub(crate) fn verify_segment<D: Disk>(
 ) -> Result<(), SessionFault>
     ensures { VerifiesFile D.step disk.old disk.new path.now result }
 {
-    let Ok(opened) = disk.open(path) else {
-        return Err(SessionFault::ReadFault);
-    };
-    let Opened { reader, len, front } = opened;
-    let (verified, reader) = verify_from(alloc, reader, room_needed(len, &front, 0));
-    disk.close(reader);
-    verified
+    match examine_segment(alloc, disk, path) {
+        Ok(()) => Ok(()),
+        Err(unfit) => Err(unfit.into_fault()),
+    }
 }

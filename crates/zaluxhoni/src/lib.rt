@@ -10,7 +10,7 @@
 //! |---|---|---|
 //! | `construct`, `find_or_construct`, and those of a `ScalarValue` | a count from 1 to 1048576 | `construct_array`, `find_or_construct_array` |
 //! | what takes a [`Destination`] that says a kind | it is the kind of what is made | a [`Name`], [`UniqueInstance`], [`AnonymousInstance`] |
-//! | `create`, `relocate`, [`open`], [`verify`], [`open_bytes`], [`open_any`] | a base that is a multiple of 16 | |
+//! | `create`, `relocate`, [`open`], [`verify`], [`examine`], [`open_bytes`], [`open_any`] | a base that is a multiple of 16 | |
 //!
 //! The layers below a segment ([`Heap`], [`SegVec`], [`Window`], [`RawRegion`]) are for types of one's own, and want to
 //! be told what lies where.
@@ -26,7 +26,8 @@ pub use best_fit::{Heap, NoSpace};
 pub use block_tags::Role;
 pub use grow_shrink::{GrowError, grow, shrink_to_fit};
 pub use image_check::{
-    ImageClass, MemoryFault, NoMemory, OpenError, OpenRefused, open, open_any, open_bytes, verify,
+    ExamineError, ExamineRefused, ImageClass, MemoryFault, NoMemory, OpenError, OpenRefused,
+    Verdict, examine, open, open_any, open_bytes, verify,
 };
 pub use naming::named;
 pub use raw_region::stream::{Reading, Writing};

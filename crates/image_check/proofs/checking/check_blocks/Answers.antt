@@ -1,31 +1,44 @@
 -- The first pass that fails has its class, and all passes together spend what each may.
-use Rattle.std.proofs.Common.{◌≡◌, refl, sym, ap, ◌∙◌}
-use Rattle.std.specs.Prelude.{Option, Some, OnOk, Result, Ok, Err}
-use Rattle.image_check.specs.declared.classes.ImageClass.{ImageClass}
+use Rattle.std.proofs.Common.{◌≡◌, refl, true}
+use Rattle.std.specs.Prelude.{not}
+use Rattle.raw_region.specs.Memory.{bytes_of}
+use Rattle.image_check.specs.Containers.{has_container}
+use Rattle.image_check.specs.Fields.{counted_fields, is_left, is_orphaned}
+use Rattle.image_check.specs.IndexPlaces.{IsWrongIndex}
+use Rattle.image_check.specs.ObjectPlaces.{IsFirstTile, IsFirstWrongTile, IsWrongObject}
+use Rattle.image_check.specs.OwnerPlaces.{IsSharedAt}
+use Rattle.image_check.specs.Passes.{tiles_in}
 use Rattle.image_check.specs.Visits.{both, index_rates, object_rates, sharing_rates, container_rates, orphan_rates}
 use Rattle.image_check.proofs.Budget.{spend-both, spend-less}
-use Rattle.image_check.proofs.Checked.{late-index, late-object, late-shared, late-container, late-orphans}
+use Rattle.image_check.proofs.Checked.{blocks-class, frame-tiles, late-index, late-object, late-shared, late-container, late-none, late-orphan, of-tiles}
+use Rattle.image_check.proofs.Following.{of-err, of-ok}
 use Rattle.image_check.proofs.checking.check_blocks.Goals as goal
 
--- what holds always holds where a pass went well
-on-ok : {A E : Type 0} (r : Result A E) (P : Type 0) → P → OnOk r P
-on-ok (Ok x) P p = p
-on-ok (Err e) P p = tt
+pub check_indexes-requires-clause-tiles : goal.check_indexes-requires-clause-tiles
+check_indexes-requires-clause-tiles c = frame-tiles c.args.format c.args.window.now.bytes c.requires.frame
 
-some : (c k : ImageClass) (o : Option ImageClass) → o ≡ Some k → c ≡ k → o ≡ Some c
-some c k o e f = e ∙ ap (λ (x : ImageClass). Some x) (sym f)
+pub check_objects-requires-clause-tiles : goal.check_objects-requires-clause-tiles
+check_objects-requires-clause-tiles c = frame-tiles c.args.format c.args.window.now.bytes c.requires.frame
 
 pub check_objects-requires-clause-rows : goal.check_objects-requires-clause-rows
 check_objects-requires-clause-rows c = c.in_default.ensures.unmarked.frame
 
 pub check_sharing-requires : goal.check_sharing-requires
-check_sharing-requires c = (c.requires.tiles, (refl, (c.in_default-check_objects.ensures.finds, (c.in_default.ensures.unmarked, (c.in_default.ensures.pending, c.in_default.ensures.waiting)))))
+check_sharing-requires c = (frame-tiles c.args.format c.args.window.now.bytes c.requires.frame, (refl, (c.in_default-check_objects.ensures.finds, (c.in_default.ensures.unmarked, (c.in_default.ensures.pending, c.in_default.ensures.waiting)))))
+
+pub check_containers-requires-clause-tiles : goal.check_containers-requires-clause-tiles
+check_containers-requires-clause-tiles c = frame-tiles c.args.format c.args.window.now.bytes c.requires.frame
 
 pub check_containers-requires-clause-whole : goal.check_containers-requires-clause-whole
 check_containers-requires-clause-whole c = c.in_default-check_sharing.ensures.whole
 
 pub returns-in-Err-clause-finds : goal.returns-in-Err-clause-finds
-returns-in-Err-clause-finds c = some c.in-Err.class _ _ (late-index c.args.format c.args.window.now.bytes c.in-Err.ensures.finds.1) c.in-Err.ensures.finds.0
+returns-in-Err-clause-finds c =
+    let b = c.args.window.now.bytes in
+    let e = c.in-Err.ensures.finds in (
+      blocks-class c.args.format b c.requires.frame _ (late-index c.args.format b e.0),
+      of-tiles c.args.format b c.requires.frame (λ ts. IsWrongIndex (bytes_of b) ts c.in-Err.place) e.1,
+    )
 
 pub returns-in-Err-clause-visits : goal.returns-in-Err-clause-visits
 returns-in-Err-clause-visits c =
@@ -33,8 +46,11 @@ returns-in-Err-clause-visits c =
 
 pub returns-in-Err-check_objects-clause-finds : goal.returns-in-Err-check_objects-clause-finds
 returns-in-Err-check_objects-clause-finds c =
-    let e = c.in-Err-check_objects.ensures.finds in
-    some c.in-Err-check_objects.class _ _ (late-object c.args.format c.args.window.now.bytes c.in_default.ensures.finds e.1) e.0
+    let b = c.args.window.now.bytes in
+    let e = c.in-Err-check_objects.ensures.finds in (
+      blocks-class c.args.format b c.requires.frame _ (late-object c.args.format b c.in_default.ensures.finds e.0),
+      of-tiles c.args.format b c.requires.frame (λ ts. IsWrongObject c.args.format (bytes_of b) ts c.in-Err-check_objects.place) e.1,
+    )
 
 pub returns-in-Err-check_objects-clause-visits : goal.returns-in-Err-check_objects-clause-visits
 returns-in-Err-check_objects-clause-visits c =
@@ -44,8 +60,11 @@ returns-in-Err-check_objects-clause-visits c =
 
 pub returns-in-Err-check_sharing-clause-finds : goal.returns-in-Err-check_sharing-clause-finds
 returns-in-Err-check_sharing-clause-finds c =
-    let e = c.in-Err-check_sharing.ensures.finds in
-    some c.in-Err-check_sharing.class _ _ (late-shared c.args.format c.args.window.now.bytes c.in_default.ensures.finds c.in_default-check_objects.ensures.finds e.1) e.0
+    let b = c.args.window.now.bytes in
+    let e = c.in-Err-check_sharing.ensures.finds in (
+      blocks-class c.args.format b c.requires.frame _ (late-shared c.args.format b c.in_default.ensures.finds c.in_default-check_objects.ensures.finds e.0),
+      of-tiles c.args.format b c.requires.frame (λ ts. IsSharedAt c.args.format (bytes_of b) ts c.in-Err-check_sharing.place) e.1,
+    )
 
 pub returns-in-Err-check_sharing-clause-visits : goal.returns-in-Err-check_sharing-clause-visits
 returns-in-Err-check_sharing-clause-visits c =
@@ -56,9 +75,21 @@ returns-in-Err-check_sharing-clause-visits c =
 
 pub returns-in-Err-check_containers-clause-finds : goal.returns-in-Err-check_containers-clause-finds
 returns-in-Err-check_containers-clause-finds c =
-    let e = c.in-Err-check_containers.ensures.class in
-    some c.in-Err-check_containers.class _ _
-    (late-container c.args.format c.args.window.now.bytes c.in_default.ensures.finds c.in_default-check_objects.ensures.finds c.in_default-check_sharing.ensures.finds e.1) e.0
+    let b = c.args.window.now.bytes in
+    let e = c.in-Err-check_containers.ensures.finds in (
+      blocks-class c.args.format b c.requires.frame _
+          (late-container c.args.format b c.in_default.ensures.finds c.in_default-check_objects.ensures.finds c.in_default-check_sharing.ensures.finds e.0),
+      of-tiles c.args.format b c.requires.frame (λ ts. IsFirstWrongTile (has_container c.args.format (bytes_of b) ts) ts c.in-Err-check_containers.place) e.1,
+    )
+
+pub returns-in-Err-check_orphans-clause-finds : goal.returns-in-Err-check_orphans-clause-finds
+returns-in-Err-check_orphans-clause-finds c =
+    let b = c.args.window.now.bytes in
+    let e = of-err (λ done. not (is_orphaned c.args.format (bytes_of b) (tiles_in b)) ≡ true) _ c.check_orphans.result c.in-Err-check_orphans.place c.in-Err-check_orphans.is (c.check_orphans.ensures.finds c.args.format c.args.window.now (frame-tiles c.args.format b c.requires.frame) c.in_default-check_sharing.ensures.whole) in (
+      blocks-class c.args.format b c.requires.frame _
+          (late-orphan c.args.format b c.in_default.ensures.finds c.in_default-check_objects.ensures.finds c.in_default-check_sharing.ensures.finds c.in_default-check_containers.ensures.finds e.0),
+      of-tiles c.args.format b c.requires.frame (λ ts. IsFirstTile (is_left (counted_fields c.args.format (bytes_of b) ts)) ts c.in-Err-check_orphans.place) e.1,
+    )
 
 pub returns-in-Err-check_containers-clause-visits : goal.returns-in-Err-check_containers-clause-visits
 returns-in-Err-check_containers-clause-visits c =
@@ -70,10 +101,10 @@ returns-in-Err-check_containers-clause-visits c =
 
 pub returns-clause-finds : goal.returns-clause-finds
 returns-clause-finds c =
-    late-orphans c.args.format c.args.window.now.bytes c.in_default.ensures.finds c.in_default-check_objects.ensures.finds c.in_default-check_sharing.ensures.finds
-    c.in_default-check_containers.ensures.class c.check_orphans.result
-    (c.check_orphans.ensures.finds c.args.format c.args.window.now.bytes c.requires.tiles
-    c.in_default-check_sharing.ensures.whole)
+    let b = c.args.window.now.bytes in
+    let o = of-ok (λ done. not (is_orphaned c.args.format (bytes_of b) (tiles_in b)) ≡ true) _ c.check_orphans.result _ c.in_default-check_orphans.is (c.check_orphans.ensures.finds c.args.format c.args.window.now (frame-tiles c.args.format b c.requires.frame) c.in_default-check_sharing.ensures.whole) in
+    blocks-class c.args.format b c.requires.frame _
+    (late-none c.args.format b c.in_default.ensures.finds c.in_default-check_objects.ensures.finds c.in_default-check_sharing.ensures.finds c.in_default-check_containers.ensures.finds o)
 
 pub returns-clause-visits : goal.returns-clause-visits
 returns-clause-visits c =
@@ -82,7 +113,16 @@ returns-clause-visits c =
     (spend-both b object_rates (both sharing_rates (both container_rates orphan_rates)) 10 42 _ _ _ c.in_default-check_objects.ensures.spends
     (spend-both b sharing_rates (both container_rates orphan_rates) 20 22 _ _ _ c.in_default-check_sharing.ensures.visits
     (spend-both b container_rates orphan_rates 20 2 _ _ _ c.in_default-check_containers.ensures.visits
-    (c.check_orphans.ensures.visits b c.requires.tiles c.in_default-check_sharing.ensures.whole.marking.frame))))
+    (c.check_orphans.ensures.visits b (frame-tiles c.args.format b c.requires.frame) c.in_default-check_sharing.ensures.whole.marking.frame))))
 
 pub returns-clause-frame : goal.returns-clause-frame
-returns-clause-frame c = on-ok c.check_orphans.result _ c.in_default-check_sharing.ensures.whole.marking.frame
+returns-clause-frame c = c.in_default-check_sharing.ensures.whole.marking.frame
+
+pub returns-in-Err-check_orphans-clause-visits : goal.returns-in-Err-check_orphans-clause-visits
+returns-in-Err-check_orphans-clause-visits c =
+    let b = c.args.window.now.bytes in
+    spend-both b index_rates (both object_rates (both sharing_rates (both container_rates orphan_rates))) 10 52 _ _ _ c.in_default.ensures.spends
+    (spend-both b object_rates (both sharing_rates (both container_rates orphan_rates)) 10 42 _ _ _ c.in_default-check_objects.ensures.spends
+    (spend-both b sharing_rates (both container_rates orphan_rates) 20 22 _ _ _ c.in_default-check_sharing.ensures.visits
+    (spend-both b container_rates orphan_rates 20 2 _ _ _ c.in_default-check_containers.ensures.visits
+    (c.check_orphans.ensures.visits b (frame-tiles c.args.format b c.requires.frame) c.in_default-check_sharing.ensures.whole.marking.frame))))

@@ -1,7 +1,10 @@
 -- Each row is a tile in use, and one visit more.
 use Rattle.std.proofs.Common.{arith}
+use Rattle.image_check.specs.Owners.{entries_of}
+use Rattle.image_check.specs.Passes.{tiles_in}
 use Rattle.image_check.proofs.Budget.{noted-raised}
-use Rattle.image_check.proofs.OwnedRows.{image-blocks, rows-count, rows-weigh}
+use Rattle.image_check.proofs.Gathered.{frame-AreBlocks, tags-blocks}
+use Rattle.image_check.proofs.OwnedRows.{rows-count, rows-weigh}
 use Rattle.image_check.proofs.checking.note_counted.Goals as goal
 
 pub returns-in-Ok-clause-answers : goal.returns-in-Ok-clause-answers
@@ -10,7 +13,7 @@ returns-in-Ok-clause-answers c =
     let p = c.in-Ok.ensures.passed in
     record {
       image = c.in-Ok.ensures.answers;
-      points = c.note_blocks.ensures.points b (image-blocks b c.in-Ok.owners.blocks.entries p.tiles p.frame);
+      points = c.note_blocks.ensures.points b (frame-AreBlocks (tiles_in b) c.in-Ok.owners.blocks.entries (entries_of (tiles_in b)) p.frame (tags-blocks b p.tiles));
     }
 
 pub returns-in-Ok-clause-visits : goal.returns-in-Ok-clause-visits

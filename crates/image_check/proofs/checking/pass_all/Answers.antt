@@ -1,7 +1,7 @@
 -- The frame, the blocks in use and their classes, one after another, and what each of them spends.
 use Rattle.image_check.proofs.Budget.{blocks-raised, blocks-spent, gathered-raised}
 use Rattle.image_check.proofs.Early.{frame-no_early_class}
-use Rattle.image_check.proofs.Checked.{no-memory-used, blocks-class, blocks-image, frame-tiles}
+use Rattle.image_check.proofs.Checked.{no-memory-used, blocks-image, frame-tiles}
 use Rattle.image_check.proofs.checking.pass_all.Goals as goal
 
 pub gather-requires : goal.gather-requires
@@ -24,12 +24,11 @@ returns-in-Err-gather-clause-visits c =
     (frame-tiles c.args.format c.args.window.now.bytes c.in-Ok.ensures.finds)
     c.in-Ok.ensures.visits c.in-Err-gather.ensures.visits
 
-pub check_blocks-requires-clause-tiles : goal.check_blocks-requires-clause-tiles
-check_blocks-requires-clause-tiles c = frame-tiles c.args.format c.args.window.now.bytes c.in-Ok.ensures.finds
+pub check_blocks-requires-clause-frame : goal.check_blocks-requires-clause-frame
+check_blocks-requires-clause-frame c = c.in-Ok.ensures.finds
 
 pub returns-in-Err-check_blocks-clause-answers : goal.returns-in-Err-check_blocks-clause-answers
-returns-in-Err-check_blocks-clause-answers c = blocks-class c.args.format c.args.window.now.bytes
-    c.in-Err-check_blocks.class c.in-Ok.ensures.finds c.in-Err-check_blocks.ensures.finds
+returns-in-Err-check_blocks-clause-answers c = c.in-Err-check_blocks.ensures.finds
 
 pub returns-in-Err-check_blocks-clause-visits : goal.returns-in-Err-check_blocks-clause-visits
 returns-in-Err-check_blocks-clause-visits c =
@@ -39,7 +38,7 @@ returns-in-Err-check_blocks-clause-visits c =
 
 pub returns-clause-answers : goal.returns-clause-answers
 returns-clause-answers c = blocks-image c.args.format c.args.window.now.bytes c.requires.format c.in-Ok.ensures.bytes
-    c.in-Ok.ensures.finds c.in_default.ensures.finds
+    c.in_default.ensures.finds
 
 pub returns-clause-visits : goal.returns-clause-visits
 returns-clause-visits c =

@@ -1,12 +1,13 @@
 -- Each turn of the walk passes one tile in use.
 use Rattle.std.proofs.Common.{◌≡◌, ◌∙◌, sym, arith}
 use Rattle.raw_region.specs.Memory.{bytes_of}
+use Rattle.image_check.specs.Containers.{has_container}
 use Rattle.image_check.specs.Owners.{frame_of}
 use Rattle.image_check.specs.Passes.{tiles_in}
-use Rattle.image_check.proofs.ContainerWalks.{IsHere, IsPaid, is-here, lies-same, paid-end, paid-gap, paid-more, paid-start, paid-stop, pays-same, ready-same, right-fails, test-same}
+use Rattle.image_check.proofs.ContainerWalks.{IsHere, IsPaid, is-here, lies-same, paid-end, paid-gap, paid-more, paid-start, paid-stop, pays-same, ready-same, test-same}
 use Rattle.image_check.proofs.CountedFields.{Mem-Contains}
 use Rattle.image_check.proofs.RowWalks.{RowAt, row-at, rows-end, rows-on, rows-start}
-use Rattle.image_check.proofs.WalkedTiles.{tags-IsTiled}
+use Rattle.image_check.proofs.WalkedTiles.{fails-there, tags-IsTiled}
 use Rattle.image_check.proofs.containers.are_right.Goals as goal
 use Rattle.image_check.proofs.containers.are_right.Goals.{After-tile_of-tile}
 
@@ -62,18 +63,16 @@ is_right_tile-requires-clause-ready c =
     (bytes_of b) (tiles_in b) c.args.blocks.now.entries
     (c.requires.ready (row k).here (Mem-Contains (tiles_in b) (row k).here (here k).mem))
 
-pub returns-then-not-is_right_tile-clause-value : goal.returns-then-not-is_right_tile-clause-value
-returns-then-not-is_right_tile-clause-value c =
-    let k = (goal.at.returns-then-not-is_right_tile-clause-value c).After-tile_of-tile in
+pub returns-then-not-is_right_tile-clause-finds : goal.returns-then-not-is_right_tile-clause-finds
+returns-then-not-is_right_tile-clause-finds c =
+    let k = (goal.at.returns-then-not-is_right_tile-clause-finds c).After-tile_of-tile in
     let w = c.args.window.now in
     let r = row k in
     let t = c.tile_of-tile.result in
-    let paid = pays-same t r.here (place k) (len k) (used k) _ _ _
-    (c.is_right_tile.ensures.visits c.rows.visits c.row-payload.ensures.visits) in
     let wrong = test-same r.here t (sym (place k)) (sym (len k)) (sym (used k)) c.args.format (bytes_of w.bytes)
     (tiles_in w.bytes) ∙ sym c.is_right_tile.ensures.value ∙ c.if-not-is_right_tile.true in
-    sym (right-fails c.args.format w c.args.blocks.now.entries c.args.visits.now c.rows.visits
-    c.is_right_tile.new.visits r.here r.at paid wrong)
+    fails-there w _ (has_container c.args.format (bytes_of w.bytes) (tiles_in w.bytes)) r.here c.row-payload.result.0 r.at
+    r.at.kept.right wrong r.place
 
 pub returns-then-not-is_right_tile-clause-least : goal.returns-then-not-is_right_tile-clause-least
 returns-then-not-is_right_tile-clause-least c =
@@ -110,13 +109,13 @@ rows-preserved c =
     (frame_of c.row-payload.result) r
     (paid-more c.args.format w es c.args.visits.now c.rows.visits c.is_right_tile.new.visits r.here r.at paid right)
 
-pub returns-clause-value : goal.returns-clause-value
-returns-clause-value c =
+pub returns-clause-finds : goal.returns-clause-finds
+returns-clause-finds c =
     let w = c.args.window.now in
     let es = c.args.blocks.now.entries in
     let all = rows-end w _ (paid-gap c.args.format w es c.args.visits.now c.rows.visits) es c.requires.rows
     c.rows.number c.rows.invariant (omega arith) in
-    sym all.right
+    all.right
 
 pub returns-clause-most : goal.returns-clause-most
 returns-clause-most c =

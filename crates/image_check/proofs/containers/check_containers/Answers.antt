@@ -1,4 +1,4 @@
-use Rattle.std.proofs.Common.{sym, ◌∙◌, arith, refl}
+use Rattle.std.proofs.Common.{◌∙◌, arith}
 use Rattle.raw_region.specs.Memory.{bytes_of}
 use Rattle.image_check.specs.Passes.{tiles_in}
 use Rattle.image_check.proofs.ContainerWalks.{containers-same, marked-followed, marked-ready}
@@ -24,25 +24,25 @@ are_right-requires-clause-few c =
     let few = few-blocks c.args.window.now.bytes c.args.owners.now.blocks.entries c.requires.tiles c.requires.whole.marking.frame in
     omega arith
 
-pub returns-then-are_right-clause-class : goal.returns-then-are_right-clause-class
-returns-then-are_right-clause-class c =
-    let b = c.args.window.now.bytes in
-    containers-same c.args.format (bytes_of b) (tiles_in b) ∙ (sym c.are_right.ensures.value ∙ c.if-are_right.true)
+pub returns-clause-finds : goal.returns-clause-finds
+returns-clause-finds c =
+    let b = c.args.window.now.bytes in containers-same c.args.format (bytes_of b) (tiles_in b) ∙ c.in_default.ensures.finds
 
-pub returns-else-are_right-clause-class : goal.returns-else-are_right-clause-class
-returns-else-are_right-clause-class c =
+pub returns-in-Err-clause-finds : goal.returns-in-Err-clause-finds
+returns-in-Err-clause-finds c =
     let b = c.args.window.now.bytes in
-    (refl, containers-same c.args.format (bytes_of b) (tiles_in b) ∙ (sym c.are_right.ensures.value ∙ c.if-are_right.false))
+    let e = c.in-Err.ensures.finds in
+    (containers-same c.args.format (bytes_of b) (tiles_in b) ∙ e.0, e.1)
 
-pub returns-then-are_right-clause-visits : goal.returns-then-are_right-clause-visits
-returns-then-are_right-clause-visits c =
+pub returns-clause-visits : goal.returns-clause-visits
+returns-clause-visits c =
     let blocks = blocks-weigh (tiles_in c.args.window.now.bytes) c.args.owners.now.blocks.entries c.requires.whole.marking.frame in
     let both = both-weigh (tiles_in c.args.window.now.bytes) in
     let most = c.are_right.ensures.most in
     (c.are_right.ensures.least, omega arith)
 
-pub returns-else-are_right-clause-visits : goal.returns-else-are_right-clause-visits
-returns-else-are_right-clause-visits c =
+pub returns-in-Err-clause-visits : goal.returns-in-Err-clause-visits
+returns-in-Err-clause-visits c =
     let blocks = blocks-weigh (tiles_in c.args.window.now.bytes) c.args.owners.now.blocks.entries c.requires.whole.marking.frame in
     let both = both-weigh (tiles_in c.args.window.now.bytes) in
     let most = c.are_right.ensures.most in

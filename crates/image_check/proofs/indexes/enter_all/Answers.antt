@@ -1,10 +1,13 @@
 -- Each turn passes one entry.
-use Rattle.std.proofs.Common.{◌≡◌, ◌+◌, ◌*◌, sym, ap, subst, ◌∙◌, ℕ, List, ◌++◌, ◌∷◌, [], arith}
+use Rattle.std.proofs.Common.{◌≡◌, ◌+◌, ◌*◌, sym, ap, subst, ◌∙◌, ℕ, List, ◌++◌, ◌∷◌, [], arith, inl, inr, refl, true}
 use Rattle.std.specs.Prelude.{Option}
 use Rattle.std.proofs.lemmas.List.FromFn.{map-range_with_len_more}
 use Rattle.raw_region.specs.Memory.{bytes_of}
 use Rattle.offset_link.specs.Link.{link_at}
 use Rattle.image_check.specs.Entered.{AreAdded, are_enterable, can_enter, links_in}
+use Rattle.image_check.specs.IndexPlaces.{first_targets, is_new}
+use Rattle.image_check.proofs.EntryPlaces.{entered-new, not-new}
+use Rattle.image_check.proofs.Numbered.{one-more}
 use Rattle.image_check.proofs.Ranges.{split}
 use Rattle.image_check.proofs.EntriesNoted.{one-entered, wrong-entry, targets_of}
 use Rattle.image_check.proofs.indexes.enter_all.Goals as goal
@@ -21,9 +24,19 @@ returns-then-not-enter-clause-entered c ts b =
     let f : ℕ → Option ℕ = λ i. link_at m (c.args.block + 8 * i) in
     let s = split f 0 c.entries.i c.args.count c.entries.i (omega arith) c.entries-test.true in
     let i = c.entries.invariant.entered ts b in
-    ap (are_enterable ts c.args.owners.now.blocks.entries) s.all
-    ∙ wrong-entry ts c.args.owners.now.blocks.entries c.entries.owners.blocks.entries c.args.root (links_in m c.args.block c.entries.i) i.1 (f c.entries.i) s.back
-    (ap (can_enter c.entries.owners.blocks.entries) (sym c.link-link.ensures.link) ∙ c.if-not-enter.ensures.entered)
+    let old = c.args.owners.now.blocks.entries in
+    let es = c.entries.owners.blocks.entries in
+    let front = links_in m c.args.block c.entries.i in
+    let wrong = ap (can_enter es) (sym c.link-link.ensures.link) ∙ c.if-not-enter.ensures.entered in (
+      ap (are_enterable ts old) s.all ∙ wrong-entry ts old es c.args.root front i.1 (f c.entries.i) s.back wrong,
+      λ earlier have. record {
+        number = c.entries.i;
+        inside = c.entries-test.true;
+        is = refl;
+        wrong = not-new ts old es c.args.root front i.1 earlier have (f c.entries.i) wrong;
+        first = c.entries.invariant.new ts b earlier have;
+      },
+    )
 
 pub entries-preserved : goal.entries-preserved
 entries-preserved c =
@@ -41,6 +54,14 @@ entries-preserved c =
           let here : front ++ c.link-link.result ∷ [] ≡ links_in m c.args.block (c.entries.i + 1) = ap (λ l. front ++ l ∷ []) c.link-link.ensures.link ∙ sym more in
           let r = one-entered ts old c.entries.owners.blocks.entries c.args.root (c.args.block + 8 * c.entries.i) front c.link-link.result i.1 i.0 new c.if-not-enter.ensures.entered in
           (ap (are_enterable ts old) (sym here) ∙ r.0, subst (λ (ls : List (Option ℕ)). AreAdded ts old new c.args.root (targets_of ls)) here r.1);
+      new = λ ts b earlier have i l.
+          let old = c.args.owners.now.blocks.entries in
+          let front : List (Option ℕ) = links_in m c.args.block c.entries.i in
+          let here = entered-new ts old c.entries.owners.blocks.entries c.args.root front (inv.entered ts b).1 earlier have c.enter.new.owners.blocks.entries (c.args.block + 8 * c.entries.i) c.link-link.result c.if-not-enter.ensures.entered in
+          elim (one-more i c.entries.i l) [
+            | inl k ↦ inv.new ts b earlier have i k
+            | inr k ↦ subst (λ j. is_new ts (earlier ++ first_targets m c.args.block j) (link_at m (c.args.block + 8 * j)) ≡ true) (sym k) (ap (is_new ts (earlier ++ targets_of front)) (sym c.link-link.ensures.link) ∙ here)
+          ];
       pending = cc;
       waiting = cc;
       more = omega arith;

@@ -1,9 +1,10 @@
 -- The entries lie in the tile of the index.
-use Rattle.std.proofs.Common.{◌+◌, ◌-◌, ◌*◌, ◌/◌, ◌≤◌, refl, sym, ◌∙◌, arith, length}
+use Rattle.std.proofs.Common.{◌+◌, ◌-◌, ◌*◌, ◌/◌, ◌≤◌, refl, sym, ◌∙◌, arith, inl, length}
 use Rattle.raw_region.specs.Memory.{bytes_of, word_at}
 use Rattle.block_tags.specs.declared.tile.Role.TheVariants.{Index}
 use Rattle.image_check.specs.Passes.{tiles_in}
 use Rattle.image_check.specs.Visits.{index_rates, weigh}
+use Rattle.image_check.proofs.EntryPlaces.{index-entered, wrong-head}
 use Rattle.image_check.proofs.IndexPlaces.{IsIndexRoom, rows, in-row, room-of, weigh-one}
 use Rattle.image_check.proofs.indexes.enter_index.Goals as goal
 use Rattle.image_check.proofs.indexes.enter_index.Goals.{In-Some}
@@ -11,7 +12,7 @@ use Rattle.image_check.proofs.indexes.enter_index.Goals.{In-Some}
 room : (c : In-Some) → IsIndexRoom (tiles_in c.args.window.now.bytes) c.in-Some.block (word_at (bytes_of c.args.window.now.bytes) (c.args.at + 8))
 room c =
     let w = c.args.window.now in
-    room-of (bytes_of w.bytes) (tiles_in w.bytes) c.args.at c.in-Some.block (sym c.has_places.ensures.is ∙ c.if-not-has_places.false) (sym c.header_link.ensures ∙ c.in-Some.is)
+    room-of (bytes_of w.bytes) (tiles_in w.bytes) c.args.at c.in-Some.block c.in_default.ensures.finds (sym c.header_link.ensures ∙ c.in-Some.is)
 
 pub enter_all-requires-clause-aligned : goal.enter_all-requires-clause-aligned
 enter_all-requires-clause-aligned c =
@@ -33,6 +34,18 @@ enter_all-requires-clause-inside c =
     let count = c.header_word.ensures in
     omega arith
 
+pub returns-in-Err-clause-entered : goal.returns-in-Err-clause-entered
+returns-in-Err-clause-entered c =
+    let w = c.args.window.now in
+    let e = c.in-Err.ensures.finds in
+    (wrong-head (bytes_of w.bytes) (tiles_in w.bytes) c.args.owners.now.blocks.entries c.args.at e.0, inl e.1)
+
+pub returns-in-Some-clause-entered : goal.returns-in-Some-clause-entered
+returns-in-Some-clause-entered c =
+    let w = c.args.window.now in
+    index-entered (bytes_of w.bytes) (tiles_in w.bytes) c.args.owners.now.blocks.entries c.args.at c.enter_all.new.owners.blocks.entries c.in-Some.block c.header_word.result c.enter_all.result
+    c.in_default.ensures.finds (sym c.header_link.ensures ∙ c.in-Some.is) c.header_word.ensures c.requires.earlier (c.enter_all.ensures.entered (tiles_in w.bytes) c.requires.blocks)
+
 pub returns-in-Some-clause-spends : goal.returns-in-Some-clause-spends
 returns-in-Some-clause-spends c =
     let w = c.args.window.now in
@@ -40,6 +53,6 @@ returns-in-Some-clause-spends c =
     let weight : 12 * (r.tile.len / 16) ≤ weigh index_rates (tiles_in w.bytes) = weigh-one index_rates (tiles_in w.bytes) r.tile Index r.mem r.use_of in
     let long = r.room in
     let count = c.header_word.ensures in
-    let a = c.has_places.ensures.spends in
+    let a = c.check_head.ensures.spends in
     let b = c.enter_all.ensures.spends in
     (omega arith, omega arith)

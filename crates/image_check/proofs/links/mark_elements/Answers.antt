@@ -19,7 +19,7 @@ returns-in-Err-clause-noted g c =
     let n = c.mark.new.owners in
     let at = c.args.array + 16 * c.elements.i in
     let start = c.requires.1.1.1.1 c.elements.i (omega arith) in
-    of-err (λ done. IsMarked g.format (bytes_of b) (tiles_in b) None Storage (owner at at) o.blocks.entries o.waiting n.blocks.entries n.pending n.waiting) (IsSharedIn g.format b) c.mark.result c.in-Err.class c.in-Err.is
+    of-err (λ done. IsMarked g.format (bytes_of b) (tiles_in b) None Storage (owner at at) o.blocks.entries o.waiting n.blocks.entries n.pending n.waiting) (IsSharedIn g.format b) c.mark.result c.in-Err.place c.in-Err.is
     (c.mark.ensures.marked g.format (bytes_of b) (tiles_in b) None c.elements.invariant.done.grown.marking c.link-target.ensures.link start.1 (inl (start.0, refl)))
 
 pub elements-preserved : goal.elements-preserved

@@ -68,7 +68,7 @@ returns-in-Err-clause-turn g c =
     let r = its-root g.format b o.blocks.entries o.pending o.waiting c.requires.1.0 c.args.node c.requires.1.1 c.block_of-block.result c.root_in-root.result c.block_of-block.ensures.value c.root_in-root.ensures in
     let first = c.mark.ensures.marked g.format (bytes_of b) (tiles_in b) (Some c.args.node) k c.links-children.ensures.left (left-counts g.format (bytes_of b) (tiles_in b) o.blocks.entries o.pending o.waiting c.requires.1.0 c.args.node c.requires.1.1)
     (left-rooted g.format (bytes_of b) (tiles_in b) o.blocks.entries o.pending o.waiting c.requires.1.0 c.args.node c.requires.1.1 c.root_in-root.result r) in
-    of-err (λ done. IsMarked g.format (bytes_of b) (tiles_in b) (Some c.args.node) Node (owner c.args.node c.root_in-root.result) o.blocks.entries (o.waiting - 1) c.mark.new.owners.blocks.entries c.mark.new.owners.pending c.mark.new.owners.waiting) (IsSharedIn g.format b) c.mark.result c.in-Err.class c.in-Err.is first
+    of-err (λ done. IsMarked g.format (bytes_of b) (tiles_in b) (Some c.args.node) Node (owner c.args.node c.root_in-root.result) o.blocks.entries (o.waiting - 1) c.mark.new.owners.blocks.entries c.mark.new.owners.pending c.mark.new.owners.waiting) (IsSharedIn g.format b) c.mark.result c.in-Err.place c.in-Err.is first
 
 pub returns-in-Ok-clause-turn : goal.returns-in-Ok-clause-turn
 returns-in-Ok-clause-turn g c =

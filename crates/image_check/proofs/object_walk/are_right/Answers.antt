@@ -1,5 +1,5 @@
 -- Each turn of the walk passes one tile in use.
-use Rattle.std.proofs.Common.{◌≡◌, ◌+◌, ◌-◌, ◌*◌, ◌/◌, ◌≤◌, refl, sym, ap, ◌∙◌, ℕ, true, false, inl, List, ◌∷◌, ◌++◌, length, arith}
+use Rattle.std.proofs.Common.{◌≡◌, ◌+◌, ◌-◌, ◌*◌, ◌/◌, ◌≤◌, refl, sym, ap, ◌∙◌, ℕ, true, inl, List, ◌∷◌, ◌++◌, length, arith}
 use Rattle.std.specs.Prelude.{None}
 use Rattle.std.specs.List.{list_all}
 use Rattle.std.proofs.lemmas.Bool.{cond-false}
@@ -15,7 +15,7 @@ use Rattle.image_check.specs.Visits.{rate_of, weigh}
 use Rattle.image_check.proofs.IndexPlaces.{InRow, in-row}
 use Rattle.image_check.proofs.Members.{mem_right}
 use Rattle.image_check.proofs.RowWalks.{PassesGaps, RowAt, free-object, recoloured, row-at, rows-end, rows-on, rows-start}
-use Rattle.image_check.proofs.WalkedTiles.{all-fails, all-more, tags-IsTiled}
+use Rattle.image_check.proofs.WalkedTiles.{all-more, fails-there, tags-IsTiled}
 use Rattle.image_check.proofs.Weights.{weigh-more, weigh-front}
 use Rattle.image_check.proofs.object_walk.are_right.Goals as goal
 use Rattle.image_check.proofs.object_walk.are_right.Goals.{After-row-payload}
@@ -90,20 +90,17 @@ is_right-requires-clause-within c =
     let there = c.tile_of-tile.ensures.place in
     omega arith
 
-pub returns-then-not-is_right-clause-is : goal.returns-then-not-is_right-clause-is
-returns-then-not-is_right-clause-is c =
+pub returns-then-not-is_right-clause-finds : goal.returns-then-not-is_right-clause-finds
+returns-then-not-is_right-clause-finds c =
     let w = c.args.window.now in
     let m = bytes_of w.bytes in
-    let test = is_right_tile c.args.format m in
-    let r = row (goal.at.returns-then-not-is_right-clause-is c).After-row-payload in
+    let r = row (goal.at.returns-then-not-is_right-clause-finds c).After-row-payload in
     let t = c.tile_of-tile.result in
     let at = r.place in
     let there = c.tile_of-tile.ensures.place in
     let wrong = right-same c.args.format m r.here t (omega arith) (r.len ∙ sym c.tile_of-tile.ensures.len)
     (r.use_of ∙ sym c.tile_of-tile.ensures.used) ∙ sym c.is_right.ensures.is ∙ c.if-not-is_right.true in
-    let all : list_all test (r.at.front ++ r.here ∷ r.at.back) ≡ false = all-fails test r.at.front r.here r.at.back
-    wrong in
-    sym (ap (list_all test) (tiles_are_read_off w (r.at.front ++ r.here ∷ r.at.back) r.at.said) ∙ all)
+    fails-there w _ (is_right_tile c.args.format m) r.here c.row-payload.result.0 r.at r.at.kept.0 wrong at
 
 pub returns-then-not-is_right-clause-spends : goal.returns-then-not-is_right-clause-spends
 returns-then-not-is_right-clause-spends c =
@@ -137,13 +134,13 @@ rows-preserved c =
     (Kept c.args.format w c.args.visits.now c.is_right.new.visits) c.rows.number (frame_of c.row-payload.result) r
     (all-more (is_right_tile c.args.format m) r.at.front r.here r.at.kept.0 right, omega arith, omega arith)
 
-pub returns-clause-is : goal.returns-clause-is
-returns-clause-is c =
+pub returns-clause-finds : goal.returns-clause-finds
+returns-clause-finds c =
     let w = c.args.window.now in
     let all = rows-end w (Kept c.args.format w c.args.visits.now c.rows.visits)
     (gaps c.args.format w c.args.visits.now c.rows.visits) c.args.blocks.now.entries c.requires.rows c.rows.number
     c.rows.invariant (omega arith) in
-    sym all.0
+    all.0
 
 pub returns-clause-spends : goal.returns-clause-spends
 returns-clause-spends c =

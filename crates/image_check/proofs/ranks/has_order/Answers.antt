@@ -6,6 +6,7 @@ use Rattle.block_tags.specs.declared.tile.Role.TheVariants.{Index}
 use Rattle.image_check.specs.Passes.{tiles_in}
 use Rattle.image_check.specs.ObjectPasses.{entry_rates}
 use Rattle.image_check.specs.Visits.{weigh}
+use Rattle.image_check.proofs.EntryPlaces.{order-found}
 use Rattle.image_check.proofs.IndexOrdered.{index-room, entry-some, entry-among}
 use Rattle.image_check.proofs.IndexPlaces.{IsIndexRoom, rows, in-row, weigh-one}
 use Rattle.image_check.proofs.ranks.has_order.Goals as goal
@@ -46,6 +47,11 @@ pub rise-requires-clause-heads : goal.rise-requires-clause-heads
 rise-requires-clause-heads c i n l e =
     let b = c.args.window.now.bytes in
     c.requires.heads n (entry-among (bytes_of b) (tiles_in b) c.args.at c.in-Some.block c.requires.index (leads (goal.at.rise-requires-clause-heads c).In-Some) i n (omega arith) e)
+
+pub returns-in-Some-clause-finds : goal.returns-in-Some-clause-finds
+returns-in-Some-clause-finds c =
+    order-found (bytes_of c.args.window.now.bytes) c.args.class c.args.at c.in-Some.block c.header_word.result c.rise.result
+    (leads (goal.at.returns-in-Some-clause-finds c).In-Some) c.header_word.ensures c.rise.ensures.finds
 
 pub returns-in-Some-clause-spends : goal.returns-in-Some-clause-spends
 returns-in-Some-clause-spends c =

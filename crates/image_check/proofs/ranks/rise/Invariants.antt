@@ -1,8 +1,8 @@
 use Rattle.std.proofs.Common.{◌≡◌, ℕ, ◌+◌, ◌-◌, ◌*◌, ◌≤◌, true, length, Some}
-use Rattle.std.specs.Prelude.{flat_map, option_to_list}
 use Rattle.raw_region.specs.Memory.{bytes_of}
 use Rattle.seg_index.specs.Keys.{name_len_at}
-use Rattle.image_check.specs.Entered.{links_in}
+use Rattle.image_check.specs.IndexPlaces.{first_targets}
+use Rattle.image_check.specs.ObjectPlaces.{link_before}
 use Rattle.image_check.specs.ObjectPasses.{are_ranked}
 use Rattle.image_check.proofs.Ranked.{last_of}
 use Rattle.image_check.proofs.ranks.rise.Given as goal
@@ -11,8 +11,9 @@ use Rattle.image_check.proofs.ranks.rise.Given as goal
 abbrev pub invariant-entries : goal.invariant-entries
 invariant-entries l = record {
   within : l.i ≤ l.count;
-  ranked : are_ranked l.class (bytes_of l.window.bytes) (flat_map option_to_list (links_in (bytes_of l.window.bytes) l.block l.i)) ≡ true;
-  last : l.last ≡ last_of (flat_map option_to_list (links_in (bytes_of l.window.bytes) l.block l.i));
+  ranked : are_ranked l.class (bytes_of l.window.bytes) (first_targets (bytes_of l.window.bytes) l.block l.i) ≡ true;
+  last : l.last ≡ last_of (first_targets (bytes_of l.window.bytes) l.block l.i);
+  behind : l.last ≡ link_before (bytes_of l.window.bytes) l.block l.i;
   head : (g : ℕ) → l.last ≡ Some g → g + 16 + name_len_at (bytes_of l.window.bytes) g ≤ length l.window.bytes;
   more : l.fn.visits ≤ l.visits;
   most : l.visits ≤ l.fn.visits + 3 * l.i;

@@ -1,9 +1,14 @@
-use Rattle.std.proofs.Common.{◌≡◌, ℕ, ◌≤◌, length, take, drop, sym, ap, ◌∙◌, arith}
+use Rattle.std.proofs.Common.{◌≡◌, ℕ, ◌≤◌, ◌++◌, length, take, drop, sym, ap, subst, ◌∙◌, arith}
+use Rattle.std.proofs.lemmas.List.{length-append, length-drop}
+use Rattle.raw_region.proofs.Laws.{added, both_added}
+use Rattle.image_check.specs.Causes.{error_for}
+use Rattle.image_check.specs.Verdicts.{Shows}
 use Rattle.std.proofs.lemmas.Result.{err_from_is_err_and}
 use Rattle.image_check.specs.Formats.{format_in}
 use Rattle.image_check.specs.Reading.{front_of}
 use Rattle.image_check.proofs.Stopping.{front_stops, wrong_front_stops, wrong_front_decides}
 use Rattle.image_check.proofs.ReadFormats.{since-format}
+use Rattle.image_check.proofs.ToldPlaces.{end-shown, front-shown}
 use Rattle.image_check.proofs.reading.read_front.Goals as goal
 
 pub returns-in_err-read_all-clause-err : goal.returns-in_err-read_all-clause-err
@@ -13,7 +18,7 @@ returns-in_err-read_all-clause-err g c =
     let old = (g.S.Source.history c.args.reader.now).bytes in
     let new = (g.S.Source.history c.read_all.new.reader).bytes in
     rw (p.1, p.2)
-    (front_stops (format_in c.args.versions (drop (length old) new)) old new c.read_all.new.into _ _ _ c.args.base _ c.in_err-read_all.field-0.0
+    (front_stops (format_in c.args.versions (drop (length old) new)) old new c.read_all.new.into _ _ _ c.args.base _ (error_for c.in_err-read_all.field-0.0)
     (let same = c.read_all.auto.into in let told = c.told-front in omega arith) was.err.0 was.err.1 was.counted)
 
 pub returns-in_err-read_all-in-Err-clause-err : goal.returns-in_err-read_all-in-Err-clause-err
@@ -30,7 +35,7 @@ returns-in_err-read_all-in-Err-clause-err g c =
     let by = since-format c.args.versions old mid new front (take was.err.0.count c.read_all-in-Err.new.into) enough ok.ok was.err.0.added in
     rw (p.1, p.2)
     (wrong_front_stops (format_in c.args.versions (drop (length old) new)) old mid new front c.read_all-in-Err.new.into
-    _ _ _ c.args.base _ c.in-Err.class c.in_err-read_all-in-Err.field-0.0 long c.read_all-in-Err.auto.into ok.ok (ap (λ (f : ℕ). front_of f front) by ∙ sym c.in-Err.ensures) was.err.0 was.err.1
+    _ _ _ c.args.base _ c.in-Err.verdict.class (error_for c.in_err-read_all-in-Err.field-0.0) long c.read_all-in-Err.auto.into ok.ok (ap (λ (f : ℕ). front_of f front) by ∙ sym c.in-Err.ensures.says) was.err.0 was.err.1
     (let first = ok.counted in let next = was.counted in omega arith))
 
 pub returns-in_ok-read_all-in-Err-clause-err : goal.returns-in_ok-read_all-in-Err-clause-err
@@ -45,5 +50,47 @@ returns-in_ok-read_all-in-Err-clause-err g c =
     let enough : 12 ≤ length front = omega arith in
     let by = since-format c.args.versions old mid new front c.read_all-in-Err.new.into enough ok.ok was.ok in
     wrong_front_decides (format_in c.args.versions (drop (length old) new)) old mid new front c.read_all-in-Err.new.into
-    _ _ _ c.args.base _ c.in-Err.class long c.read_all-in-Err.auto.into ok.ok (ap (λ (f : ℕ). front_of f front) by ∙ sym c.in-Err.ensures) was.ok
+    _ _ _ c.args.base _ c.in-Err.verdict.class long c.read_all-in-Err.auto.into ok.ok (ap (λ (f : ℕ). front_of f front) by ∙ sym c.in-Err.ensures.says) was.ok
     (let first = ok.counted in let next = was.counted in omega arith)
+
+-- ---- the places
+
+pub returns-in_err-read_all-clause-shown : goal.returns-in_err-read_all-clause-shown
+returns-in_err-read_all-clause-shown g c =
+    let p = err_from_is_err_and c.from_residual.result c.from_residual.ensures.1 in
+    let was = c.in_err-read_all.ensures in
+    let old = (g.S.Source.history c.args.reader.now).bytes in
+    let new = (g.S.Source.history c.read_all.new.reader).bytes in
+    let left = length-drop (length old) new in
+    rw (p.1, p.2)
+    (end-shown (format_in c.args.versions (drop (length old) new)) (drop (length old) new) _ c.in_err-read_all.field-0.0 (omega arith) was.shown)
+
+pub returns-in_err-read_all-in-Err-clause-shown : goal.returns-in_err-read_all-in-Err-clause-shown
+returns-in_err-read_all-in-Err-clause-shown g c =
+    let p = err_from_is_err_and c.from_residual-in_err-read_all-in-Err.result c.from_residual-in_err-read_all-in-Err.ensures.1 in
+    let ok = c.in_ok-read_all.ensures in
+    let was = c.in_err-read_all-in-Err.ensures in
+    let old = (g.S.Source.history c.args.reader.now).bytes in
+    let mid = (g.S.Source.history c.read_all.new.reader).bytes in
+    let new = (g.S.Source.history c.read_all-in-Err.new.reader).bytes in
+    let front = c.read_all.new.into in
+    let long : length front ≡ 24 = let same = c.read_all.auto.into in let told = c.told-front in omega arith in
+    let left = length-drop (length old) new in
+    let first = ap length ok.ok ∙ length-append old front in
+    let next = ap length was.err.0.added ∙ length-append mid (take was.err.0.count c.read_all-in-Err.new.into) in
+    rw (p.1, p.2)
+    (end-shown (format_in c.args.versions (drop (length old) new)) (drop (length old) new) _ c.in_err-read_all-in-Err.field-0.0 (omega arith) was.shown)
+
+pub returns-in_ok-read_all-in-Err-clause-shown : goal.returns-in_ok-read_all-in-Err-clause-shown
+returns-in_ok-read_all-in-Err-clause-shown g c =
+    let ok = c.in_ok-read_all.ensures in
+    let was = c.in_ok-read_all-in-Err.ensures in
+    let old = (g.S.Source.history c.args.reader.now).bytes in
+    let mid = (g.S.Source.history c.read_all.new.reader).bytes in
+    let new = (g.S.Source.history c.read_all-in-Err.new.reader).bytes in
+    let front = c.read_all.new.into in
+    let long : length front ≡ 24 = let same = c.read_all.auto.into in let told = c.told-front in omega arith in
+    let f = format_in c.args.versions (drop (length old) new) in
+    let v = c.in-Err.verdict in
+    let said = added old new (front ++ c.read_all-in-Err.new.into) (both_added old mid new front c.read_all-in-Err.new.into ok.ok was.ok) in
+    subst (λ b. Shows f b v.class v.place) (sym said) (front-shown f front c.read_all-in-Err.new.into (omega arith) v.class v.place c.in-Err.ensures.shown)

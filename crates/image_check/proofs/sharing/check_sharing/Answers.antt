@@ -13,16 +13,16 @@ pub returns-in-Err-clause-finds : goal.returns-in-Err-clause-finds
 returns-in-Err-clause-finds g c =
     let b = c.args.window.now.bytes in
     let m = c.mark_indexes.new.owners in
-    let e = of-err (λ x. AreIndexesNoted g.said b m.blocks.entries m.pending m.waiting) (IsSharedIn g.said b) c.mark_indexes.result c.in-Err.class c.in-Err.is c.mark_indexes.ensures.noted in
-    (e.0, some-shared-in g.said b c.requires.0 e.1)
+    let e = of-err (λ x. AreIndexesNoted g.said b m.blocks.entries m.pending m.waiting) (IsSharedIn g.said b) c.mark_indexes.result c.in-Err.place c.in-Err.is c.mark_indexes.ensures.noted in
+    (some-shared-in g.said b _ c.requires.0 e, e)
 
 pub returns-in-Err-mark_values-clause-finds : goal.returns-in-Err-mark_values-clause-finds
 returns-in-Err-mark_values-clause-finds g c =
     let b = c.args.window.now.bytes in
     let m = c.mark_indexes.new.owners in
     let n = c.mark_values.new.owners in
-    let e = of-err (λ x. AreValuesNoted g.said b m.blocks.entries n.blocks.entries n.pending n.waiting) (IsSharedIn g.said b) c.mark_values.result c.in-Err-mark_values.class c.in-Err-mark_values.is c.mark_values.ensures.noted in
-    (e.0, some-shared-in g.said b c.requires.0 e.1)
+    let e = of-err (λ x. AreValuesNoted g.said b m.blocks.entries n.blocks.entries n.pending n.waiting) (IsSharedIn g.said b) c.mark_values.result c.in-Err-mark_values.place c.in-Err-mark_values.is c.mark_values.ensures.noted in
+    (some-shared-in g.said b _ c.requires.0 e, e)
 
 pub returns-in-Err-mark_values-clause-visits : goal.returns-in-Err-mark_values-clause-visits
 returns-in-Err-mark_values-clause-visits g c =
@@ -36,7 +36,7 @@ returns-in-Err-mark_values-clause-visits g c =
     let d = c.mark_indexes.ensures.visits.1 in
     let lo = c.mark_values.ensures.visits.0 in
     let hi = of-err (λ x. c.mark_values.new.visits + (6 * n.waiting + debt n.blocks.entries) ≤ c.mark_indexes.new.visits + (6 * m.waiting + debt m.blocks.entries + weigh value_rates (tiles_in b)))
-    (λ x. c.mark_values.new.visits ≤ c.mark_indexes.new.visits + (6 * m.waiting + debt m.blocks.entries + weigh value_rates (tiles_in b))) c.mark_values.result c.in-Err-mark_values.class c.in-Err-mark_values.is c.mark_values.ensures.visits.1 in
+    (λ x. c.mark_values.new.visits ≤ c.mark_indexes.new.visits + (6 * m.waiting + debt m.blocks.entries + weigh value_rates (tiles_in b))) c.mark_values.result c.in-Err-mark_values.place c.in-Err-mark_values.is c.mark_values.ensures.visits.1 in
     (omega arith, omega arith)
 
 pub returns-clause-finds : goal.returns-clause-finds

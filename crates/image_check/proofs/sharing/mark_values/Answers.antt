@@ -86,7 +86,7 @@ returns-in-Err-clause-visits g c =
     let hi = of-err (λ x. c.mark_object.new.visits + (6 * n.waiting + debt n.blocks.entries) ≤ c.row-payload.new.visits
     + (6 * p.waiting + debt p.blocks.entries + object_cost t))
     (λ x. c.mark_object.new.visits ≤ c.row-payload.new.visits + (6 * p.waiting + debt p.blocks.entries + object_cost t))
-    c.mark_object.result c.in-Err.class c.in-Err.is c.mark_object.ensures.visits.1 in
+    c.mark_object.result c.in-Err.place c.in-Err.is c.mark_object.ensures.visits.1 in
     noting-refused g.said w r.here c.requires.0 c.requires.1.1.0 o.blocks.entries due c.args.visits.now p.blocks.entries
     p.pending p.waiting c.rows.visits r.at
     c.mark_object.new.visits (omega arith) (omega arith)

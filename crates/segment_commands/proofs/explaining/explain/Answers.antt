@@ -2,25 +2,23 @@ use Rattle.std.proofs.Common.{inl, inr, Ok, Err, refl, subst}
 use Rattle.segment_cli.specs.declared.faults.SessionFault.TheVariants.{WriteFault}
 use Rattle.segment_commands.specs.declared.program_faults.ProgramFault.TheVariants.{Session}
 use Rattle.segment_commands.specs.declared.explaining.Unfit.{Unfit}
-use Rattle.segment_commands.specs.Explaining.{ExplainsFile}
+use Rattle.segment_commands.specs.Explaining.{IsUnfitFile}
 use Rattle.segment_commands.proofs.explaining.explain.Goals as goal
 
-pub returns-in-Ok-tell_explanation : goal.returns-in-Ok-tell_explanation
-returns-in-Ok-tell_explanation g c = inr (inl (record {
-  class = c.in-Err-Image.class;
-  explanation = c.in-Err-Image.explanation;
-  why = subst (λ (u : Unfit). ExplainsFile g.D.Disk.step c.args.disk.now c.open_explained.new.disk c.args.path.now (Err u)) c.in-Err-Image.field-0-is c.in-Err-Image.ensures;
+pub returns-in-Ok-tell_verdict : goal.returns-in-Ok-tell_verdict
+returns-in-Ok-tell_verdict g c = inr (inl (record {
+  verdict = c.in-Err-Image.verdict;
+  why = subst (λ (u : Unfit). IsUnfitFile g.D.Disk.step c.args.disk.now c.examine_segment.new.disk c.args.path.now u) c.in-Err-Image.field-0-is c.in-Err-Image.ensures;
   said = Ok tt;
-  tells = c.in-Ok-tell_explanation.ensures;
+  tells = c.in-Ok-tell_verdict.ensures;
   answer = refl;
 }))
 
 pub returns-in-Err-Image : goal.returns-in-Err-Image
 returns-in-Err-Image g c = inr (inl (record {
-  class = c.in-Err-Image.class;
-  explanation = c.in-Err-Image.explanation;
-  why = subst (λ (u : Unfit). ExplainsFile g.D.Disk.step c.args.disk.now c.open_explained.new.disk c.args.path.now (Err u)) c.in-Err-Image.field-0-is c.in-Err-Image.ensures;
+  verdict = c.in-Err-Image.verdict;
+  why = subst (λ (u : Unfit). IsUnfitFile g.D.Disk.step c.args.disk.now c.examine_segment.new.disk c.args.path.now u) c.in-Err-Image.field-0-is c.in-Err-Image.ensures;
   said = Err (Session WriteFault);
-  tells = c.in-Err-tell_explanation.ensures;
+  tells = c.in-Err-tell_verdict.ensures;
   answer = refl;
 }))

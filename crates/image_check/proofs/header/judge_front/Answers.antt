@@ -1,0 +1,39 @@
+use Rattle.std.proofs.Common.{refl, sym, ap, ◌∙◌}
+use Rattle.std.proofs.lemmas.Bool.{ne_eqb}
+use Rattle.raw_region.specs.Memory.{bytes_of, word_at}
+use Rattle.segment_manager.specs.Denotes.{magic_number}
+use Rattle.block_tags.specs.Format.{is_legal_size}
+use Rattle.image_check.specs.Formats.{format_in}
+use Rattle.image_check.proofs.Fronts.{IsReadOf, front-version, front-size, front-right}
+use Rattle.image_check.proofs.ReadFormats.{other-format, taken-format}
+use Rattle.image_check.proofs.header.judge_front.Goals as goal
+
+pub other_place-place-requires-clause-other : goal.other_place-place-requires-clause-other
+other_place-place-requires-clause-other c =
+    ne_eqb (word_at (bytes_of c.args.front.now) 0) magic_number (λ e. c.if-word_in-ne-MAGIC.true (c.word_in.ensures ∙ e))
+
+pub returns-then-not-has-clause-says : goal.returns-then-not-has-clause-says
+returns-then-not-has-clause-says c =
+    let b = c.args.front.now in
+    front-version (format_in c.args.versions b) b c.word_in.result c.version_in.result c.requires c.word_in.ensures c.version_in.ensures
+    c.if-word_in-ne-MAGIC.false (other-format c.args.versions b c.version_in.result c.version_in.ensures (sym c.has.ensures ∙ c.if-not-has.true))
+
+pub returns-then-not-is_legal_size-clause-says : goal.returns-then-not-is_legal_size-clause-says
+returns-then-not-is_legal_size-clause-says c =
+    let b = c.args.front.now in
+    let r : IsReadOf b c.word_in.result c.version_in.result c.word_in-size.result =
+    record { long = c.requires; magic_is = c.word_in.ensures; version_is = c.version_in.ensures; size_is = c.word_in-size.ensures } in
+    front-size (format_in c.args.versions b) b _ _ _ r c.if-word_in-ne-MAGIC.false (taken-format c.args.versions b c.version_in.result c.version_in.ensures (sym c.has.ensures ∙ c.if-not-has.false))
+    (sym c.is_legal_size.ensures ∙ c.if-not-is_legal_size.true)
+
+pub returns-clause-says : goal.returns-clause-says
+returns-clause-says c =
+    let b = c.args.front.now in
+    let r : IsReadOf b c.word_in.result c.version_in.result c.word_in-size.result =
+    record { long = c.requires; magic_is = c.word_in.ensures; version_is = c.version_in.ensures; size_is = c.word_in-size.ensures } in
+    front-right (format_in c.args.versions b) b _ _ _ r c.if-word_in-ne-MAGIC.false (taken-format c.args.versions b c.version_in.result c.version_in.ensures (sym c.has.ensures ∙ c.if-not-has.false))
+    (sym c.is_legal_size.ensures ∙ c.if-not-is_legal_size.false)
+
+pub returns-then-not-is_legal_size-clause-shown : goal.returns-then-not-is_legal_size-clause-shown
+returns-then-not-is_legal_size-clause-shown c =
+    (refl, ap is_legal_size (sym c.word_in-size.ensures) ∙ sym c.is_legal_size.ensures ∙ c.if-not-is_legal_size.true)

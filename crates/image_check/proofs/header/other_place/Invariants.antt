@@ -1,0 +1,6 @@
+use Rattle.std.proofs.Common.{◌≡◌, ℕ, ◌<◌}
+use Rattle.std.specs.Prelude.{codes, slice_index}
+use Rattle.image_check.proofs.header.other_place.Given as goal
+
+abbrev pub invariant-bytes : goal.invariant-bytes
+invariant-bytes l = record { same : (i : ℕ) → i < l.at → slice_index l.front i ≡ slice_index (codes "MSEGFILE") i }

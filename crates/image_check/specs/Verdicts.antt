@@ -1,0 +1,48 @@
+-- The place in an image that shows why it is refused.
+use Rattle.std.specs.Prelude.{◌≡◌, ℕ, List, Some, None, Result, MatchResult, length, codes}
+use Rattle.raw_region.specs.Memory.{bytes_of}
+use Rattle.block_tags.specs.Tiles.{tiles_of}
+use Rattle.block_tags.specs.declared.tile.Tile.{Tile}
+use Rattle.image_check.specs.declared.classes.ImageClass.{ImageClass}
+use Rattle.image_check.specs.declared.classes.ImageClass.TheVariants.{Truncated, BadMagic, UnsupportedVersion, BadSize, BadReserved, BadTag, BadFreeTree, BadIndex, BadObject, SharedBlock, BadContainer, OrphanBlock}
+use Rattle.image_check.specs.declared.verdict.Verdict.{Verdict}
+use Rattle.image_check.specs.Classes.{class_of}
+use Rattle.image_check.specs.Containers.{has_container}
+use Rattle.image_check.specs.EarlyTests.{size_word}
+use Rattle.image_check.specs.Fields.{counted_fields, is_left}
+use Rattle.image_check.specs.HeaderPlaces.{IsFirstOther, IsFirstReserved, shown_size}
+use Rattle.image_check.specs.IndexPlaces.{IsWrongIndex}
+use Rattle.image_check.specs.ObjectPlaces.{IsFirstTile, IsFirstWrongTile, IsWrongObject}
+use Rattle.image_check.specs.OwnerPlaces.{IsSharedAt}
+use Rattle.image_check.specs.WrongTags.{StopsAt}
+
+-- the tiles that the tags say, by the size that the header says
+abbrev pub said_tiles : List ℕ → List Tile
+said_tiles b = tiles_of (bytes_of b) (size_word b)
+
+-- The place that shows a class that holds: the end of what is too short; the first byte that is not the magic's; the
+-- version; the size that is none, or else the first byte behind it; the first reserved byte that is not zero; the first
+-- tag that is wrong; the root link of the free tree; the word or entry of an index that is wrong; the first object that
+-- is wrong, or else the first entry of an index out of order; a link that leads where another does; the first object
+-- whose container is wrong; and the first block to which no link leads.
+abbrev pub Shows : ℕ → List ℕ → ImageClass → ℕ → Type 0
+Shows format b Truncated at = at ≡ length b
+Shows format b BadMagic at = IsFirstOther b (codes "MSEGFILE") at
+Shows format b UnsupportedVersion at = at ≡ 8
+Shows format b BadSize at = at ≡ shown_size b
+Shows format b BadReserved at = IsFirstReserved b at
+Shows format b BadTag at = StopsAt format (bytes_of b) (size_word b) at
+Shows format b BadFreeTree at = at ≡ 24
+Shows format b BadIndex at = IsWrongIndex (bytes_of b) (said_tiles b) at
+Shows format b BadObject at = IsWrongObject format (bytes_of b) (said_tiles b) at
+Shows format b SharedBlock at = IsSharedAt format (bytes_of b) (said_tiles b) at
+Shows format b BadContainer at = IsFirstWrongTile (has_container format (bytes_of b) (said_tiles b)) (said_tiles b) at
+Shows format b OrphanBlock at = IsFirstTile (is_left (counted_fields format (bytes_of b) (said_tiles b))) (said_tiles b) at
+
+-- the class of the bytes, and a place that shows it
+abbrev pub IsVerdict : ℕ → List ℕ → Verdict → Type 0
+IsVerdict format b v = (class_of format b ≡ Some v.class) × Shows format b v.class v.place
+
+-- a pass answers the verdict where a class holds
+abbrev pub Judges : {A : Type 0} → ℕ → List ℕ → Result A Verdict → Type 0
+Judges format b result = MatchResult result (λ done. class_of format b ≡ None) (IsVerdict format b)

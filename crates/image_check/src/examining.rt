@@ -1,0 +1,57 @@
+//! The check of an image that tells, where it is refused, also the byte that shows why.
+ghost use Rattle.std.specs.Prelude.{◌≡◌, ◌+◌, ◌-◌, ◌%◌, ◌^◌, ◌<◌, IfErr, OnOk, length, true};
+ghost use Rattle.raw_region.specs.Device.{Reads, given_since};
+ghost use Rattle.raw_region.specs.Format.{current};
+ghost use Rattle.image_check.specs.Causes.{error_for, opened_in};
+ghost use Rattle.image_check.specs.Examining.{Examines};
+ghost use Rattle.image_check.specs.Opening.{AsksToTheEnd, IsRaisedFor, cause_of, failed_reads};
+ghost use Rattle.image_check.specs.Opening.{is_late, size_or_least};
+ghost use Rattle.image_check.specs.Passes.{CountsTiles};
+
+use crate::checking::check;
+use crate::errors::ExamineRefused;
+use crate::reading::read_judged;
+use crate::versions::Versions;
+use raw_region::{RawRegion, Source, Steps};
+use segment_manager::layout::FORMAT;
+use std::alloc::Global;
+
+/// Reads an image into the region, from `base` on, which is a multiple of 16, and tells whether it denotes a directory.
+/// This is what [`verify`](crate::verify) does, but that a class comes with the place of the byte that shows it: for an
+/// image that ends too early its end, and else the first byte, or the first link, that is wrong by the rules of the
+/// class.
+///
+/// # Errors
+///
+/// Those of [`verify`](crate::verify), for the same reasons. The region comes back as it does there, and `steps` is
+/// raised as there.
+pub fn examine<S: Source>(
+    alloc: Global,
+    reader: &mut S,
+    region: RawRegion,
+    base: u64,
+    steps: &mut Steps,
+) -> Result<RawRegion, ExamineRefused>
+    requires aligned { base % 16 ≡ 0 }
+    requires reader { (S.history reader.old).failures < 2 ^ 64 - 1 }
+    ensures examines { Examines current (given_since (S.history reader.old) (S.history reader.new)) region base result }
+    ensures history { Reads (S.history reader.old) (S.history reader.new) (failed_reads (cause_of (opened_in result))) }
+    ensures ends { AsksToTheEnd (S.history reader.old) (S.history reader.new) }
+    ensures steps { IsRaisedFor (size_or_least (given_since (S.history reader.old) (S.history reader.new)).bytes) steps.old steps.new }
+    ensures tiles { OnOk result
+        (CountsTiles (given_since (S.history reader.old) (S.history reader.new)).bytes steps.old steps.new) }
+    ensures late { IfErr result (λ refused. is_late (error_for refused.cause) ≡ true
+        → CountsTiles (given_since (S.history reader.old) (S.history reader.new)).bytes steps.old steps.new) }
+{
+    let window = match read_judged(Versions::Current, reader, region, base) {
+        Ok(window) => window,
+        Err(refused) => return Err(refused),
+    };
+    match check(FORMAT, alloc, &window, steps) {
+        Ok(()) => Ok(window.into_region()),
+        Err(why) => Err(ExamineRefused {
+            region: window.into_region(),
+            cause: why.into_examined(),
+        }),
+    }
+}

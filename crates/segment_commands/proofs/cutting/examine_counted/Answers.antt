@@ -2,6 +2,7 @@ use Rattle.std.proofs.Common.{Ok, Err, length, refl, arith}
 use Rattle.raw_region.specs.Device.{given_since}
 use Rattle.raw_region.specs.Format.{current}
 use Rattle.image_check.specs.Examining.{Examines}
+use Rattle.image_check.specs.declared.errors.MemoryFault.TheVariants.{BlockMap}
 use Rattle.image_check.specs.declared.errors.ExamineError.TheVariants.{RegionTooSmall, OutOfMemory, ReadFault}
 use Rattle.segment_cli.specs.declared.faults.SessionFault.TheVariants.{OutOfMemory as NoMemory, ReadFault as NotRead}
 use Rattle.segment_disk.specs.Events.{nothing_given}
@@ -25,7 +26,7 @@ returns-in-Image g c =
 
 pub returns-in-RegionTooSmall : goal.returns-in-RegionTooSmall
 returns-in-RegionTooSmall g c =
-    let fresh = c.requires.fresh in let few = c.requires.few in let least = c.in-Ok.ensures in
+    let fresh = c.requires.fresh in let few = c.requires.few in let least = c.in-Ok.ensures.room in
     let mid = g.S.Source.history c.examine.new.reader.inner in
     let given = given_since nothing_given mid in
     let x : Examines current given c.in-Ok.region 0 (Err c.in-Err.refused) = rw fresh at c.in-Err.ensures.examines in
@@ -38,7 +39,7 @@ returns-in-OutOfMemory g c =
     let fresh = c.requires.fresh in
     let given = given_since nothing_given (g.S.Source.history c.examine.new.reader.inner) in
     let x : Examines current given c.in-Ok.region 0 (Err c.in-Err.refused) = rw fresh at c.in-Err.ensures.examines in
-    told_fault given c.in-Ok.region c.in-Err.refused x OutOfMemory NoMemory c.in-OutOfMemory.is refl (λ class e. cc)
+    told_fault given c.in-Ok.region c.in-Err.refused x (OutOfMemory c.in-OutOfMemory.refusal) (NoMemory (BlockMap c.in-OutOfMemory.refusal)) c.in-OutOfMemory.is refl (λ class e. cc)
 
 pub returns-in-ReadFault : goal.returns-in-ReadFault
 returns-in-ReadFault g c =

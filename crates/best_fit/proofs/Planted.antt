@@ -183,6 +183,7 @@ module _ (old mid new : Cut) (says : SaysHeap old (tiles_in old)) (empty : Regro
   rebuilt_heap = lays_out new says_new h.tree
 
   pub rebuilt : AreBytes old.bytes → AreBytes new.bytes → IsRebuilt current old new
+  unfolding current
   rebuilt small small' = record {
     live = subst (LaysOut current new.bytes) (regrown_live old new whole_change) rebuilt_heap;
     keeps = regrown_keeps old new says.said says_new.said whole_change;

@@ -10,9 +10,7 @@ ghost use Rattle.segment_commands.specs.Opening.{BeginsIn, EndsWithin, GoesBeyon
 use crate::counting::Counted;
 use crate::explaining::Unfit;
 use grow_shrink::region_for;
-use image_check::{
-    ExamineError, ImageClass, MemoryFault, OpenError, Verdict, examine, open_any,
-};
+use image_check::{ExamineError, ImageClass, MemoryFault, OpenError, Verdict, examine, open_any};
 use raw_region::{Source, Steps};
 use segment_cli::{SessionFault, Start, begin};
 use segment_manager::{Mode, Segment};

@@ -1,6 +1,7 @@
 -- Memory as contracts see it: the byte at each offset. A window and a list of bytes are both read in this way.
 use Rattle.std.specs.Prelude.{◌≡◌, ℕ, zero, suc, ◌+◌, ◌≤◌, ◌<◌, ◌⊎◌, Bool, List, [], ◌∷◌, ◌++◌, length, take, drop, slice_index, replicate}
-use Rattle.std.specs.Prelude.{list_all, nat_lt}
+use Rattle.std.specs.Prelude.{nat_lt}
+use Rattle.std.specs.List.{list_all}
 use Rattle.byteorder.specs.Endian.{little_number, little_bytes}
 
 -- the byte at each offset

@@ -7,9 +7,9 @@ ghost use Rattle.segment_disk.specs.Events.{nothing_taken};
 use raw_region::stream::{ReadOnce, Reading, Writing};
 use raw_region::{DeviceFault, Source};
 use segment_answers::{Lined, Numbered};
-use segment_cli::SessionFault;
+use segment_cli::{ProgramFault, SessionFault};
 use segment_commands::{
-    ProgramFault, check, create, draw, draw_page, dump, dump_capacities, dump_json, explain, grow,
+    CommandFault, check, create, draw, draw_page, dump, dump_capacities, dump_json, explain, grow,
     lint, load, load_over, migrate, names, print, print_language, report, report_file, shrink,
     stat,
 };
@@ -25,10 +25,14 @@ use std::io::{self, BufWriter, ErrorKind, IsTerminal, Read, Write};
 use std::process::ExitCode;
 
 /// Memory for reading the command line, or for the answers, was refused.
-const OUT_OF_MEMORY: ProgramFault = ProgramFault::Session(SessionFault::OutOfMemory);
+const OUT_OF_MEMORY: CommandFault = CommandFault::Program(ProgramFault::Session(
+    SessionFault::OutOfMemory,
+));
 
 /// Standard output failed.
-const WRITE_FAULT: ProgramFault = ProgramFault::Session(SessionFault::WriteFault);
+const WRITE_FAULT: CommandFault = CommandFault::Program(ProgramFault::Session(
+    SessionFault::WriteFault,
+));
 
 /// How many bytes of answers go out at once, at most.
 const PIECE: usize = 65536;
@@ -46,19 +50,19 @@ fn main(rt: HostRuntime) -> ExitCode {
 }
 
 /// Says what a fault is, and answers its status.
-fn tell(rt: &HostRuntime, fault: ProgramFault) -> u8 {
+fn tell(rt: &HostRuntime, fault: CommandFault) -> u8 {
     report(fault, &mut Writing::new(rt.stderr()))
 }
 
 /// Does what the program's own command line asks for, and answers the status.
-fn obey(rt: &HostRuntime) -> Result<u8, ProgramFault> {
+fn obey(rt: &HostRuntime) -> Result<u8, CommandFault> {
     let owned = words(rt)?;
     let words = borrowed(rt.alloc(), owned.as_slice()).map_err(|_| OUT_OF_MEMORY)?;
     match invocation(rt.alloc(), words.as_slice()) {
         Ok(asked) => perform(rt, &asked, is_verbose(words.as_slice())),
         Err(InvocationFault::Usage(wrong)) => {
             let _ = eprint!(rt; "{wrong}");
-            Err(ProgramFault::Usage)
+            Err(CommandFault::Program(ProgramFault::Usage))
         }
         Err(InvocationFault::OutOfMemory) => Err(OUT_OF_MEMORY),
     }
@@ -67,7 +71,7 @@ fn obey(rt: &HostRuntime) -> Result<u8, ProgramFault> {
 /// Does what the command line asks for, with the files of the system, standard input and standard output, and answers
 /// the status. Where a person reads standard error, or more is asked for, it is told behind the line of a fault why the
 /// system did not open or make the file, as far as it said so.
-fn perform(rt: &HostRuntime, asked: &Invocation<'_>, is_verbose: bool) -> Result<u8, ProgramFault> {
+fn perform(rt: &HostRuntime, asked: &Invocation<'_>, is_verbose: bool) -> Result<u8, CommandFault> {
     let Ok(buffer) = BufWriter::with_capacity(rt.alloc(), PIECE, io::writer(rt)) else {
         return Err(OUT_OF_MEMORY);
     };
@@ -97,7 +101,7 @@ fn check_all<W: Write>(
     is_quiet: bool,
     is_verbose: bool,
     out: &mut Outlet<W>,
-) -> Result<u8, ProgramFault>
+) -> Result<u8, CommandFault>
     requires { out.old.history ≡ nothing_taken }
 {
     let mut worst = 0;
@@ -164,7 +168,7 @@ fn command<W: Write + Drop>(
     asked: &Invocation<'_>,
     is_verbose: bool,
     out: Outlet<W>,
-) -> Result<u8, ProgramFault>
+) -> Result<u8, CommandFault>
     requires { out.history ≡ nothing_taken }
 {
     let alloc = rt.alloc();
@@ -273,7 +277,7 @@ fn answer<O: Lined + Drop>(
     run: Run<'_>,
     how: &Running<'_>,
     out: O,
-) -> Result<(), ProgramFault>
+) -> Result<(), CommandFault>
     requires { O.history out ≡ nothing_taken }
 {
     match &how.script {
@@ -283,7 +287,7 @@ fn answer<O: Lined + Drop>(
         }
         Script::File(path) => {
             let Ok(opened) = scripts.open(path) else {
-                return Err(ProgramFault::Session(SessionFault::ReadFault));
+                return Err(CommandFault::Program(ProgramFault::Session(SessionFault::ReadFault)));
             };
             let Opened { reader, len: _ } = opened;
             let mut script = reader;
@@ -305,7 +309,7 @@ fn answer_script<S: Source, O: Lined + Drop>(
     how: &Running<'_>,
     script: &mut S,
     out: O,
-) -> Result<(), ProgramFault>
+) -> Result<(), CommandFault>
     requires script { (S.history script.old).failures ≡ 0 }
     requires out { O.history out ≡ nothing_taken }
 {
@@ -324,7 +328,7 @@ fn answer_to<S: Source, O: Lined>(
     how: &Running<'_>,
     script: &mut S,
     out: &mut O,
-) -> Result<(), ProgramFault>
+) -> Result<(), CommandFault>
     requires script { (S.history script.old).failures ≡ 0 }
     requires out { O.history out.old ≡ nothing_taken }
 {
@@ -410,21 +414,23 @@ fn file_of<'a>(asked: &Invocation<'a>) -> Option<&'a str> {
 }
 
 /// Whether a fault can be one of the file.
-fn is_of_file(fault: ProgramFault) -> bool {
+fn is_of_file(fault: CommandFault) -> bool {
     matches!(
         fault,
-        ProgramFault::Session(SessionFault::ReadFault | SessionFault::WriteFault)
+        CommandFault::Program(ProgramFault::Session(
+            SessionFault::ReadFault | SessionFault::WriteFault
+        ))
     )
 }
 
 /// The words of the command line, the program's name first. Those that are no text are a wrong command line.
-fn words(rt: &HostRuntime) -> Result<Vec<String>, ProgramFault> {
+fn words(rt: &HostRuntime) -> Result<Vec<String>, CommandFault> {
     match std::env::args(rt) {
         Ok(words) => words.collect(rt.alloc()).map_err(|_| OUT_OF_MEMORY),
         Err(error) if error.kind() == ErrorKind::OutOfMemory => Err(OUT_OF_MEMORY),
         Err(_) => {
             let _ = eprintln!(rt; "error: the command line is no UTF-8");
-            Err(ProgramFault::Usage)
+            Err(CommandFault::Program(ProgramFault::Usage))
         }
     }
 }

@@ -10,4 +10,3 @@ mod Migrated
 mod Linted
 mod Loads
 mod Reported
-mod ReportedLines

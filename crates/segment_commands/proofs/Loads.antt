@@ -18,8 +18,8 @@ use Rattle.segment_dump.specs.Notes.{without_notes}
 use Rattle.segment_dump.specs.Succeeding.{Succeeds}
 use Rattle.segment_cli.specs.declared.faults.SessionFault.{SessionFault}
 use Rattle.segment_cli.specs.declared.faults.SessionFault.TheVariants.{Image as Refused, BadSize, RegionTooSmall, OutOfMemory, ReadFault, WriteFault, ScriptTooLong}
-use Rattle.segment_commands.specs.declared.program_faults.ProgramFault.{ProgramFault}
-use Rattle.segment_commands.specs.declared.program_faults.ProgramFault.TheVariants.{Session}
+use Rattle.segment_commands.specs.declared.command_faults.CommandFault.{CommandFault}
+use Rattle.segment_commands.specs.Faults.{Session}
 use Rattle.segment_commands.specs.Loading.{IsFitting, IsReadWhole, IsWanted, IsWhyUnread, LoadsDump, NeedsRoom, load_fault}
 
 -- ---- a segment of a text
@@ -77,7 +77,7 @@ module _ (text bare : List ℕ) (is : bare ≡ without_notes text) where
 
 -- ---- a dump that is read
 
-same-fault : (a b : ProgramFault) → ◌≡◌ {A = Result State ProgramFault} (Err a) (Err b) → a ≡ b
+same-fault : (a b : CommandFault) → ◌≡◌ {A = Result State CommandFault} (Err a) (Err b) → a ≡ b
 same-fault a b e = cc
 
 unread : (given : Given) (text : List ℕ) (fault : SessionFault) → IsWhyUnread given fault → IsReadWhole given text → fault ≡ OutOfMemory
@@ -90,7 +90,7 @@ unread given text WriteFault w r = absurd w
 unread given text ScriptTooLong w r = absurd (omega (arith, w.long, r.within, ap length r.bytes))
 
 -- where no segment is made of a dump that fits, memory is lacking
-pub unmade : (size : Option ℕ) (script script' : Gave) (fault : ProgramFault) (text : List ℕ) → LoadsDump size script script' (Err fault) → IsReadWhole (given_since script script') text → IsFitting text size → fault ≡ Session OutOfMemory
+pub unmade : (size : Option ℕ) (script script' : Gave) (fault : CommandFault) (text : List ℕ) → LoadsDump size script script' (Err fault) → IsReadWhole (given_since script script') text → IsFitting text size → fault ≡ Session OutOfMemory
 unmade size script script' fault text (inl u) r f = absurd (false≢true (sym u.illegal ∙ ap (λ o. is_legal_size (asked_of o f.said)) (sym u.asks) ∙ f.legal))
 unmade size script script' fault text (inr (inl u)) r f = same-fault fault (Session u.fault) u.refused ∙ ap Session (unread (given_since script script') text u.fault u.why r)
 unmade size script script' fault text (inr (inr u)) r f = u.makes (subst (λ t. IsFitting t size) (sym r.bytes ∙ u.read.bytes) f)

@@ -17,7 +17,7 @@ use Rattle.segment_file.specs.Files.{opens}
 use Rattle.segment_commands.specs.Opening.{BeginsIn, OpensFile}
 use Rattle.segment_commands.specs.Commands.{MakesSegment}
 use Rattle.segment_commands.specs.Running.{EndsRun, RunsFree, RunsOpened, RunsReadable, MakesRun}
-use Rattle.segment_commands.specs.declared.program_faults.ProgramFault.{ProgramFault}
+use Rattle.segment_commands.specs.declared.command_faults.CommandFault.{CommandFault}
 
 -- what is answered as a segment is answered as no fault
 no_fault : (s : State) (fault : SessionFault) → let answer : Result State SessionFault = Ok s in answer ≡ Err fault → ⊥
@@ -48,7 +48,7 @@ module _ {D O : Type 0} (step : D → Event → D → Type 0) (old read new : D)
     made_run (inr f) = fresh_run f.image f.begins
 
 module _ {D O : Type 0} (step : D → Event → D → Type 0) (old new : D) (path : List ℕ) (how : Making) (until : Until) (script script' : Gave) (history : O → Took) (flushes : Bool → Type 0) (out out' : O)
-    (result : Result (Unit {0}) ProgramFault) where
+    (result : Result (Unit {0}) CommandFault) where
   -- a run that does not save
   pub in_reading : (mode : Mode) → mode ≢ Write → RunsFree step old new path how until script script' history flushes out out' result mode
       → RunsReadable step old new path how until script script' history flushes out out' result mode

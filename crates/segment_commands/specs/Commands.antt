@@ -8,8 +8,8 @@ use Rattle.segment_manager.specs.State.{State}
 use Rattle.segment_cli.specs.declared.faults.SessionFault.{SessionFault}
 use Rattle.segment_cli.specs.declared.faults.SessionFault.TheVariants.{BadSize, OutOfMemory, WriteFault}
 use Rattle.segment_cli.specs.declared.faults.Start.TheVariants.{Fresh}
-use Rattle.segment_commands.specs.declared.program_faults.ProgramFault.{ProgramFault}
-use Rattle.segment_commands.specs.declared.program_faults.ProgramFault.TheVariants.{Exists, Session}
+use Rattle.segment_commands.specs.declared.command_faults.CommandFault.{CommandFault}
+use Rattle.segment_commands.specs.Faults.{Exists, Session}
 use Rattle.segment_disk.specs.declared.presence.Presence.{Presence}
 use Rattle.segment_disk.specs.declared.presence.Presence.TheVariants.{There}
 use Rattle.segment_disk.specs.declared.presence.Making.TheVariants.{New}
@@ -19,7 +19,7 @@ use Rattle.segment_commands.specs.Opening.{BeginsIn, OpensFile}
 use Rattle.segment_commands.specs.Telling.{Tells}
 
 -- a fault of the file's writer, or of the output, as the program answers it
-abbrev pub written_as : {E : Type 0} → Result (Unit {0}) E → Result (Unit {0}) ProgramFault
+abbrev pub written_as : {E : Type 0} → Result (Unit {0}) E → Result (Unit {0}) CommandFault
 written_as (Ok u) = Ok tt
 written_as (Err e) = Err (Session WriteFault)
 
@@ -42,12 +42,12 @@ MakesSegment size result = IsSizeless size result ⊎ IsFresh size result
 
 module _ {D : Type 0} (step : D → Event → D → Type 0) (old new : D) (path : List ℕ) where
   -- something is there under the path, and nothing else was asked
-  pub record IsTaken (result : Result (Unit {0}) ProgramFault) : Type 0 where
+  pub record IsTaken (result : Result (Unit {0}) CommandFault) : Type 0 where
     pub asked : After step old (Looked path There ∷ []) new
     pub refused : result ≡ Err Exists
 
   -- nothing is there, and no segment was made: nothing else was asked
-  pub record IsNotCreated (size : ℕ) (result : Result (Unit {0}) ProgramFault) : Type 0 where
+  pub record IsNotCreated (size : ℕ) (result : Result (Unit {0}) CommandFault) : Type 0 where
     pub found : Presence
     pub free : found ≢ There
     pub asked : After step old (Looked path found ∷ []) new
@@ -56,7 +56,7 @@ module _ {D : Type 0} (step : D → Event → D → Type 0) (old new : D) (path 
     pub refused : result ≡ Err (Session fault)
 
   -- nothing is there, and the image of an empty segment was written to a new file
-  pub record IsCreated (size : ℕ) (result : Result (Unit {0}) ProgramFault) : Type 0 where
+  pub record IsCreated (size : ℕ) (result : Result (Unit {0}) CommandFault) : Type 0 where
     pub found : Presence
     pub free : found ≢ There
     pub looked : D
@@ -64,35 +64,35 @@ module _ {D : Type 0} (step : D → Event → D → Type 0) (old new : D) (path 
     pub segment : State
     pub made : MakesSegment size (Ok segment)
     pub writes : WritesImage step looked new New path segment.cut.bytes result
-    pub answer : (fault : ProgramFault) → result ≡ Err fault → fault ≡ Session WriteFault
+    pub answer : (fault : CommandFault) → result ≡ Err fault → fault ≡ Session WriteFault
 
   -- `create`
-  abbrev pub IsCreate : ℕ → Result (Unit {0}) ProgramFault → Type 0
+  abbrev pub IsCreate : ℕ → Result (Unit {0}) CommandFault → Type 0
   IsCreate size result = IsTaken result ⊎ (IsNotCreated size result ⊎ IsCreated size result)
 
   -- ---- a file that is looked at
 
   -- the file has no segment, for this reason, and nothing was said
-  pub record IsUnfit {O : Type 0} (out out' : O) (result : Result (Unit {0}) ProgramFault) : Type 0 where
+  pub record IsUnfit {O : Type 0} (out out' : O) (result : Result (Unit {0}) CommandFault) : Type 0 where
     pub fault : SessionFault
     pub opens : OpensFile step old new path ReadOnly (Err fault)
     pub silent : out' ≡ out
     pub refused : result ≡ Err (Session fault)
 
   -- the file has a segment, and `ok` was said
-  pub record IsFit {O : Type 0} (history : O → Took) (flushes : O → Bool → O → Type 0) (out out' : O) (result : Result (Unit {0}) ProgramFault) : Type 0 where
+  pub record IsFit {O : Type 0} (history : O → Took) (flushes : O → Bool → O → Type 0) (out out' : O) (result : Result (Unit {0}) CommandFault) : Type 0 where
     pub segment : State
     pub opens : OpensFile step old new path ReadOnly (Ok segment)
     pub tells : Tells history flushes out out' (codes "ok\n") result
-    pub answer : (fault : ProgramFault) → result ≡ Err fault → fault ≡ Session WriteFault
+    pub answer : (fault : CommandFault) → result ≡ Err fault → fault ≡ Session WriteFault
 
   -- `check`: nothing is opened for writing
-  abbrev pub IsCheck : {O : Type 0} → (O → Took) → (O → Bool → O → Type 0) → O → O → Result (Unit {0}) ProgramFault → Type 0
+  abbrev pub IsCheck : {O : Type 0} → (O → Took) → (O → Bool → O → Type 0) → O → O → Result (Unit {0}) CommandFault → Type 0
   IsCheck history flushes out out' result = IsUnfit out out' result ⊎ IsFit history flushes out out' result
 
 -- ---- what the program says of itself
 
 -- the text was said
-pub record Prints {O : Type 0} (history : O → Took) (flushes : O → Bool → O → Type 0) (out out' : O) (text : List ℕ) (result : Result (Unit {0}) ProgramFault) : Type 0 where
+pub record Prints {O : Type 0} (history : O → Took) (flushes : O → Bool → O → Type 0) (out out' : O) (text : List ℕ) (result : Result (Unit {0}) CommandFault) : Type 0 where
   pub tells : Tells history flushes out out' text result
-  pub answer : (fault : ProgramFault) → result ≡ Err fault → fault ≡ Session WriteFault
+  pub answer : (fault : CommandFault) → result ≡ Err fault → fault ≡ Session WriteFault

@@ -14,8 +14,9 @@ use Rattle.segment_dump.specs.declared.faults.LoadError.{LoadError}
 use Rattle.segment_dump.specs.declared.faults.LoadError.TheVariants as load
 use Rattle.segment_cli.specs.declared.faults.SessionFault.{SessionFault}
 use Rattle.segment_cli.specs.declared.faults.SessionFault.TheVariants.{Image as Refused, BadSize, RegionTooSmall, OutOfMemory, ReadFault, WriteFault, ScriptTooLong}
-use Rattle.segment_commands.specs.declared.program_faults.ProgramFault.{ProgramFault}
-use Rattle.segment_commands.specs.declared.program_faults.ProgramFault.TheVariants.{Exists, BadDump, NoSpace, Session}
+use Rattle.segment_commands.specs.declared.command_faults.CommandFault.{CommandFault}
+use Rattle.segment_commands.specs.declared.command_faults.CommandFault.TheVariants.{BadDump, NoSpace}
+use Rattle.segment_commands.specs.Faults.{Exists, Session}
 use Rattle.segment_disk.specs.declared.presence.Presence.{Presence}
 use Rattle.segment_disk.specs.declared.presence.Presence.TheVariants.{There}
 use Rattle.segment_disk.specs.declared.presence.Making.TheVariants.{New}
@@ -53,7 +54,7 @@ IsWhyUnread given ScriptTooLong = IsTooLong given
 -- ---- a segment that is made of it, but for the notes at its end
 
 -- why a load is refused, as the program answers it; the room for a text is memory
-abbrev pub load_fault : ℕ → LoadError → ProgramFault
+abbrev pub load_fault : ℕ → LoadError → CommandFault
 load_fault needed (load.BadDump bad) = BadDump bad
 load_fault needed load.BadSize = Session BadSize
 load_fault needed load.RegionTooSmall = Session RegionTooSmall
@@ -70,7 +71,7 @@ HasRoomFor None region = ⊤
 HasRoomFor (Some size) region = min size 1073741824 ≤ length region
 
 -- a load in a region with room for the size, and with room for each text, was refused
-pub record IsLoadRefused (text : List ℕ) (size : Option ℕ) (fault : ProgramFault) : Type 0 where
+pub record IsLoadRefused (text : List ℕ) (size : Option ℕ) (fault : CommandFault) : Type 0 where
   pub region : List ℕ
   pub roomy : HasRoomFor size region
   pub room : ℕ
@@ -82,7 +83,7 @@ pub record IsLoadRefused (text : List ℕ) (size : Option ℕ) (fault : ProgramF
   pub fault_is : fault ≡ load_fault needed cause
 
 -- the text is the dump of the segment, or there is none: for a reason of the load, or since memory was refused
-abbrev pub LoadsSegment : List ℕ → Option ℕ → Result State ProgramFault → Type 0
+abbrev pub LoadsSegment : List ℕ → Option ℕ → Result State CommandFault → Type 0
 LoadsSegment text size result = MatchResult result (IsLoaded (without_notes text) size) (λ fault. IsLoadRefused text size fault ⊎ (fault ≡ Session OutOfMemory))
 
 -- as many bytes as are asked for, or else as the text says
@@ -101,7 +102,7 @@ pub record IsFitting (text : List ℕ) (size : Option ℕ) : Type 0 where
   pub room : (items_needs (portable directory)).room ≤ asked_of size said
 
 -- a segment is made, if memory is given
-abbrev pub IsMadeIfGiven : Result State ProgramFault → Type 0
+abbrev pub IsMadeIfGiven : Result State CommandFault → Type 0
 IsMadeIfGiven result = MatchResult result (λ segment. ⊤) (λ fault. fault ≡ Session OutOfMemory)
 
 -- a segment may have the size that was asked for, if one was
@@ -109,7 +110,7 @@ abbrev pub IsSizeFit : Option ℕ → Type 0
 IsSizeFit None = ⊤
 IsSizeFit (Some size) = is_legal_size size ≡ true
 
-module _ (size : Option ℕ) (script script' : Gave) (result : Result State ProgramFault) where
+module _ (size : Option ℕ) (script script' : Gave) (result : Result State CommandFault) where
   -- no segment has the size that was asked for, and nothing was read
   pub record IsSizeUnfit : Type 0 where
     pub asked : ℕ
@@ -138,7 +139,7 @@ module _ (size : Option ℕ) (script script' : Gave) (result : Result State Prog
 
 -- ---- `load`
 
-module _ {D : Type 0} (step : D → Event → D → Type 0) (old new : D) (path : List ℕ) (size : Option ℕ) (script script' : Gave) (result : Result (Unit {0}) ProgramFault) where
+module _ {D : Type 0} (step : D → Event → D → Type 0) (old new : D) (path : List ℕ) (size : Option ℕ) (script script' : Gave) (result : Result (Unit {0}) CommandFault) where
   -- something is there under the path, and nothing else was asked for
   pub record IsTakenLoad : Type 0 where
     pub asked : After step old (Looked path There ∷ []) new
@@ -150,7 +151,7 @@ module _ {D : Type 0} (step : D → Event → D → Type 0) (old new : D) (path 
     pub found : Presence
     pub free : found ≢ There
     pub asked : After step old (Looked path found ∷ []) new
-    pub fault : ProgramFault
+    pub fault : CommandFault
     pub why : LoadsDump size script script' (Err fault)
     pub refused : result ≡ Err fault
 
@@ -163,7 +164,7 @@ module _ {D : Type 0} (step : D → Event → D → Type 0) (old new : D) (path 
     pub segment : State
     pub made : LoadsDump size script script' (Ok segment)
     pub writes : WritesImage step looked new New path segment.cut.bytes result
-    pub answer : (fault : ProgramFault) → result ≡ Err fault → fault ≡ Session WriteFault
+    pub answer : (fault : CommandFault) → result ≡ Err fault → fault ≡ Session WriteFault
 
   abbrev pub IsLoad : Type 0
   IsLoad = IsTakenLoad ⊎ (IsNotLoadedTo ⊎ IsLoadedTo)

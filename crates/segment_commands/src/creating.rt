@@ -1,11 +1,11 @@
 //! The command that makes an empty segment in a file.
 ghost use Rattle.segment_commands.specs.Commands.{IsCreate, MakesSegment};
 
+use crate::command_faults::CommandFault;
 use crate::opening::begin_in;
-use crate::program_faults::ProgramFault;
 use block_tags::is_legal_size;
 use raw_region::stream::Reading;
-use segment_cli::{SessionFault, Start};
+use segment_cli::{ProgramFault, SessionFault, Start};
 use segment_disk::{Disk, Making, Presence};
 use segment_file::write_image;
 use segment_manager::{Mode, Segment};
@@ -35,11 +35,11 @@ pub fn create<D: Disk>(
     disk: &mut D,
     path: &str,
     size: u64,
-) -> Result<(), ProgramFault>
+) -> Result<(), CommandFault>
     ensures { IsCreate D.step disk.old disk.new path.now size result }
 {
     if disk.look(path) == Presence::There {
-        return Err(ProgramFault::Exists);
+        return Err(CommandFault::Program(ProgramFault::Exists));
     }
     let segment = new_segment(alloc, size)?;
     match write_image(disk, path, Making::New, &segment) {
@@ -49,4 +49,6 @@ pub fn create<D: Disk>(
 }
 
 /// A file or standard output can't be written.
-pub(crate) const WRITE_FAULT: ProgramFault = ProgramFault::Session(SessionFault::WriteFault);
+pub(crate) const WRITE_FAULT: CommandFault = CommandFault::Program(ProgramFault::Session(
+    SessionFault::WriteFault,
+));

@@ -4,13 +4,13 @@ ghost use Rattle.raw_region.specs.Device.{Writes};
 ghost use Rattle.segment_commands.specs.Explaining.{IsExplain, fault_for, verdict_text, words_of as words_for};
 ghost use Rattle.segment_commands.specs.Telling.{Tells};
 
+use crate::command_faults::CommandFault;
 use crate::creating::WRITE_FAULT;
 use crate::examining::examine_segment;
-use crate::program_faults::ProgramFault;
 use crate::telling::tell;
 use image_check::{ImageClass, Verdict};
 use raw_region::{DeviceFault, Sink};
-use segment_cli::SessionFault;
+use segment_cli::{ProgramFault, SessionFault};
 use segment_disk::{Disk, Output};
 use segment_lang::{Piece, put_pieces};
 use std::alloc::Global;
@@ -96,7 +96,7 @@ pub fn explain<D: Disk, O: Output>(
     disk: &mut D,
     path: &str,
     out: &mut O,
-) -> Result<(), ProgramFault>
+) -> Result<(), CommandFault>
     requires { (O.history out.old).failures < 2 ^ 64 - 1 }
     ensures { IsExplain D.step disk.old disk.new path.now O.history O.flushes out.old out.new result }
 {
@@ -106,9 +106,11 @@ pub fn explain<D: Disk, O: Output>(
             Err(_) => Err(WRITE_FAULT),
         },
         Err(Unfit::Image(verdict)) => match tell_verdict(out, verdict) {
-            Ok(()) => Err(ProgramFault::Session(SessionFault::Image(verdict.class))),
+            Ok(()) => Err(CommandFault::Program(ProgramFault::Session(SessionFault::Image(
+                verdict.class,
+            )))),
             Err(_) => Err(WRITE_FAULT),
         },
-        Err(Unfit::Fault(fault)) => Err(ProgramFault::Session(fault)),
+        Err(Unfit::Fault(fault)) => Err(CommandFault::Program(ProgramFault::Session(fault))),
     }
 }

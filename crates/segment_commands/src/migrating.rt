@@ -7,10 +7,10 @@ ghost use Rattle.segment_commands.specs.Holding.{Holds};
 ghost use Rattle.segment_commands.specs.Modes.{making_of};
 ghost use Rattle.segment_commands.specs.Migrating.{BeginsAny, IsMigrate, OpensAnyFile};
 
+use crate::command_faults::CommandFault;
 use crate::creating::WRITE_FAULT;
 use crate::heading::Headed;
 use crate::modes::making_for;
-use crate::program_faults::ProgramFault;
 use crate::reading_on::read_on;
 use crate::telling::tell;
 use grow_shrink::region_for;
@@ -96,7 +96,7 @@ fn migrate_held<D: Disk, O: Output>(
     path: &str,
     making: Making,
     out: &mut O,
-) -> Result<(), ProgramFault>
+) -> Result<(), CommandFault>
     requires { (O.history out.old).failures < 2 ^ 64 - 1 }
     ensures { IsMigrate D.step disk.old disk.new path.now making O.history O.flushes out.old out.new result }
 {
@@ -123,13 +123,13 @@ pub fn migrate<D: Disk, O: Output>(
     path: &str,
     saving: Saving,
     out: &mut O,
-) -> Result<(), ProgramFault>
+) -> Result<(), CommandFault>
     requires { (O.history out.old).failures < 2 ^ 64 - 1 }
     ensures { Holds D.step disk.old disk.new path.now (out.new ≡ out.old)
         (λ held done. IsMigrate D.step held done path.now (making_of saving) O.history O.flushes out.old out.new result) result }
 {
     let Ok(hold) = disk.hold(path) else {
-        return Err(ProgramFault::InUse);
+        return Err(CommandFault::InUse);
     };
     let answer = migrate_held(alloc, disk, path, making_for(saving), out);
     disk.release(hold);

@@ -4,38 +4,29 @@
 ghost use Rattle.std.specs.Prelude.{◌≡◌, ⊤};
 ghost use Rattle.segment_disk.specs.Events.{nothing_taken};
 
+mod requests;
+
 use raw_region::stream::{ReadOnce, Reading, Writing};
 use raw_region::{DeviceFault, Source};
+use requests::{NoMemory, asked, borrowed, buffered, words};
 use segment_answers::{Lined, Numbered};
 use segment_cli::{ProgramFault, SessionFault};
 use segment_commands::{
-    CommandFault, check, create, draw, draw_page, dump, dump_capacities, dump_json, explain, grow,
-    lint, load, load_over, migrate, names, print, print_language, report, report_file, shrink,
-    stat,
+    CommandFault, WRITE_FAULT, check, create, draw, draw_page, dump, dump_capacities, dump_json,
+    explain, grow, lint, load, load_over, migrate, names, print, print_language, report,
+    report_file, report_no_memory, shrink, stat,
 };
 use segment_disk::{Disk, HostDisk, Opened, Outlet, Output, Trouble};
 use segment_invocation::{
-    Invocation, InvocationFault, Keeping, ModeName, Running, Saving, Script, VERSION, invocation,
-    is_verbose, script_text,
+    Invocation, Keeping, ModeName, Running, Saving, Script, VERSION, is_verbose, script_text,
 };
 use segment_lang::{Piece, put_pieces};
 use segment_scripts::{Until, command_rows};
-use std::alloc::{AllocError, Global};
-use std::io::{self, BufWriter, ErrorKind, IsTerminal, Read, Write};
+use std::io::{self, IsTerminal, Read, Write};
 use std::process::ExitCode;
 
-/// Memory for reading the command line, or for the answers, was refused.
-const OUT_OF_MEMORY: CommandFault = CommandFault::Program(ProgramFault::Session(
-    SessionFault::OutOfMemory,
-));
-
-/// Standard output failed.
-const WRITE_FAULT: CommandFault = CommandFault::Program(ProgramFault::Session(
-    SessionFault::WriteFault,
-));
-
-/// How many bytes of answers go out at once, at most.
-const PIECE: usize = 65536;
+/// The command line is wrong.
+const USAGE: CommandFault = CommandFault::Program(ProgramFault::Usage);
 
 /// The status where the reader of standard output ended first, as of a program that SIGPIPE ends.
 const CLOSED_PIPE: u8 = 141;
@@ -44,7 +35,7 @@ const CLOSED_PIPE: u8 = 141;
 fn main(rt: HostRuntime) -> ExitCode {
     let status = match obey(&rt) {
         Ok(status) => status,
-        Err(fault) => tell(&rt, fault),
+        Err(_) => report_no_memory(&mut Writing::new(rt.stderr())),
     };
     ExitCode::from(status)
 }
@@ -54,27 +45,28 @@ fn tell(rt: &HostRuntime, fault: CommandFault) -> u8 {
     report(fault, &mut Writing::new(rt.stderr()))
 }
 
-/// Does what the program's own command line asks for, and answers the status.
-fn obey(rt: &HostRuntime) -> Result<u8, CommandFault> {
-    let owned = words(rt)?;
-    let words = borrowed(rt.alloc(), owned.as_slice()).map_err(|_| OUT_OF_MEMORY)?;
-    match invocation(rt.alloc(), words.as_slice()) {
+/// Does what the program's own command line asks for, and answers the status. Words that are no text are a wrong command
+/// line.
+fn obey(rt: &HostRuntime) -> Result<u8, NoMemory> {
+    let Some(owned) = words(rt)? else {
+        let _ = eprintln!(rt; "error: the command line is no UTF-8");
+        return Ok(tell(rt, USAGE));
+    };
+    let words = borrowed(rt.alloc(), owned.as_slice())?;
+    match asked(rt.alloc(), words.as_slice())? {
         Ok(asked) => perform(rt, &asked, is_verbose(words.as_slice())),
-        Err(InvocationFault::Usage(wrong)) => {
+        Err(wrong) => {
             let _ = eprint!(rt; "{wrong}");
-            Err(CommandFault::Program(ProgramFault::Usage))
+            Ok(tell(rt, USAGE))
         }
-        Err(InvocationFault::OutOfMemory) => Err(OUT_OF_MEMORY),
     }
 }
 
 /// Does what the command line asks for, with the files of the system, standard input and standard output, and answers
 /// the status. Where a person reads standard error, or more is asked for, it is told behind the line of a fault why the
 /// system did not open or make the file, as far as it said so.
-fn perform(rt: &HostRuntime, asked: &Invocation<'_>, is_verbose: bool) -> Result<u8, CommandFault> {
-    let Ok(buffer) = BufWriter::with_capacity(rt.alloc(), PIECE, io::writer(rt)) else {
-        return Err(OUT_OF_MEMORY);
-    };
+fn perform(rt: &HostRuntime, asked: &Invocation<'_>, is_verbose: bool) -> Result<u8, NoMemory> {
+    let buffer = buffered(rt.alloc(), io::writer(rt))?;
     let mut disk = HostDisk::patient(rt, seconds_of(asked));
     let mut scripts = HostDisk::new(rt);
     let out = Outlet::new(buffer);
@@ -294,7 +286,7 @@ fn answer<O: Lined + Drop>(
             answer_script(rt, disk, run, how, &mut script, out)
         }
         Script::Lines(lines) => {
-            let text = script_text(rt.alloc(), lines.as_slice()).map_err(|_| OUT_OF_MEMORY)?;
+            let text = script_text(rt.alloc(), lines.as_slice())?;
             let mut script = Reading::new(text.as_slice());
             answer_script(rt, disk, run, how, &mut script, out)
         }
@@ -421,21 +413,4 @@ fn is_of_file(fault: CommandFault) -> bool {
             SessionFault::ReadFault | SessionFault::WriteFault
         ))
     )
-}
-
-/// The words of the command line, the program's name first. Those that are no text are a wrong command line.
-fn words(rt: &HostRuntime) -> Result<Vec<String>, CommandFault> {
-    match std::env::args(rt) {
-        Ok(words) => words.collect(rt.alloc()).map_err(|_| OUT_OF_MEMORY),
-        Err(error) if error.kind() == ErrorKind::OutOfMemory => Err(OUT_OF_MEMORY),
-        Err(_) => {
-            let _ = eprintln!(rt; "error: the command line is no UTF-8");
-            Err(CommandFault::Program(ProgramFault::Usage))
-        }
-    }
-}
-
-/// The words as texts that are lent.
-fn borrowed<'a>(alloc: Global, words: &'a [String]) -> Result<Vec<&'a str>, AllocError> {
-    words.iter().map(|word| word.as_str()).collect(alloc)
 }

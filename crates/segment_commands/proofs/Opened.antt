@@ -39,13 +39,9 @@ module _ {D O : Type 0} (step : D → Event → D → Type 0) (old read new : D)
   module _ (size : ℕ)
       (ends : (start : Start) (m : Mode) (capacity : ℕ) (image : Given) → Starts start m 0 capacity image (Ok s) → EndsRun step old new New path
       (record { start = start; mode = m; capacity = capacity; image = image; until = until; script = given_since script script'; out = taken_since (history out) (history out') }) flushes result) where
-    fresh_run : (image : Given) → BeginsIn (Fresh size) Write image (Ok s) → MakesRun step old new path size until script script' history flushes out out' result
-    fresh_run image (inl r) = absurd (no_fault s _ r.refused)
-    fresh_run image (inr b) = inr (record { image = image; capacity = b.capacity; ends = ends (Fresh size) Write b.capacity image b.starts })
-
     pub made_run : MakesSegment size (Ok s) → MakesRun step old new path size until script script' history flushes out out' result
     made_run (inl w) = absurd (no_fault s _ w.refused)
-    made_run (inr f) = fresh_run f.image f.begins
+    made_run (inr f) = let a = f.answers in inr (record { image = a.image; capacity = a.capacity; ends = ends (Fresh size) Write a.capacity a.image a.starts })
 
 module _ {D O : Type 0} (step : D → Event → D → Type 0) (old new : D) (path : List ℕ) (how : Making) (until : Until) (script script' : Gave) (history : O → Took) (flushes : Bool → Type 0) (out out' : O)
     (result : Result (Unit {0}) CommandFault) where

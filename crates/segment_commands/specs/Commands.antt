@@ -1,21 +1,22 @@
 -- What the commands of the program do to a file: what the disk is asked, in order, what is said, and with which answer
 -- each ends.
-use Rattle.std.specs.Prelude.{◌≡◌, ◌≢◌, ◌⊎◌, ℕ, Bool, false, List, [], ◌∷◌, Result, Ok, Err, IfErr, IsTrue, codes}
+use Rattle.std.specs.Prelude.{◌≡◌, ◌≢◌, ◌⊎◌, ℕ, Bool, false, List, [], ◌∷◌, Result, Ok, Err, MatchResult, IsTrue, codes}
 use Rattle.block_tags.specs.Format.{is_legal_size}
 use Rattle.raw_region.specs.Device.{Given, Took}
 use Rattle.segment_manager.specs.declared.modes.Mode.TheVariants.{Write, ReadOnly}
 use Rattle.segment_manager.specs.State.{State}
 use Rattle.segment_cli.specs.declared.faults.SessionFault.{SessionFault}
-use Rattle.segment_cli.specs.declared.faults.SessionFault.TheVariants.{BadSize, OutOfMemory, WriteFault}
+use Rattle.segment_cli.specs.declared.faults.SessionFault.TheVariants.{BadSize, WriteFault}
 use Rattle.segment_cli.specs.declared.faults.Start.TheVariants.{Fresh}
+use Rattle.segment_cli.specs.Beginning.{Starts}
 use Rattle.segment_commands.specs.declared.command_faults.CommandFault.{CommandFault}
-use Rattle.segment_commands.specs.Faults.{Exists, Session}
+use Rattle.segment_commands.specs.Faults.{Exists, Session, region_refused}
 use Rattle.segment_disk.specs.declared.presence.Presence.{Presence}
 use Rattle.segment_disk.specs.declared.presence.Presence.TheVariants.{There}
 use Rattle.segment_disk.specs.declared.presence.Making.TheVariants.{New}
 use Rattle.segment_disk.specs.Events.{Event, Looked, After}
 use Rattle.segment_file.specs.Files.{WritesImage}
-use Rattle.segment_commands.specs.Opening.{BeginsIn, OpensFile}
+use Rattle.segment_commands.specs.Opening.{OpensFile}
 use Rattle.segment_commands.specs.Telling.{Tells}
 
 -- a fault of the file's writer, or of the output, as the program answers it
@@ -30,12 +31,16 @@ pub record IsSizeless (size : ℕ) (result : Result State SessionFault) : Type 0
   pub illegal : is_legal_size size ≡ false
   pub refused : result ≡ Err BadSize
 
--- an empty segment of the size begins, or memory for it was refused
+-- a session begins with an empty segment of the size, in a region of some capacity
+pub record IsFreshSegment (size : ℕ) (segment : State) : Type 0 where
+  pub image : Given
+  pub capacity : ℕ
+  pub starts : Starts (Fresh size) Write 0 capacity image (Ok segment)
+
+-- one is made, or a region with room for it was refused
 pub record IsFresh (size : ℕ) (result : Result State SessionFault) : Type 0 where
   pub legal : IsTrue (is_legal_size size)
-  pub image : Given
-  pub begins : BeginsIn (Fresh size) Write image result
-  pub memory : IfErr result (λ fault. fault ≡ OutOfMemory)
+  pub answers : MatchResult result (IsFreshSegment size) (λ fault. fault ≡ region_refused size)
 
 abbrev pub MakesSegment : ℕ → Result State SessionFault → Type 0
 MakesSegment size result = IsSizeless size result ⊎ IsFresh size result

@@ -8,6 +8,7 @@ use Rattle.image_check.specs.declared.classes.ImageClass.{ImageClass}
 use Rattle.image_check.specs.declared.classes.ImageClass.TheVariants.{Truncated, BadMagic, UnsupportedVersion, BadSize, BadReserved, BadTag, BadFreeTree, BadIndex, BadObject, SharedBlock, BadContainer, OrphanBlock}
 use Rattle.image_check.specs.declared.errors.ExamineError.{ExamineError}
 use Rattle.image_check.specs.declared.errors.ExamineError.TheVariants.{Image as Judged, RegionTooSmall as TooSmall, OutOfMemory as NoMemory, ReadFault as NotRead}
+use Rattle.image_check.specs.declared.errors.MemoryFault.TheVariants.{BlockMap}
 use Rattle.image_check.specs.declared.verdict.Verdict.{Verdict}
 use Rattle.image_check.specs.Verdicts.{IsVerdict}
 use Rattle.segment_cli.specs.declared.faults.SessionFault.{SessionFault}
@@ -61,7 +62,7 @@ IsToldOf b (Fault fault) = IsNoClass fault
 abbrev pub unfit_for : ExamineError → Unfit
 unfit_for (Judged v) = Image v
 unfit_for TooSmall = Fault RegionTooSmall
-unfit_for (NoMemory refusal) = Fault OutOfMemory
+unfit_for (NoMemory refusal) = Fault (OutOfMemory (BlockMap refusal))
 unfit_for NotRead = Fault ReadFault
 
 -- an image is checked: a session for reading would begin with its segment, or this is why it would not

@@ -1,6 +1,7 @@
 -- How a segment is made of a dump, in a file that is not there: what the disk is asked, in order, and how it ends.
 use Rattle.std.specs.Prelude.{◌≡◌, ◌≢◌, ◌⊎◌, ◌^◌, ◌<◌, ◌≤◌, ⊤, ℕ, true, false, List, [], ◌∷◌, Option, Some, None, Result, Ok, Err, MatchResult, length, min}
 use Rattle.raw_region.specs.Device.{Gave, Given, given_since}
+use Rattle.raw_region.specs.Refusals.{refusal_of}
 use Rattle.block_tags.specs.Format.{is_legal_size}
 use Rattle.segment_manager.specs.Directory.{Directory}
 use Rattle.segment_manager.specs.State.{State, StandsFor}
@@ -12,11 +13,12 @@ use Rattle.segment_dump.specs.Notes.{without_notes}
 use Rattle.segment_dump.specs.Texts.{dump_text}
 use Rattle.segment_dump.specs.declared.faults.LoadError.{LoadError}
 use Rattle.segment_dump.specs.declared.faults.LoadError.TheVariants as load
+use Rattle.image_check.specs.declared.errors.MemoryFault.TheVariants.{BlockMap, Bytes}
 use Rattle.segment_cli.specs.declared.faults.SessionFault.{SessionFault}
 use Rattle.segment_cli.specs.declared.faults.SessionFault.TheVariants.{Image as Refused, BadSize, RegionTooSmall, OutOfMemory, ReadFault, WriteFault, ScriptTooLong}
 use Rattle.segment_commands.specs.declared.command_faults.CommandFault.{CommandFault}
 use Rattle.segment_commands.specs.declared.command_faults.CommandFault.TheVariants.{BadDump, NoSpace}
-use Rattle.segment_commands.specs.Faults.{Exists, Session}
+use Rattle.segment_commands.specs.Faults.{Exists, IsNoMemory, Session}
 use Rattle.segment_disk.specs.declared.presence.Presence.{Presence}
 use Rattle.segment_disk.specs.declared.presence.Presence.TheVariants.{There}
 use Rattle.segment_disk.specs.declared.presence.Making.TheVariants.{New}
@@ -46,20 +48,21 @@ abbrev pub IsWhyUnread : Given → SessionFault → Type 0
 IsWhyUnread given (Refused c) = ⊥
 IsWhyUnread given BadSize = ⊥
 IsWhyUnread given RegionTooSmall = ⊥
-IsWhyUnread given OutOfMemory = given.failed ≡ false
+IsWhyUnread given (OutOfMemory (Bytes refusal)) = (given.failed ≡ false) × (refusal ≡ refusal_of (length given.bytes))
+IsWhyUnread given (OutOfMemory (BlockMap refusal)) = ⊥
 IsWhyUnread given ReadFault = given.failed ≡ true
 IsWhyUnread given WriteFault = ⊥
 IsWhyUnread given ScriptTooLong = IsTooLong given
 
 -- ---- a segment that is made of it, but for the notes at its end
 
--- why a load is refused, as the program answers it; the room for a text is memory
+-- why a load is refused, as the program answers it
 abbrev pub load_fault : ℕ → LoadError → CommandFault
 load_fault needed (load.BadDump bad) = BadDump bad
 load_fault needed load.BadSize = Session BadSize
 load_fault needed load.RegionTooSmall = Session RegionTooSmall
 load_fault needed load.NoSpace = NoSpace needed
-load_fault needed load.LongText = Session OutOfMemory
+load_fault needed load.LongText = NoSpace needed
 
 -- whatever objects the text is the dump of, they need so many bytes
 pub record NeedsRoom (text : List ℕ) (needed : ℕ) : Type 0 where
@@ -84,7 +87,7 @@ pub record IsLoadRefused (text : List ℕ) (size : Option ℕ) (fault : CommandF
 
 -- the text is the dump of the segment, or there is none: for a reason of the load, or since memory was refused
 abbrev pub LoadsSegment : List ℕ → Option ℕ → Result State CommandFault → Type 0
-LoadsSegment text size result = MatchResult result (IsLoaded (without_notes text) size) (λ fault. IsLoadRefused text size fault ⊎ (fault ≡ Session OutOfMemory))
+LoadsSegment text size result = MatchResult result (IsLoaded (without_notes text) size) (λ fault. IsLoadRefused text size fault ⊎ IsNoMemory fault)
 
 -- as many bytes as are asked for, or else as the text says
 abbrev pub IsWanted : List ℕ → Option ℕ → ℕ → Type 0
@@ -103,7 +106,7 @@ pub record IsFitting (text : List ℕ) (size : Option ℕ) : Type 0 where
 
 -- a segment is made, if memory is given
 abbrev pub IsMadeIfGiven : Result State CommandFault → Type 0
-IsMadeIfGiven result = MatchResult result (λ segment. ⊤) (λ fault. fault ≡ Session OutOfMemory)
+IsMadeIfGiven result = MatchResult result (λ segment. ⊤) IsNoMemory
 
 -- a segment may have the size that was asked for, if one was
 abbrev pub IsSizeFit : Option ℕ → Type 0
@@ -172,4 +175,4 @@ module _ {D : Type 0} (step : D → Event → D → Type 0) (old new : D) (path 
   -- Where a dump was read that fits, of whatever segment, and with whatever notes, its segment is in the file, but for
   -- something that is there, memory that is not given, or a file that cannot be written.
   pub record LoadsWhatFits : Type 0 where
-    pub loads : (text : List ℕ) → IsReadWhole (given_since script script') text → IsFitting text size → IsTakenLoad ⊎ ((result ≡ Err (Session OutOfMemory)) ⊎ IsLoadedTo)
+    pub loads : (text : List ℕ) → IsReadWhole (given_since script script') text → IsFitting text size → IsTakenLoad ⊎ (((fault : CommandFault) × IsNoMemory fault × (result ≡ Err fault)) ⊎ IsLoadedTo)

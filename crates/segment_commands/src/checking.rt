@@ -2,8 +2,7 @@
 ghost use Rattle.std.specs.Prelude.{◌≡◌, ◌^◌, ◌-◌, ◌<◌};
 ghost use Rattle.segment_commands.specs.Commands.{IsCheck};
 
-use crate::command_faults::CommandFault;
-use crate::creating::WRITE_FAULT;
+use crate::command_faults::{CommandFault, WRITE_FAULT};
 use crate::examining::verify_segment;
 use crate::telling::tell;
 use segment_disk::{Disk, Output};

@@ -1,8 +1,11 @@
 //! Why a command fails.
 ghost use Rattle.std.specs.Prelude.{◌≡◌};
+ghost use Rattle.image_check.specs.declared.errors.MemoryFault.TheVariants.{Bytes};
+ghost use Rattle.segment_cli.specs.declared.faults.SessionFault.TheVariants.{OutOfMemory as NoMemory};
 ghost use Rattle.segment_commands.specs.Faults.{Growth, Session};
 
 use grow_shrink::GrowError;
+use raw_region::OutOfMemory;
 use segment_cli::{ProgramFault, SessionFault};
 use segment_dump::BadDump;
 use thiserror::Error;
@@ -30,6 +33,11 @@ pub enum CommandFault {
     NoSpace(u64),
 }
 
+/// A file or standard output can't be written.
+pub const WRITE_FAULT: CommandFault = CommandFault::Program(ProgramFault::Session(
+    SessionFault::WriteFault,
+));
+
 impl From<GrowError> for CommandFault {
     ghost from_gives = { λ error fault. fault ≡ Growth error };
 
@@ -43,5 +51,13 @@ impl From<SessionFault> for CommandFault {
 
     fn from(failed: SessionFault) -> CommandFault {
         CommandFault::Program(ProgramFault::Session(failed))
+    }
+}
+
+impl From<OutOfMemory> for CommandFault {
+    ghost from_gives = { λ refusal fault. fault ≡ Session (NoMemory (Bytes refusal)) };
+
+    fn from(refusal: OutOfMemory) -> CommandFault {
+        CommandFault::from(SessionFault::from(refusal))
     }
 }

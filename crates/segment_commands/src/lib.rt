@@ -24,7 +24,7 @@ mod running;
 mod telling;
 
 pub use checking::check;
-pub use command_faults::CommandFault;
+pub use command_faults::{CommandFault, WRITE_FAULT};
 pub use creating::create;
 pub use explaining::explain;
 pub use linting::lint;
@@ -34,7 +34,7 @@ pub use migrating::migrate;
 pub use modes::run;
 pub use naming::names;
 pub use reporting::{draw, draw_page, dump, dump_capacities, dump_json, stat};
-pub use reports::{report, report_file};
+pub use reports::{report, report_file, report_no_memory};
 pub use resizing::{grow, shrink};
 pub use running::{run_in_new_file, run_on_file, run_on_file_or_new};
 pub use telling::{print, print_language};

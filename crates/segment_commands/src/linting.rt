@@ -3,8 +3,7 @@ ghost use Rattle.std.specs.Prelude.{◌≡◌, ◌^◌, ◌-◌, ◌<◌};
 ghost use Rattle.segment_commands.specs.Linting.{Lints, answer_of};
 
 use crate::answering::Flushing;
-use crate::command_faults::CommandFault;
-use crate::creating::WRITE_FAULT;
+use crate::command_faults::{CommandFault, WRITE_FAULT};
 use raw_region::Source;
 use segment_answers::Lined;
 use segment_cli::{ProgramFault, SessionFault};

@@ -4,8 +4,7 @@ ghost use Rattle.block_tags.specs.Format.{is_legal_size};
 ghost use Rattle.segment_dump.specs.Loading.{IsAsked};
 ghost use Rattle.segment_commands.specs.Loading.{IsFitting, IsLoad, IsMadeIfGiven, IsSizeFit, IsWanted, LoadsDump, LoadsSegment, LoadsWhatFits, NeedsRoom, load_fault};
 
-use crate::command_faults::CommandFault;
-use crate::creating::WRITE_FAULT;
+use crate::command_faults::{CommandFault, WRITE_FAULT};
 use crate::gathering::read_text;
 use block_tags::is_legal_size;
 use grow_shrink::region_for;
@@ -16,11 +15,6 @@ use segment_dump::{LoadError, count_dump, said_size, without_notes};
 use segment_file::write_image;
 use segment_manager::Segment;
 use std::alloc::Global;
-
-/// Memory was refused.
-const OUT_OF_MEMORY: CommandFault = CommandFault::Program(ProgramFault::Session(
-    SessionFault::OutOfMemory,
-));
 
 /// How many bytes the segment of a dump is to have: as many as are asked for, or else as the dump says.
 fn wanted_size(text: &[u8], size: Option<u64>) -> u64
@@ -43,8 +37,7 @@ fn fault_of(error: LoadError, needed: u64) -> CommandFault
         LoadError::RegionTooSmall => CommandFault::Program(ProgramFault::Session(
             SessionFault::RegionTooSmall,
         )),
-        LoadError::NoSpace => CommandFault::NoSpace(needed),
-        LoadError::LongText => OUT_OF_MEMORY,
+        LoadError::NoSpace | LoadError::LongText => CommandFault::NoSpace(needed),
     }
 }
 
@@ -64,12 +57,8 @@ fn segment_of(alloc: Global, text: &[u8], size: Option<u64>) -> Result<Segment, 
     ensures loads { LoadsSegment text.now size result }
     ensures makes { IsFitting text.now size → IsMadeIfGiven result }
 {
-    let Ok(region) = region_for(alloc, wanted_size(text, size)) else {
-        return Err(OUT_OF_MEMORY);
-    };
-    let Ok(mut room) = region_for(alloc, text.len() as u64) else {
-        return Err(OUT_OF_MEMORY);
-    };
+    let region = region_for(alloc, wanted_size(text, size))?;
+    let mut room = region_for(alloc, text.len() as u64)?;
     let capacity = room.capacity();
     match segment_dump::load(text, room.bytes_mut(0, capacity), region, 0, size) {
         Ok(segment) => Ok(segment),

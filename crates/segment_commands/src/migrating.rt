@@ -7,8 +7,7 @@ ghost use Rattle.segment_commands.specs.Holding.{Holds};
 ghost use Rattle.segment_commands.specs.Modes.{making_of};
 ghost use Rattle.segment_commands.specs.Migrating.{BeginsAny, IsMigrate, OpensAnyFile};
 
-use crate::command_faults::CommandFault;
-use crate::creating::WRITE_FAULT;
+use crate::command_faults::{CommandFault, WRITE_FAULT};
 use crate::heading::Headed;
 use crate::modes::making_for;
 use crate::reading_on::read_on;
@@ -32,9 +31,7 @@ fn begin_any_in<S: Source>(
     requires fresh { S.history reader.old ≡ nothing_given }
     ensures { BeginsAny (given_since nothing_given (S.history reader.new)) result }
 {
-    let Ok(region) = region_for(alloc, bytes) else {
-        return Err(SessionFault::OutOfMemory);
-    };
+    let region = region_for(alloc, bytes)?;
     match open_any(alloc, reader, region, 0, Mode::Write, &mut Steps::new()) {
         Ok(segment) => Ok(segment),
         Err(refused) => Err(SessionFault::from(refused)),

@@ -3,8 +3,7 @@ ghost use Rattle.std.specs.Prelude.{◌≡◌, ◌^◌, ◌-◌, ◌<◌};
 ghost use Rattle.segment_report.specs.Names.{names_text};
 ghost use Rattle.segment_commands.specs.Reporting.{IsReport, TellsOf};
 
-use crate::command_faults::CommandFault;
-use crate::creating::WRITE_FAULT;
+use crate::command_faults::{CommandFault, WRITE_FAULT};
 use crate::opening::open_segment;
 use raw_region::DeviceFault;
 use segment_disk::{Disk, Output};

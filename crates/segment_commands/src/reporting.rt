@@ -12,8 +12,7 @@ ghost use Rattle.segment_report.specs.Picture.{picture_of};
 ghost use Rattle.segment_report.specs.Stat.{stat_text};
 ghost use Rattle.segment_commands.specs.Reporting.{IsReport, TellsOf, text_of};
 
-use crate::command_faults::CommandFault;
-use crate::creating::WRITE_FAULT;
+use crate::command_faults::{CommandFault, WRITE_FAULT};
 use crate::opening::open_segment;
 use raw_region::DeviceFault;
 use segment_disk::{Disk, Output};

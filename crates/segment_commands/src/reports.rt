@@ -1,7 +1,7 @@
 //! What the program says of a fault, and the status that it ends with.
-ghost use Rattle.std.specs.Prelude.{◌≡◌, ◌-◌, ◌^◌, ◌<◌};
+ghost use Rattle.std.specs.Prelude.{◌≡◌, ◌-◌, ◌^◌, ◌<◌, codes};
 ghost use Rattle.raw_region.specs.Device.{Writes};
-ghost use Rattle.segment_cli.specs.Reports.{Puts};
+ghost use Rattle.segment_cli.specs.Reports.{Puts, line};
 ghost use Rattle.segment_commands.specs.Reports.{bad_dump_line, command_status, command_text, dump_words, no_space_line, trouble_text, trouble_words};
 
 use crate::command_faults::CommandFault;
@@ -100,6 +100,16 @@ pub fn report<S: Sink>(fault: CommandFault, err: &mut S) -> u8
             1
         }
     }
+}
+
+/// Writes the line of memory that was refused to the program itself, and answers the status: that of a session without
+/// memory.
+pub fn report_no_memory<S: Sink>(err: &mut S) -> u8
+    requires { (S.history err.old).failures < 2 ^ 64 - 1 }
+    ensures status { result ≡ 4 }
+    ensures text { Puts (S.history err.old) (S.history err.new) (line (codes "out of memory")) }
+{
+    put_line(b"segment: out of memory\n", 4, err)
 }
 
 /// What is said of a file.

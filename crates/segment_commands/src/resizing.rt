@@ -7,8 +7,7 @@ ghost use Rattle.segment_commands.specs.Modes.{making_of};
 ghost use Rattle.segment_commands.specs.Resizing.{IsResize, TellsAndWrites, TellsSize, next_by, refusal_by, size_line};
 ghost use Rattle.segment_commands.specs.Telling.{Tells};
 
-use crate::command_faults::CommandFault;
-use crate::creating::WRITE_FAULT;
+use crate::command_faults::{CommandFault, WRITE_FAULT};
 use crate::modes::making_for;
 use crate::opening::open_segment;
 use grow_shrink::{GrowError, shrink_to_fit};

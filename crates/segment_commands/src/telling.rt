@@ -4,8 +4,7 @@ ghost use Rattle.segment_scripts.specs.CommandRows.{row_text};
 ghost use Rattle.segment_commands.specs.Commands.{Prints};
 ghost use Rattle.segment_commands.specs.Telling.{Tells};
 
-use crate::command_faults::CommandFault;
-use crate::creating::WRITE_FAULT;
+use crate::command_faults::{CommandFault, WRITE_FAULT};
 use raw_region::{DeviceFault, write_all};
 use segment_disk::Output;
 use segment_scripts::{CommandRow, put_language};

@@ -7,7 +7,7 @@ use Rattle.seg_types.specs.declared.kinds.ScalarKind.{ScalarKind}
 use Rattle.seg_types.specs.declared.refusals.Refusal.{Refusal}
 use Rattle.seg_types.specs.declared.refusals.Refusal.TheVariants.{OutOfRange, WrongKind}
 use Rattle.seg_types.specs.{Kinds.same_kind, Kinds.size_of, Names.ByHandle, Names.Key}
-use Rattle.seg_vector.specs.declared.places.Place.{Place}
+use Rattle.best_fit.specs.declared.places.Place.{Place}
 use Rattle.segment_manager.specs.declared.objects.targets.Object.{Object as Located}
 use Rattle.segment_manager.specs.Directory.{Object, Directory, count_of, kind_of, object_at, padded}
 use Rattle.segment_manager.specs.{Layout.head_len, State.Answers, State.State}

@@ -12,7 +12,7 @@ use crate::objects::head::read_head;
 use crate::segment::Segment;
 use best_fit::Heap;
 use seg_types::{Handle, Key, Kind, Name, Refusal, ScalarKind};
-use seg_vector::Place;
+use best_fit::Place;
 
 /// An object of a segment as it was located. It goes on standing for the object of its handle until that is destroyed.
 #[derive(Clone, Copy, Debug, PartialEq, Eq, Hash)]

@@ -10,9 +10,8 @@ ghost use Rattle.segment_manager.specs.objects.Located.{located_at, value_in};
 use crate::layout::value_at;
 use crate::objects::head::read_head;
 use crate::segment::Segment;
-use best_fit::Heap;
+use best_fit::{Heap, Place};
 use seg_types::{Handle, Key, Kind, Name, Refusal, ScalarKind};
-use best_fit::Place;
 
 /// An object of a segment as it was located. It goes on standing for the object of its handle until that is destroyed.
 #[derive(Clone, Copy, Debug, PartialEq, Eq, Hash)]
@@ -135,7 +134,8 @@ impl Segment {
 /// What the head of the object at a handle says.
 fn read_object(heap: &Heap, handle: Handle) -> Object
     requires { HasObject heap.now.bytes handle }
-    ensures { (o : DirectoryObject) → StandsAt heap.now.bytes handle o → result ≡ located o }
+    ensures handle { result.handle ≡ handle }
+    ensures said { (o : DirectoryObject) → StandsAt heap.now.bytes handle o → result ≡ located o }
 {
     let head = read_head(heap, handle);
     Object {
@@ -172,7 +172,8 @@ pub fn locate<O: Target>(segment: &Segment, key: &O) -> Result<Object, Refusal>
 /// An object of the segment has the handle. `locate` looks for it, and has no condition.
 pub fn object_here(segment: &Segment, handle: Handle) -> Object
     requires { Answers segment.now (λ d. is_object_at d handle) true }
-    ensures { IsLocated segment.now (ByHandle handle) result }
+    ensures handle { result.handle ≡ handle }
+    ensures located { IsLocated segment.now (ByHandle result.handle) result }
 {
     read_object(&segment.heap, handle)
 }

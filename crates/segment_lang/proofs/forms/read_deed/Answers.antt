@@ -1,10 +1,13 @@
 use Rattle.std.proofs.Common.{◌∙◌, sym}
 use Rattle.seg_types.specs.Commands as asked
+use Rattle.segment_lang.specs.declared.commands.Deed.TheVariants as deed
 use Rattle.segment_lang.specs.Reading.{key_of, name_key, new_key}
+use Rattle.segment_lang.specs.Seen.{deed_of}
 use Rattle.segment_lang.proofs.CommandWords.{alone_at_end as ends, of_appending, of_assigning, of_finding, of_handle}
 use Rattle.segment_lang.proofs.CommandWords.{of_key, of_key_literal, of_key_number, of_key_number_literal, of_making}
-use Rattle.segment_lang.proofs.CommandWords.{of_making_each, of_number, of_putting, putting_in_parts}
-use Rattle.segment_lang.proofs.forms.read_command.Goals as goal
+use Rattle.segment_lang.proofs.CommandWords.{of_making_each, of_number}
+use Rattle.segment_lang.proofs.WordReaders.{map_made}
+use Rattle.segment_lang.proofs.forms.read_deed.Goals as goal
 
 pub returns-in-Construct : goal.returns-in-Construct
 returns-in-Construct c =
@@ -29,22 +32,17 @@ pub returns-in-DestroyPtr : goal.returns-in-DestroyPtr
 returns-in-DestroyPtr c = rw c.in-DestroyPtr.is (c.read_destroy_ptr.ensures ∙ sym (of_handle c.args.bytes.now))
 
 pub returns-in-Show : goal.returns-in-Show
-returns-in-Show c = rw c.in-Show.is (c.read_show.ensures ∙ sym (of_key asked.Show key_of c.args.bytes.now))
+returns-in-Show c =
+    rw c.in-Show.is (map_made deed_of deed.Show c.map.ensures.cases ∙ c.only_key.ensures asked.Show
+    ∙ sym (of_key asked.Show key_of c.args.bytes.now))
 
 pub returns-in-Info : goal.returns-in-Info
-returns-in-Info c = rw c.in-Info.is (c.read_info.ensures ∙ sym (of_key asked.Info key_of c.args.bytes.now))
-
-pub returns-in-Get : goal.returns-in-Get
-returns-in-Get c = rw c.in-Get.is (c.read_get.ensures ∙ sym (of_key_number asked.Get c.args.bytes.now))
+returns-in-Info c =
+    rw c.in-Info.is (map_made deed_of deed.Info c.map-in-Info.ensures.cases ∙ c.only_key-in-Info.ensures asked.Info
+    ∙ sym (of_key asked.Info key_of c.args.bytes.now))
 
 pub returns-in-Set : goal.returns-in-Set
 returns-in-Set c = rw c.in-Set.is (c.read_set.ensures ∙ sym (of_key_number_literal asked.Set c.args.bytes.now))
-
-pub returns-in-Push : goal.returns-in-Push
-returns-in-Push c = rw c.in-Push.is (c.read_push.ensures ∙ sym (of_key_literal asked.Push c.args.bytes.now))
-
-pub returns-in-Pop : goal.returns-in-Pop
-returns-in-Pop c = rw c.in-Pop.is (c.read_pop.ensures ∙ sym (of_key asked.Pop key_of c.args.bytes.now))
 
 pub returns-in-Insert : goal.returns-in-Insert
 returns-in-Insert c =
@@ -57,20 +55,20 @@ pub returns-in-Reserve : goal.returns-in-Reserve
 returns-in-Reserve c = rw c.in-Reserve.is (c.read_reserve.ensures ∙ sym (of_key_number asked.Reserve c.args.bytes.now))
 
 pub returns-in-Shrink : goal.returns-in-Shrink
-returns-in-Shrink c = rw c.in-Shrink.is (c.read_shrink.ensures ∙ sym (of_key asked.Shrink key_of c.args.bytes.now))
+returns-in-Shrink c =
+    rw c.in-Shrink.is (map_made deed_of deed.Shrink c.map-in-Shrink.ensures.cases ∙ c.only_key-in-Shrink.ensures asked.Shrink
+    ∙ sym (of_key asked.Shrink key_of c.args.bytes.now))
 
 pub returns-in-Clear : goal.returns-in-Clear
-returns-in-Clear c = rw c.in-Clear.is (c.read_clear.ensures ∙ sym (of_key asked.Clear key_of c.args.bytes.now))
+returns-in-Clear c =
+    rw c.in-Clear.is (map_made deed_of deed.Clear c.map-in-Clear.ensures.cases ∙ c.only_key-in-Clear.ensures asked.Clear
+    ∙ sym (of_key asked.Clear key_of c.args.bytes.now))
 
 pub returns-in-Assign : goal.returns-in-Assign
 returns-in-Assign c = rw c.in-Assign.is (c.read_assign.ensures ∙ sym (of_assigning c.args.bytes.now))
 
 pub returns-in-Append : goal.returns-in-Append
 returns-in-Append c = rw c.in-Append.is (c.read_append.ensures ∙ sym (of_appending c.args.bytes.now))
-
-pub returns-in-Put : goal.returns-in-Put
-returns-in-Put c =
-    rw c.in-Put.is (c.read_put.ensures ∙ sym (putting_in_parts c.args.bytes.now) ∙ sym (of_putting c.args.bytes.now))
 
 pub returns-in-Lookup : goal.returns-in-Lookup
 returns-in-Lookup c = rw c.in-Lookup.is (c.read_lookup.ensures ∙ sym (of_key_literal asked.Lookup c.args.bytes.now))
@@ -80,11 +78,13 @@ returns-in-Remove c = rw c.in-Remove.is (c.read_remove.ensures ∙ sym (of_key_l
 
 pub returns-in-ReserveNamed : goal.returns-in-ReserveNamed
 returns-in-ReserveNamed c =
-    rw c.in-ReserveNamed.is (c.read_reserve_named.ensures ∙ sym (of_number asked.ReserveNamed c.args.bytes.now))
+    rw c.in-ReserveNamed.is (map_made deed_of deed.ReserveNamed c.map-in-ReserveNamed.ensures.cases ∙ c.only_number.ensures asked.ReserveNamed
+    ∙ sym (of_number asked.ReserveNamed c.args.bytes.now))
 
 pub returns-in-ReserveUnique : goal.returns-in-ReserveUnique
 returns-in-ReserveUnique c =
-    rw c.in-ReserveUnique.is (c.read_reserve_unique.ensures ∙ sym (of_number asked.ReserveUnique c.args.bytes.now))
+    rw c.in-ReserveUnique.is (map_made deed_of deed.ReserveUnique c.map-in-ReserveUnique.ensures.cases ∙ c.only_number-in-ReserveUnique.ensures asked.ReserveUnique
+    ∙ sym (of_number asked.ReserveUnique c.args.bytes.now))
 
 pub returns-in-ListNames : goal.returns-in-ListNames
 returns-in-ListNames c = rw c.in-ListNames.is (c.read_alone.ensures ∙ sym (ends asked.ListNames c.args.bytes.now))
@@ -95,9 +95,6 @@ returns-in-ListKinds c =
 
 pub returns-in-Blocks : goal.returns-in-Blocks
 returns-in-Blocks c = rw c.in-Blocks.is (c.read_alone-in-Blocks.ensures ∙ sym (ends asked.ListBlocks c.args.bytes.now))
-
-pub returns-in-Size : goal.returns-in-Size
-returns-in-Size c = rw c.in-Size.is (c.read_alone-in-Size.ensures ∙ sym (ends asked.Size c.args.bytes.now))
 
 pub returns-in-Free : goal.returns-in-Free
 returns-in-Free c = rw c.in-Free.is (c.read_alone-in-Free.ensures ∙ sym (ends asked.Free c.args.bytes.now))

@@ -31,7 +31,7 @@ mod texts;
 // Laws of the definitions.
 mod theorems;
 
-pub use buffer::Text;
+pub use buffer::{Buffer, Text};
 pub use commands::{Content, Deed, Lead};
 pub use errors::{put_line_error, put_refusal};
 pub use forms::{CommandForm, DeedForm, read_deed};

@@ -2,11 +2,10 @@
 ghost use Rattle.std.specs.Prelude.{◌≡◌, ◌≤◌, OnErr, length, map};
 ghost use Rattle.seg_types.specs.declared.kinds.Kind.TheVariants.{String as StringKind, Strings as StringsKind};
 ghost use Rattle.seg_types.specs.declared.kinds.Kind.TheVariants.{Vector as VectorOf};
-ghost use Rattle.seg_types.specs.Commands.{Append, Assign, Clear, Quoted as AskedQuoted, Reserve, Shrink};
+ghost use Rattle.seg_types.specs.Commands.{Append, Assign, Quoted as AskedQuoted};
 ghost use Rattle.seg_types.specs.Keys.{key_seen};
 ghost use Rattle.seg_types.specs.Names.{ByHandle};
 ghost use Rattle.segment_manager.specs.objects.Located.{IsObject};
-ghost use Rattle.segment_manager.specs.Keeping.{HasPlaces, KeepsWhere};
 ghost use Rattle.segment_manager.specs.State.{IsStep, IsStepOfKind, KeepsRefused, done_answer};
 ghost use Rattle.segment_scripts.specs.Changes.{IsChangeable};
 ghost use Rattle.segment_scripts.specs.Replies.{bytes_taken};
@@ -154,44 +153,4 @@ pub fn append(
     ensures refused { OnErr result (segment.new ≡ segment.old) }
 {
     segment.string_append(key, text.bytes(scratch))
-}
-
-/// Makes room in the vector or string of a key.
-///
-/// # Errors
-///
-/// As the segment's call. Nothing changes.
-#[inline(never)]
-pub fn reserve(segment: &mut Segment, key: &Key, count: u64) -> Result<(), Refusal>
-    ensures step { IsStep segment.old segment.new (Reserve (key_seen key.now) count) (done_answer result) }
-    ensures refused { OnErr result (segment.new ≡ segment.old) }
-    ensures enough { KeepsWhere segment.old segment.new (HasPlaces (key_seen key.now) count) }
-{
-    segment.reserve(key, count)
-}
-
-/// Gives back the room of the vector or string of a key that no element uses.
-///
-/// # Errors
-///
-/// As the segment's call. Nothing changes.
-#[inline(never)]
-pub fn shrink(segment: &mut Segment, key: &Key) -> Result<(), Refusal>
-    ensures step { IsStep segment.old segment.new (Shrink (key_seen key.now)) (done_answer result) }
-    ensures refused { OnErr result (segment.new ≡ segment.old) }
-{
-    segment.shrink(key)
-}
-
-/// Takes all elements out of the vector or string of a key.
-///
-/// # Errors
-///
-/// As the segment's call. Nothing changes.
-#[inline(never)]
-pub fn clear(segment: &mut Segment, key: &Key) -> Result<(), Refusal>
-    ensures step { IsStep segment.old segment.new (Clear (key_seen key.now)) (done_answer result) }
-    ensures refused { OnErr result (segment.new ≡ segment.old) }
-{
-    segment.clear(key)
 }

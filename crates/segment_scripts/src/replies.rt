@@ -7,7 +7,7 @@ ghost use Rattle.segment_manager.specs.containers.Maps.{any_value_answer};
 ghost use Rattle.segment_manager.specs.State.{done_answer, gone_answer, handle_answer, scalar_answer, truth_answer};
 ghost use Rattle.segment_scripts.specs.Replies.{IsMeant, Replies, answer_seen};
 
-use crate::changing::{append, assign, clear, reserve, shrink};
+use crate::changing::{append, assign};
 use crate::constructing::{construct, construct_it, find_or_construct};
 use crate::machine::Room;
 use seg_types::{Handle, Key, Refusal, ScalarValue};
@@ -72,9 +72,9 @@ pub fn reply<'a>(segment: &mut Segment, deed: Deed<'a>, room: &mut Room) -> Answ
             done(add(segment, &key, Spot::Before(index), &value, &mut room.text))
         }
         Deed::Erase { key, index } => done(erase(segment, &key, index)),
-        Deed::Reserve { key, count } => done(reserve(segment, &key, count)),
-        Deed::Shrink(key) => done(shrink(segment, &key)),
-        Deed::Clear(key) => done(clear(segment, &key)),
+        Deed::Reserve { key, count } => done(segment.reserve(&key, count)),
+        Deed::Shrink(key) => done(segment.shrink(&key)),
+        Deed::Clear(key) => done(segment.clear(&key)),
         Deed::Assign { key, values } => done(assign(segment, &key, values, room)),
         Deed::Append { key, text } => done(append(segment, &key, text, &mut room.text)),
         Deed::Lookup { key, at } => value_found(look_up(segment, &key, &at)),

@@ -55,13 +55,13 @@ pub returns-in-Erase : goal.returns-in-Erase
 returns-in-Erase c = replies-command c.in-Erase.is (λ _. Done) (λ _. refl) c.erase.result refl refl c.done-in-Erase.ensures c.erase.ensures.step (keeps-refused c.args.segment.now c.erase.new.segment c.erase.result c.erase.ensures.refused) (λ _. refl)
 
 pub returns-in-Reserve : goal.returns-in-Reserve
-returns-in-Reserve c = replies-found c.in-Reserve.is (λ _. Done) (λ _. refl) c.reserve.result refl refl c.done-in-Reserve.ensures c.reserve.ensures.step (keeps-refused c.args.segment.now c.reserve.new.segment c.reserve.result c.reserve.ensures.refused) (places-found (key_seen c.in-Reserve.key) c.in-Reserve.count c.reserve.ensures.enough)
+returns-in-Reserve c = replies-found c.in-Reserve.is (λ _. Done) (λ _. refl) c.reserve.result refl refl c.done-in-Reserve.ensures c.reserve.ensures.step (keeps-refused c.args.segment.now c.reserve.new.self c.reserve.result c.reserve.ensures.refused) (places-found (key_seen c.in-Reserve.key) c.in-Reserve.count c.reserve.ensures.enough)
 
 pub returns-in-Shrink : goal.returns-in-Shrink
-returns-in-Shrink c = replies-command c.in-Shrink.is (λ _. Done) (λ _. refl) c.shrink.result refl refl c.done-in-Shrink.ensures c.shrink.ensures.step (keeps-refused c.args.segment.now c.shrink.new.segment c.shrink.result c.shrink.ensures.refused) (λ _. refl)
+returns-in-Shrink c = replies-command c.in-Shrink.is (λ _. Done) (λ _. refl) c.shrink.result refl refl c.done-in-Shrink.ensures c.shrink.ensures.step (keeps-refused c.args.segment.now c.shrink.new.self c.shrink.result c.shrink.ensures.refused) (λ _. refl)
 
 pub returns-in-Clear : goal.returns-in-Clear
-returns-in-Clear c = replies-command c.in-Clear.is (λ _. Done) (λ _. refl) c.clear.result refl refl c.done-in-Clear.ensures c.clear.ensures.step (keeps-refused c.args.segment.now c.clear.new.segment c.clear.result c.clear.ensures.refused) (λ _. refl)
+returns-in-Clear c = replies-command c.in-Clear.is (λ _. Done) (λ _. refl) c.clear.result refl refl c.done-in-Clear.ensures c.clear.ensures.step (keeps-refused c.args.segment.now c.clear.new.self c.clear.result c.clear.ensures.refused) (λ _. refl)
 
 pub returns-in-Assign : goal.returns-in-Assign
 returns-in-Assign c = replies-command c.in-Assign.is (λ _. Done) (λ _. refl) c.assign.result refl refl c.done-in-Assign.ensures c.assign.ensures.step c.assign.ensures.refused (λ _. refl)

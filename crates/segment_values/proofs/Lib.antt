@@ -1,6 +1,6 @@
 mod AbsentPairs
 mod ElementBytes
-mod Exits
+pub mod Exits
 pub mod Laid
 pub mod LaidElements
 mod NewElements

@@ -34,7 +34,7 @@ unread-any image region base mode refused n = record {
 }
 
 -- one that lies in memory, and was not put into the region
-why-given : (format : ℕ) (b : List ℕ) (base capacity : ℕ) (cause : OpenError) → IsWhyNotOf format b base capacity cause → IsWhyNot format (as_given b) base capacity cause
+pub why-given : (format : ℕ) (b : List ℕ) (base capacity : ℕ) (cause : OpenError) → IsWhyNotOf format b base capacity cause → IsWhyNot format (as_given b) base capacity cause
 why-given format b base capacity (Image c) why = record { sound = refl; right = inl (refl, why) }
 why-given format b base capacity RegionTooSmall why = why
 why-given format b base capacity (OutOfMemory refusal) why = why

@@ -1,7 +1,7 @@
 //! A reader that keeps the first bytes that it gives.
-ghost use Rattle.std.specs.Prelude.{◌≡◌, ◌≤◌, ◌^◌, ◌-◌, ◌<◌, ◌++◌, true, false, length, take, IfSome};
+ghost use Rattle.std.specs.Prelude.{◌≡◌, ◌⊎◌, ◌+◌, ◌≤◌, ◌<◌, ◌++◌, true, false, length, take, IfSome, None};
 ghost use Rattle.segment_disk.specs.Events.{nothing_given};
-ghost use Rattle.segment_commands.specs.ReadingOn.{IsFrontOf};
+ghost use Rattle.segment_file.specs.ReadingOn.{IsFrontGiven};
 
 use image_check::FRONT;
 use raw_region::{DeviceFault, Source};
@@ -11,6 +11,8 @@ fn keep(front: &mut [u8; FRONT], kept: usize, bytes: &[u8]) -> Option<usize>
     requires { kept ≤ 24 }
     ensures within { IfSome result (λ n. n ≤ 24) }
     ensures kept { IfSome result (λ n. take n front.new ≡ take kept front.old ++ bytes.now) }
+    ensures count { IfSome result (λ n. n ≡ kept + length bytes.now) }
+    ensures full { result ≡ None → 24 < kept + length bytes.now }
 {
     if bytes.len() > FRONT - kept {
         return None;
@@ -29,7 +31,9 @@ pub(crate) struct Headed<S: Source> {
     is_all: bool,
     ghost within: { kept ≤ 24 },
     ghost all: { is_all ≡ true → take kept front ≡ (S.history inner).bytes },
+    ghost count: { is_all ≡ true → length (S.history inner).bytes ≡ kept },
     ghost sound: { is_all ≡ true → (S.history inner).failures ≡ 0 },
+    ghost lost: { is_all ≡ false → (24 < length (S.history inner).bytes) ⊎ (0 < (S.history inner).failures) },
 }
 
 impl<S: Source> Headed<S> {
@@ -46,14 +50,11 @@ impl<S: Source> Headed<S> {
     }
 
     /// All that it gave, where that is the front of an image and no more, and no read failed.
-    pub(crate) fn front(&self) -> Option<[u8; FRONT]>
-        ensures { IfSome result (IsFrontOf (S.history self.now.inner)) }
+    pub(crate) fn front(&self) -> [u8; FRONT]
+        requires { IsFrontGiven (S.history self.now.inner) }
+        ensures { (S.history self.now.inner).bytes ≡ result }
     {
-        if self.is_all && self.kept == FRONT {
-            Some(self.front)
-        } else {
-            None
-        }
+        self.front
     }
 
     /// The reader.

@@ -9,16 +9,15 @@ use Rattle.raw_region.specs.Memory.{Same, bytes_of, half_word_at, word_at}
 use Rattle.raw_region.proofs.Laws.{Same-half_word, Same-word}
 use Rattle.block_tags.specs.Format.{is_legal_size}
 use Rattle.image_check.specs.declared.classes.ImageClass.{ImageClass}
-use Rattle.image_check.specs.declared.classes.ImageClass.TheVariants.{BadMagic, BadSize, Truncated, UnsupportedVersion}
+use Rattle.image_check.specs.declared.classes.ImageClass.TheVariants.{BadSize, Truncated}
 use Rattle.image_check.specs.EarlyTests.{has_front, has_magic, has_size, has_version, size_word}
 use Rattle.image_check.specs.Classes.{class_of, classes, holds}
 use Rattle.image_check.specs.Deciding.{decided, decided_by}
 use Rattle.image_check.specs.Formats.{format_of}
 use Rattle.image_check.specs.HeaderPlaces.{shown_size}
 use Rattle.image_check.specs.Opening.{IsTooSmallFor}
-use Rattle.image_check.specs.Reading.{front_of}
 use Rattle.image_check.proofs.Facts.{all_decided}
-use Rattle.segment_commands.specs.ReadingOn.{Says}
+use Rattle.segment_file.specs.ReadingOn.{Says}
 
 -- ---- bytes that follow
 
@@ -67,31 +66,8 @@ is_true false h = absurd (cc)
 pub too-small-says : (format : ℕ) (image : Given) (capacity : ℕ) → IsTooSmallFor format image 0 capacity → Says format image.bytes (size_word image.bytes)
 too-small-says format image capacity h = record { long = h.read; front = is_true _ h.front; size = refl }
 
--- and for more bytes there is none either
-pub still-too-small : (format : ℕ) (image image' : Given) (capacity : ℕ) → Grows image.bytes image'.bytes → IsTooSmallFor format image 0 capacity
-    → IsTooSmallFor format image' 0 capacity
-still-too-small format image image' capacity grows h = record {
-  read = longer image.bytes image'.bytes grows h.read;
-  front = subst IsTrue (sym (front-grown image.bytes image'.bytes grows h.read format)) h.front;
-  small = (let small = h.small in let same = size-grown image.bytes image'.bytes grows h.read in omega (arith, small, same));
-}
-
--- ---- what the front says
-
-abbrev answer_by : Bool → Bool → Bool → ℕ → Result ℕ ImageClass
-answer_by magic version legal size =
-    if magic then (if version then (if legal then Ok size else Err BadSize) else Err UnsupportedVersion) else Err BadMagic
-
-says_by : (magic version legal : Bool) (size n : ℕ) → answer_by magic version legal size ≡ Ok n → ((magic && version && legal) ≡ true) × (size ≡ n)
-says_by true true true size n e = (refl, cc)
-says_by true true false size n e = absurd (cc)
-says_by true false legal size n e = absurd (cc)
-says_by false version legal size n e = absurd (cc)
-
-pub front-says : (format : ℕ) (b : List ℕ) (n : ℕ) → 24 ≤ length b → front_of format b ≡ Ok n → Says format b n
-front-says format b n long e =
-    let p = says_by (has_magic b) (has_version format b) (is_legal_size (size_word b)) (size_word b) n e in
-    record { long = long; front = p.0; size = p.1 }
+legal-most : (n : ℕ) → is_legal_size n ≡ true → n ≤ 1073741824
+legal-most n e = grind (arith, nat_tests)
 
 legal-least : (n : ℕ) → is_legal_size n ≡ true → 144 ≤ n
 legal-least n e = grind (arith, nat_tests)
@@ -121,6 +97,9 @@ module _ (format : ℕ) (b : List ℕ) (said : ℕ) (s : Says format b said) whe
 
   pub said-least : 144 ≤ said
   said-least = let size = s.size in let least = legal-least (size_word b) legal in omega (arith, size, least)
+
+  pub said-most : said ≤ 1073741824
+  said-most = let size = s.size in let most = legal-most (size_word b) legal in omega (arith, size, most)
 
   pub undecided : length b ≤ said → decided format b ≡ None
   unfolding decided

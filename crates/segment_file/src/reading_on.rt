@@ -1,13 +1,14 @@
-//! The rest of an image that says more bytes than its file was told to have: a file that another writes, or a pipe.
+//! The rest of an image that says more bytes than there is room for: of a file that another writes, or a pipe.
 ghost use Rattle.std.specs.Prelude.{◌≡◌, ◌≤◌, length, MatchResult, OnOk, IfErr};
 ghost use Rattle.raw_region.specs.Device.{Grows};
-ghost use Rattle.segment_commands.specs.ReadingOn.{IsFrontOf, IsReadUpTo, IsTextOf, IsWhole, IsWhyNoText, IsWhyNotUpTo, IsWhyNotWhole};
+ghost use Rattle.image_check.specs.EarlyTests.{size_word};
+ghost use Rattle.segment_file.specs.ReadingOn.{IsFrontGiven, IsReadUpTo, IsWhole, IsWhyNotUpTo, IsWhyNotWhole};
 
-use crate::explaining::Unfit;
 use crate::heading::Headed;
-use image_check::{FRONT, ImageClass, Verdict, size_in_any};
-use raw_region::{Source, append};
-use segment_cli::SessionFault;
+use crate::unfit::Unfit;
+use image_check::{FRONT, ImageClass, Verdict};
+use raw_region::{Source, append, word_in};
+use segment_manager::layout::SIZE_AT;
 use std::alloc::Global;
 
 /// How many bytes are read at once, at most.
@@ -26,7 +27,7 @@ fn read_up_to<S: Source>(reader: &mut S, text: &mut Vec<u8>, said: u64) -> Resul
     'pieces: while (text.len() as u64) < said {
         let wanted = (said - text.len() as u64).min(PIECE as u64) as usize;
         match reader.read(&mut piece[..wanted]) {
-            Err(_) => return Err(Unfit::Fault(SessionFault::ReadFault)),
+            Err(_) => return Err(Unfit::ReadFault),
             Ok(0) => {
                 let class = ImageClass::Truncated;
                 let place = text.len() as u64;
@@ -52,7 +53,7 @@ fn read_whole<S: Source>(
     said: u64,
     reader: &mut S,
 ) -> Result<Vec<u8>, Unfit>
-    requires begun { IsFrontOf (S.history reader.old) front.now }
+    requires begun { IsReadUpTo (S.history reader.old) front.now }
     requires some { 24 ≤ said }
     ensures reads { MatchResult result (λ text. IsWhole said (S.history reader.new) text.items)
         (IsWhyNotWhole said (S.history reader.new)) }
@@ -62,7 +63,7 @@ fn read_whole<S: Source>(
     append(&mut text, front)?;
     read_up_to(reader, &mut text, said)?;
     match reader.read(&mut [0]) {
-        Err(_) => Err(Unfit::Fault(SessionFault::ReadFault)),
+        Err(_) => Err(Unfit::ReadFault),
         Ok(0) => Ok(text),
         Ok(_) => {
             let class = ImageClass::BadSize;
@@ -71,21 +72,20 @@ fn read_whole<S: Source>(
     }
 }
 
-/// All of an image of any of the three formats of which the first bytes were read, which say how many it has.
+/// All of an image of which the first bytes were read, where it has as many bytes as they say.
 ///
 /// # Errors
 ///
-/// `RegionTooSmall` where the first bytes alone were not kept. Else why they are not all of an image, with the place.
+/// As [`read_whole`].
 pub(crate) fn read_on<S: Source>(alloc: Global, reader: &mut Headed<S>) -> Result<Vec<u8>, Unfit>
-    ensures reads { MatchResult result (λ text. IsTextOf (S.history reader.new.inner) text.items)
-        (IsWhyNoText (S.history reader.old.inner) (S.history reader.new.inner)) }
+    requires front { IsFrontGiven (S.history reader.old.inner) }
+    requires some { 24 ≤ size_word (S.history reader.old.inner).bytes }
+    ensures reads { MatchResult result
+        (λ text. IsWhole (size_word (S.history reader.old.inner).bytes) (S.history reader.new.inner) text.items)
+        (IsWhyNotWhole (size_word (S.history reader.old.inner).bytes) (S.history reader.new.inner)) }
     ensures grows { Grows (S.history reader.old.inner).bytes (S.history reader.new.inner).bytes }
 {
-    let Some(front) = reader.front() else {
-        return Err(Unfit::Fault(SessionFault::RegionTooSmall));
-    };
-    match size_in_any(&front) {
-        Ok(said) => read_whole(alloc, &front, said, reader),
-        Err(_) => Err(Unfit::Fault(SessionFault::RegionTooSmall)),
-    }
+    let front = reader.front();
+    let said = word_in(&front, SIZE_AT as usize);
+    read_whole(alloc, &front, said, reader)
 }

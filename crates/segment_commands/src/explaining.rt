@@ -5,13 +5,12 @@ ghost use Rattle.segment_commands.specs.Explaining.{IsExplain, verdict_text, wor
 ghost use Rattle.segment_commands.specs.Telling.{Tells};
 
 use crate::command_faults::{CommandFault, WRITE_FAULT};
-use crate::opening::session_fault;
 use crate::telling::tell;
 use image_check::{ImageClass, Verdict};
 use raw_region::{DeviceFault, Sink};
 use segment_cli::{ProgramFault, SessionFault};
 use segment_disk::{Disk, Output};
-use segment_file::{FileError, Unfit, examine_file};
+use segment_file::{Unfit, examine_file};
 use segment_lang::{Piece, put_pieces};
 use std::alloc::Global;
 
@@ -90,8 +89,9 @@ pub fn explain<D: Disk, O: Output>(
             )))),
             Err(_) => Err(WRITE_FAULT),
         },
-        Err(unfit) => Err(CommandFault::Program(ProgramFault::Session(session_fault(
-            FileError::from(unfit),
-        )))),
+        Err(Unfit::OutOfMemory(refusal)) => {
+            Err(CommandFault::from(SessionFault::OutOfMemory(refusal)))
+        }
+        Err(Unfit::ReadFault) => Err(CommandFault::from(SessionFault::ReadFault)),
     }
 }

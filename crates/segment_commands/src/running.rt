@@ -67,7 +67,17 @@ fn run_held<D: Disk, S: Source, O: Lined>(
     let Ok(mut hold) = disk.hold(path) else {
         return Err(CommandFault::InUse);
     };
-    let answer = run_opened(alloc, disk, path, Mode::Write, how, &mut hold, until, script, out);
+    let answer = run_opened(
+        alloc,
+        disk,
+        path,
+        Mode::Write,
+        how,
+        &mut hold,
+        until,
+        script,
+        out,
+    );
     disk.release(hold);
     answered(answer)
 }

@@ -118,5 +118,5 @@ module _ (image : Given) (region : List ℕ) (mode : Mode) (s : State) where
     cramped refusal c =
         let long = as-long versions o in
         let same : region_len (length s.cut.bytes + more) ≡ file_region len more image.bytes =
-            ap (λ (n : ℕ). region_len (n + more)) long ∙ room-as-said len more image.bytes (let many = c.many in omega (arith, many, long)) in
+        ap (λ (n : ℕ). region_len (n + more)) long ∙ room-as-said len more image.bytes (let many = c.many in omega (arith, many, long)) in
         record { yet = inr (whole-image versions o); asked = region_len (length s.cut.bytes + more); within = omega (arith, same); refused = c.refused }

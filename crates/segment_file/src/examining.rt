@@ -40,7 +40,14 @@ fn examine_behind<S: Source>(alloc: Global, reader: &mut Headed<S>, len: u64) ->
     let text = read_on(alloc, reader)?;
     let region = file_region(alloc, text.len() as u64, 0)?;
     let image = text.as_slice();
-    match examine_bytes(Versions::Current, alloc, image, region, 0, &mut Steps::new()) {
+    match examine_bytes(
+        Versions::Current,
+        alloc,
+        image,
+        region,
+        0,
+        &mut Steps::new(),
+    ) {
         Ok(_) => Ok(()),
         Err(refused) => match unexamined(refused.cause) {
             Some(unfit) => Err(unfit),

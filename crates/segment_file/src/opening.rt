@@ -15,8 +15,9 @@ use crate::file_errors::FileError;
 use crate::heading::Headed;
 use crate::reading_on::read_on;
 use grow_shrink::{copy_into, region_for, size_of};
-use image_check::{MemoryFault, OpenError, OpenRefused, Versions};
-use image_check::{open, open_any, open_any_bytes, open_bytes};
+use image_check::{
+    MemoryFault, OpenError, OpenRefused, Versions, open, open_any, open_any_bytes, open_bytes,
+};
 use raw_region::{OutOfMemory, RawRegion, Source, Steps};
 use segment_disk::{Disk, Opened};
 use segment_manager::{Mode, Segment};

@@ -40,11 +40,7 @@ fn write_here<D: Disk>(
 }
 
 /// Puts the file that was made beside another in its place, or removes it.
-fn put_in_place<D: Disk>(
-    disk: &mut D,
-    path: &str,
-    hold: &mut D::Hold,
-) -> Result<(), DeviceFault>
+fn put_in_place<D: Disk>(disk: &mut D, path: &str, hold: &mut D::Hold) -> Result<(), DeviceFault>
     ensures { After D.step disk.old (placing path.now (is_ok result)) disk.new }
 {
     match disk.place(path, hold) {

@@ -1,6 +1,5 @@
 pub mod Faults
 pub mod Opening
-pub mod ReadingOn
 pub mod Telling
 pub mod Holding
 pub mod Commands

@@ -11,3 +11,4 @@ mod Linted
 mod LongTexts
 mod Loads
 mod Reported
+mod Checks

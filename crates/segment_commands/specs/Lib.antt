@@ -4,6 +4,7 @@ pub mod ReadingOn
 pub mod Telling
 pub mod Holding
 pub mod Commands
+pub mod Checking
 pub mod Running
 pub mod Resizing
 pub mod Migrating

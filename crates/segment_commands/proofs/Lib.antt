@@ -7,3 +7,4 @@ mod Linted
 mod LongTexts
 mod Loads
 mod Reported
+mod Checks

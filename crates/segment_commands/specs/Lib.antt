@@ -3,6 +3,7 @@ pub mod Opening
 pub mod Telling
 pub mod Holding
 pub mod Commands
+pub mod Checking
 pub mod Running
 pub mod Resizing
 pub mod Migrating

@@ -1,5 +1,5 @@
-/* Rows: many texts, pairs, names or elements by one call, and calls for one small number. They are C over the calls of
-   zaluxhoni.h: tested, not proved. Python goes through them, since a call of C is dear there; they save C its loops.
+/* Rows: many texts, pairs or names by one call. They are C over the calls of zaluxhoni.h: tested, not proved. Python goes
+   through them, since a call of C is dear there; they save C its loops.
 
    Each takes what its parameters say as the calls of zaluxhoni.h do, and returns their codes. A call that is refused
    may have done the front of its row; the same call goes on from there. */
@@ -11,10 +11,6 @@
 #ifdef __cplusplus
 extern "C" {
 #endif
-
-/* Puts the values behind the `first` elements of a vector of their kind, which has just these, or more of the values
-   already. ZX_NULL_SLICE, ZX_BAD_KIND; and as zx_push. */
-zx_code zx_push_row(zx_segment *segment, const zx_key *key, uint64_t first, const zx_values *values);
 
 /* Reads pairs of a map in the order of their keys, at most `count`: from the least key on, or those above `after` if
    that is not null. Keys and values are 64 bits each, those of ZX_U64 as they stand. `read` says how many there are:
@@ -32,8 +28,8 @@ zx_code zx_clear_map(zx_segment *segment, const zx_key *key);
    no room for the first one; and as zx_read_text. */
 zx_code zx_read_texts(zx_segment *segment, const zx_key *key, uint64_t first, uint8_t *texts, size_t room,
                       uint64_t *ends, size_t count, size_t *read);
-/* Puts texts behind the `first` ones of a vector of strings, as zx_push_row does. ZX_NULL_SLICE; and as
-   zx_push_text. */
+/* Puts texts behind the `first` ones of a vector of strings, which has just these, or more of the texts already.
+   ZX_NULL_SLICE; and as zx_push_text. */
 zx_code zx_push_texts(zx_segment *segment, const zx_key *key, uint64_t first, const zx_text *texts, size_t count);
 
 /* Reads what the objects with names say of themselves, from the index `first` on, at most `count` and as many as there

@@ -161,23 +161,6 @@ pub fn element(
     code_for!(element, it => *value = Value::of(it))
 }
 
-/// The same of an element that was taken out.
-pub fn element_taken(
-    element: Result<ScalarValue, Refusal>,
-    value: &mut Value,
-    h: &mut Handle,
-    segment: Box<Segment>,
-) -> u32
-    ensures answers { answer_for result (element_in value.new) ≡ scalar_answer element }
-    ensures answer { IsTrue (is_answer result) }
-    ensures kept { 1 ≤ result → value.new ≡ value.old }
-    ensures put { h.new.segment.value ≡ Held segment.value }
-    ensures marks { h.new.marks ≡ raised h.old.marks }
-{
-    put_changed(DONE, h, segment);
-    code_for!(element, it => *value = Value::of(it))
-}
-
 /// The code where an object was found or made, or not. Its handle and how many elements it has go out.
 pub fn found(
     found: Result<(u64, u32), Refusal>,

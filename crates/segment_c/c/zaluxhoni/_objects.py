@@ -9,7 +9,7 @@ from typing import (TYPE_CHECKING, Any, Dict, Iterable, Iterator, List, MutableM
                     Sequence, Tuple, Union)
 
 from . import _library
-from ._errors import Absent, BadCount, BadValue, Error, NoElement, NoSpace, OutOfRange, WrongKind, error_of
+from ._errors import Absent, BadCount, BadValue, Error, NoElement, OutOfRange, WrongKind, error_of
 from ._library import BOOL, HAS_PYTHON, I32, I64, STRING, STRINGS, U8, U64, VECTOR, MAP, quick, zx
 from ._values import (KINDS, SCALARS, Key, Row, Texts, decoded, encoded, from_words, is_scalar, listed,
                       natural, number_in, pairs_of, raw_key, row, scalar, unpacked, value_of, whole)
@@ -19,7 +19,6 @@ if TYPE_CHECKING:
 
 _reads = {BOOL: zx.zx_read_bools, U8: zx.zx_read_u8s, I32: zx.zx_read_i32s, I64: zx.zx_read_i64s, U64: zx.zx_read_u64s}
 _AHEAD = 4096
-_FEW = 64
 
 
 def _no_value(*_: Any) -> None:
@@ -329,9 +328,9 @@ class _Scalars(_Elements):
         except Error as error:
             raise self._named(error) from None
 
-    def _memory(self, first: int, count: int, room: int = 0) -> Any:
-        """The bytes of so many elements from a place on, with room for more behind them."""
-        memory = ctypes.create_string_buffer(max(8, (count + room) * SCALARS[self._scalar_code].size))
+    def _memory(self, first: int, count: int) -> Any:
+        """The bytes of so many elements from a place on."""
+        memory = ctypes.create_string_buffer(max(8, count * SCALARS[self._scalar_code].size))
         self._call(_reads[self._scalar_code], first, memory, count)
         return memory
 
@@ -505,25 +504,7 @@ class Vector(_Scalars, _List, MutableSequence[int]):
         self._change(zx.zx_push, self._number(value))
 
     def _extend(self, values: Any) -> None:
-        passed = self._row(values)
-        length, places = self._measure()
-        if passed.count < _FEW or passed.count * 8 < length:
-            self._make_room(length + passed.count, places)
-            return self._change(zx.zx_push_row, length, passed.passed)
-        if not length:
-            return self._change(zx.zx_assign, passed.passed)
-        size = SCALARS[self._scalar_code].size
-        together = self._memory(0, length, passed.count)
-        ctypes.memmove(ctypes.addressof(together) + length * size, passed.memory, passed.count * size)
-        self._change(zx.zx_assign, Row(self._scalar_code, together, length + passed.count).passed)
-
-    def _make_room(self, wanted: int, places: int) -> None:
-        """Makes places for so many elements, and twice as many as there are where there is space for them."""
-        if wanted > places:
-            try:
-                self.reserve(max(wanted, 2 * places))
-            except NoSpace:
-                self.reserve(wanted)
+        self._change(zx.zx_extend, self._row(values).passed)
 
     def assign(self, values: Iterable[int]) -> None:
         """Makes these the elements: all of them, or none. NoSpace, OutOfRange, WrongKind."""

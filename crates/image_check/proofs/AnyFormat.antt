@@ -5,11 +5,11 @@ use Rattle.std.proofs.lemmas.Bool.{and_from, cases_lt}
 use Rattle.std.proofs.lemmas.List.{append_assoc, length-append}
 use Rattle.std.proofs.lemmas.List.Folds.{list_all-append}
 use Rattle.raw_region.specs.Device.{Given}
-use Rattle.raw_region.specs.Memory.{zeros}
+use Rattle.raw_region.specs.Memory.{zeros, are_bytes}
 use Rattle.image_check.specs.declared.classes.ImageClass.{ImageClass}
 use Rattle.image_check.specs.declared.errors.OpenError.{OpenError}
 use Rattle.image_check.specs.declared.errors.OpenError.TheVariants.{Image, RegionTooSmall, OutOfMemory, ReadFault}
-use Rattle.image_check.specs.Classes.{DecidesClass, are_bytes, class_of}
+use Rattle.image_check.specs.Classes.{DecidesClass, class_of}
 use Rattle.image_check.specs.Deciding.{AllDecidedAny, decided}
 use Rattle.image_check.specs.Formats.{DecidesAny, class_of_any, format_of}
 use Rattle.image_check.specs.Opening.{IsWhyNot}

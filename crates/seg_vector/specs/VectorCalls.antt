@@ -6,7 +6,7 @@ use Rattle.raw_region.specs.{Memory.Cut, Format.current}
 use Rattle.best_fit.specs.{Exchange.IsExchanged, Heap.KeepsGaps, Heap.live_of}
 use Rattle.best_fit.specs.Table.{Table, cut_table, no_table}
 use Rattle.seg_types.specs.{declared.refusals.Refusal.Refusal, declared.refusals.Refusal.TheVariants.OutOfRange}
-use Rattle.seg_vector.specs.declared.places.Place.{Place}
+use Rattle.best_fit.specs.declared.places.Place.{Place}
 use Rattle.seg_vector.specs.{Standing.Stands, Standing.place_at, Vector.capacity_for_one, Vector.grown_table}
 pub use Rattle.seg_vector.specs.Standing.{IsWithoutSpace}
 

@@ -3,9 +3,9 @@ ghost use Rattle.std.specs.Prelude.{◌≡◌, ◌+◌, ◌*◌, ◌<◌, ◌≤
 ghost use Rattle.seg_vector.specs.Elements.{Erases, Extends, HasSpot, PutsAt, ReadsAll, ReadsOne, Truncates};
 ghost use Rattle.seg_vector.specs.Standing.{IsStanding, capacity_at, len_at};
 
-use crate::places::{LEN, Place, len_of, link_of};
-use best_fit::Heap;
-use seg_types::Plain;
+use crate::places::{LEN, len_of, link_of};
+use best_fit::{Heap, Place};
+use seg_types::{MAX_SPELLING_LEN, Plain, SHORT_SPELLING_LEN};
 
 /// The bytes of all elements, of `each` bytes each.
 pub fn elements(heap: &Heap, place: Place, each: u64) -> &[u8]
@@ -108,11 +108,6 @@ pub fn put_at(heap: &mut Heap, place: Place, each: u64, spot: Spot, bytes: &[u8]
     }
 }
 
-/// Spellings of so many bytes go by way of a short buffer, and others by way of one for the longest.
-const SHORT: usize = 16;
-
-const LONGEST: usize = 4096;
-
 /// Puts a value at a spot.
 pub fn put_value<T: Plain>(heap: &mut Heap, place: Place, spot: Spot, value: T)
     requires stands { IsStanding heap.old.bytes place T.SIZE }
@@ -120,10 +115,10 @@ pub fn put_value<T: Plain>(heap: &mut Heap, place: Place, spot: Spot, value: T)
     ensures value { T.is_value value ≡ true }
     ensures put { PutsAt heap.old heap.new place T.SIZE spot (T.spelling value) }
 {
-    if T::SIZE as usize <= SHORT {
-        put_by::<T, SHORT>(heap, place, spot, value);
+    if T::SIZE as usize <= SHORT_SPELLING_LEN {
+        put_by::<T, SHORT_SPELLING_LEN>(heap, place, spot, value);
     } else {
-        put_by::<T, LONGEST>(heap, place, spot, value);
+        put_by::<T, MAX_SPELLING_LEN>(heap, place, spot, value);
     }
 }
 

@@ -6,8 +6,8 @@ ghost use Rattle.seg_vector.specs.{Elements.Fits, Elements.GivesBack, Vector.cap
 ghost use Rattle.seg_vector.specs.Standing.{Grows, GrowsForOne, IsStanding, Stands, len_at, place_at};
 ghost use Rattle.seg_vector.specs.TextParts.{IsPointed};
 
-use crate::places::{CAPACITY, LEN, Place, capacity_of, len_of, link_of};
-use best_fit::{Heap, NoSpace};
+use crate::places::{CAPACITY, LEN, capacity_of, len_of, link_of};
+use best_fit::{Heap, NoSpace, Place};
 use block_tags::MAX_SEGMENT_LEN;
 use raw_region::Steps;
 use seg_types::Refusal;

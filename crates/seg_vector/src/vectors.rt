@@ -8,9 +8,9 @@ ghost use Rattle.seg_vector.specs.VectorCalls.{IsSomeVector, IsVector, Pops, Pus
 ghost use Rattle.seg_vector.specs.VectorCalls.{ReservesNothing, Sets, Shrinks, Starts};
 
 use crate::elements::{Spot, element, erase_element, put_value, truncate};
-use crate::places::{Place, capacity_of, len_of};
+use crate::places::{capacity_of, len_of};
 use crate::sizing::{self, fit, give_back, grow_for_one, start};
-use best_fit::Heap;
+use best_fit::{Heap, Place};
 use seg_types::{Plain, Refusal};
 use std::marker::PhantomData;
 

@@ -4,34 +4,29 @@
 ghost use Rattle.std.specs.Prelude.{◌≡◌, ⊤};
 ghost use Rattle.segment_disk.specs.Events.{nothing_taken};
 
+mod requests;
+
 use raw_region::stream::{ReadOnce, Reading, Writing};
 use raw_region::{DeviceFault, Source};
+use requests::{NoMemory, asked, borrowed, buffered, words};
 use segment_answers::{Lined, Numbered};
-use segment_cli::SessionFault;
+use segment_cli::{ProgramFault, SessionFault};
 use segment_commands::{
-    ProgramFault, check, create, draw, draw_page, dump, dump_capacities, dump_json, explain, grow,
-    lint, load, load_over, migrate, names, print, print_language, report, report_file, shrink,
-    stat,
+    CommandFault, WRITE_FAULT, check, create, draw, draw_page, dump, dump_capacities, dump_json,
+    explain, grow, lint, load, load_over, migrate, names, print, print_language, report,
+    report_file, report_no_memory, shrink, stat,
 };
 use segment_disk::{Disk, HostDisk, Opened, Outlet, Output, Trouble};
 use segment_invocation::{
-    Invocation, InvocationFault, Keeping, ModeName, Running, Saving, Script, VERSION, invocation,
-    is_verbose, script_text,
+    Invocation, Keeping, ModeName, Running, Saving, Script, VERSION, is_verbose, script_text,
 };
 use segment_lang::{Piece, put_pieces};
 use segment_scripts::{Until, command_rows};
-use std::alloc::{AllocError, Global};
-use std::io::{self, BufWriter, ErrorKind, IsTerminal, Read, Write};
+use std::io::{self, IsTerminal, Read, Write};
 use std::process::ExitCode;
 
-/// Memory for reading the command line, or for the answers, was refused.
-const OUT_OF_MEMORY: ProgramFault = ProgramFault::Session(SessionFault::OutOfMemory);
-
-/// Standard output failed.
-const WRITE_FAULT: ProgramFault = ProgramFault::Session(SessionFault::WriteFault);
-
-/// How many bytes of answers go out at once, at most.
-const PIECE: usize = 65536;
+/// The command line is wrong.
+const USAGE: CommandFault = CommandFault::Program(ProgramFault::Usage);
 
 /// The status where the reader of standard output ended first, as of a program that SIGPIPE ends.
 const CLOSED_PIPE: u8 = 141;
@@ -40,37 +35,38 @@ const CLOSED_PIPE: u8 = 141;
 fn main(rt: HostRuntime) -> ExitCode {
     let status = match obey(&rt) {
         Ok(status) => status,
-        Err(fault) => tell(&rt, fault),
+        Err(_) => report_no_memory(&mut Writing::new(rt.stderr())),
     };
     ExitCode::from(status)
 }
 
 /// Says what a fault is, and answers its status.
-fn tell(rt: &HostRuntime, fault: ProgramFault) -> u8 {
+fn tell(rt: &HostRuntime, fault: CommandFault) -> u8 {
     report(fault, &mut Writing::new(rt.stderr()))
 }
 
-/// Does what the program's own command line asks for, and answers the status.
-fn obey(rt: &HostRuntime) -> Result<u8, ProgramFault> {
-    let owned = words(rt)?;
-    let words = borrowed(rt.alloc(), owned.as_slice()).map_err(|_| OUT_OF_MEMORY)?;
-    match invocation(rt.alloc(), words.as_slice()) {
+/// Does what the program's own command line asks for, and answers the status. Words that are no text are a wrong command
+/// line.
+fn obey(rt: &HostRuntime) -> Result<u8, NoMemory> {
+    let Some(owned) = words(rt)? else {
+        let _ = eprintln!(rt; "error: the command line is no UTF-8");
+        return Ok(tell(rt, USAGE));
+    };
+    let words = borrowed(rt.alloc(), owned.as_slice())?;
+    match asked(rt.alloc(), words.as_slice())? {
         Ok(asked) => perform(rt, &asked, is_verbose(words.as_slice())),
-        Err(InvocationFault::Usage(wrong)) => {
+        Err(wrong) => {
             let _ = eprint!(rt; "{wrong}");
-            Err(ProgramFault::Usage)
+            Ok(tell(rt, USAGE))
         }
-        Err(InvocationFault::OutOfMemory) => Err(OUT_OF_MEMORY),
     }
 }
 
 /// Does what the command line asks for, with the files of the system, standard input and standard output, and answers
 /// the status. Where a person reads standard error, or more is asked for, it is told behind the line of a fault why the
 /// system did not open or make the file, as far as it said so.
-fn perform(rt: &HostRuntime, asked: &Invocation<'_>, is_verbose: bool) -> Result<u8, ProgramFault> {
-    let Ok(buffer) = BufWriter::with_capacity(rt.alloc(), PIECE, io::writer(rt)) else {
-        return Err(OUT_OF_MEMORY);
-    };
+fn perform(rt: &HostRuntime, asked: &Invocation<'_>, is_verbose: bool) -> Result<u8, NoMemory> {
+    let buffer = buffered(rt.alloc(), io::writer(rt))?;
     let mut disk = HostDisk::patient(rt, seconds_of(asked));
     let mut scripts = HostDisk::new(rt);
     let out = Outlet::new(buffer);
@@ -97,7 +93,7 @@ fn check_all<W: Write>(
     is_quiet: bool,
     is_verbose: bool,
     out: &mut Outlet<W>,
-) -> Result<u8, ProgramFault>
+) -> Result<u8, CommandFault>
     requires { out.old.history ≡ nothing_taken }
 {
     let mut worst = 0;
@@ -164,7 +160,7 @@ fn command<W: Write + Drop>(
     asked: &Invocation<'_>,
     is_verbose: bool,
     out: Outlet<W>,
-) -> Result<u8, ProgramFault>
+) -> Result<u8, CommandFault>
     requires { out.history ≡ nothing_taken }
 {
     let alloc = rt.alloc();
@@ -273,7 +269,7 @@ fn answer<O: Lined + Drop>(
     run: Run<'_>,
     how: &Running<'_>,
     out: O,
-) -> Result<(), ProgramFault>
+) -> Result<(), CommandFault>
     requires { O.history out ≡ nothing_taken }
 {
     match &how.script {
@@ -283,14 +279,14 @@ fn answer<O: Lined + Drop>(
         }
         Script::File(path) => {
             let Ok(opened) = scripts.open(path) else {
-                return Err(ProgramFault::Session(SessionFault::ReadFault));
+                return Err(CommandFault::Program(ProgramFault::Session(SessionFault::ReadFault)));
             };
             let Opened { reader, len: _ } = opened;
             let mut script = reader;
             answer_script(rt, disk, run, how, &mut script, out)
         }
         Script::Lines(lines) => {
-            let text = script_text(rt.alloc(), lines.as_slice()).map_err(|_| OUT_OF_MEMORY)?;
+            let text = script_text(rt.alloc(), lines.as_slice())?;
             let mut script = Reading::new(text.as_slice());
             answer_script(rt, disk, run, how, &mut script, out)
         }
@@ -305,7 +301,7 @@ fn answer_script<S: Source, O: Lined + Drop>(
     how: &Running<'_>,
     script: &mut S,
     out: O,
-) -> Result<(), ProgramFault>
+) -> Result<(), CommandFault>
     requires script { (S.history script.old).failures ≡ 0 }
     requires out { O.history out ≡ nothing_taken }
 {
@@ -324,7 +320,7 @@ fn answer_to<S: Source, O: Lined>(
     how: &Running<'_>,
     script: &mut S,
     out: &mut O,
-) -> Result<(), ProgramFault>
+) -> Result<(), CommandFault>
     requires script { (S.history script.old).failures ≡ 0 }
     requires out { O.history out.old ≡ nothing_taken }
 {
@@ -410,26 +406,11 @@ fn file_of<'a>(asked: &Invocation<'a>) -> Option<&'a str> {
 }
 
 /// Whether a fault can be one of the file.
-fn is_of_file(fault: ProgramFault) -> bool {
+fn is_of_file(fault: CommandFault) -> bool {
     matches!(
         fault,
-        ProgramFault::Session(SessionFault::ReadFault | SessionFault::WriteFault)
+        CommandFault::Program(ProgramFault::Session(
+            SessionFault::ReadFault | SessionFault::WriteFault
+        ))
     )
-}
-
-/// The words of the command line, the program's name first. Those that are no text are a wrong command line.
-fn words(rt: &HostRuntime) -> Result<Vec<String>, ProgramFault> {
-    match std::env::args(rt) {
-        Ok(words) => words.collect(rt.alloc()).map_err(|_| OUT_OF_MEMORY),
-        Err(error) if error.kind() == ErrorKind::OutOfMemory => Err(OUT_OF_MEMORY),
-        Err(_) => {
-            let _ = eprintln!(rt; "error: the command line is no UTF-8");
-            Err(ProgramFault::Usage)
-        }
-    }
-}
-
-/// The words as texts that are lent.
-fn borrowed<'a>(alloc: Global, words: &'a [String]) -> Result<Vec<&'a str>, AllocError> {
-    words.iter().map(|word| word.as_str()).collect(alloc)
 }

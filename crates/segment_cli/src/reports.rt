@@ -48,7 +48,7 @@ fn session_line(fault: SessionFault) -> &'static [u8]
     match fault {
         SessionFault::Image(class) => class_line(class),
         SessionFault::BadSize | SessionFault::RegionTooSmall => b"segment: size refused\n",
-        SessionFault::OutOfMemory => b"segment: out of memory\n",
+        SessionFault::OutOfMemory(_) => b"segment: out of memory\n",
         SessionFault::ReadFault => b"segment: read fault\n",
         SessionFault::WriteFault => b"segment: write fault\n",
         SessionFault::ScriptTooLong => b"segment: script too long\n",
@@ -74,7 +74,7 @@ fn session_status(fault: SessionFault) -> u8
     match fault {
         SessionFault::Image(_) | SessionFault::BadSize | SessionFault::RegionTooSmall => 1,
         SessionFault::ReadFault | SessionFault::WriteFault | SessionFault::ScriptTooLong => 3,
-        SessionFault::OutOfMemory => 4,
+        SessionFault::OutOfMemory(_) => 4,
     }
 }
 

@@ -12,13 +12,14 @@ use Rattle.image_check.specs.Causes.{IsShown, error_for}
 use Rattle.image_check.specs.Classes.{class_of}
 use Rattle.image_check.specs.Opening.{IsRefusedAs}
 use Rattle.segment_cli.specs.declared.faults.SessionFault.{SessionFault}
-use Rattle.segment_cli.specs.declared.faults.SessionFault.TheVariants.{Image as Refused, OutOfMemory}
+use Rattle.segment_cli.specs.declared.faults.SessionFault.TheVariants.{Image as Refused}
 use Rattle.segment_cli.specs.declared.faults.Start.TheVariants.{Image as OfImage}
 use Rattle.segment_cli.specs.Beginning.{opened_fault}
 use Rattle.segment_disk.specs.Events.{Event, Opened, Read, After, nothing_given}
 use Rattle.segment_commands.specs.declared.explaining.Unfit.{Unfit}
 use Rattle.segment_commands.specs.declared.explaining.Unfit.TheVariants.{Image, Fault}
 use Rattle.segment_file.specs.Files.{opens}
+use Rattle.segment_commands.specs.Faults.{bytes_refused}
 use Rattle.segment_commands.specs.Opening.{BeginsIn, VerifiesFile}
 use Rattle.segment_commands.specs.Explaining.{ExaminesFile, ExaminesIn, IsUnfitFile, fault_for, unfit_for}
 
@@ -27,11 +28,11 @@ use Rattle.segment_commands.specs.Explaining.{ExaminesFile, ExaminesIn, IsUnfitF
 decided : (image : Given) (class : ImageClass) → IsRefusedAs current image class → class_of current image.bytes ≡ Some class
 decided image class r = elim r.right [ inl e ↦ e.1 | inr d ↦ subst (λ (b : List ℕ). class_of current b ≡ Some class) (append-nil image.bytes) (d [] refl) ]
 
-is_no_memory : (class : ImageClass) → let answer : Result State SessionFault = Err (Refused class) in answer ≡ Err OutOfMemory → ⊥
-is_no_memory class e = cc
+is_no_memory : (class : ImageClass) (asked : ℕ) → let answer : Result State SessionFault = Err (Refused class) in answer ≡ Err (bytes_refused asked) → ⊥
+is_no_memory class asked e = cc
 
 class_known : (image : Given) (class : ImageClass) → BeginsIn OfImage ReadOnly image (Err (Refused class)) → class_of current image.bytes ≡ Some class
-class_known image class (inl r) = absurd (is_no_memory class r.refused)
+class_known image class (inl r) = absurd (is_no_memory class r.asked r.refused)
 class_known image class (inr b) = decided image class b.starts.answers.1
 
 -- ---- what an examination answers

@@ -8,6 +8,6 @@ mod Explained
 mod ReadOn
 mod Migrated
 mod Linted
+mod LongTexts
 mod Loads
 mod Reported
-mod ReportedLines

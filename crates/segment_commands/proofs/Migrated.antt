@@ -17,12 +17,13 @@ use Rattle.image_check.specs.Opening.{IsTooSmallFor}
 use Rattle.image_check.specs.OpeningAny.{IsWhyNotAny, OpensAny}
 use Rattle.image_check.proofs.Facts.{all_decided}
 use Rattle.segment_cli.specs.declared.faults.SessionFault.{SessionFault}
-use Rattle.segment_cli.specs.declared.faults.SessionFault.TheVariants.{Image as Refused, OutOfMemory, ReadFault, RegionTooSmall}
+use Rattle.segment_cli.specs.declared.faults.SessionFault.TheVariants.{Image as Refused, ReadFault, RegionTooSmall}
 use Rattle.segment_cli.specs.Beginning.{opened_fault}
 use Rattle.segment_disk.specs.Events.{nothing_given}
 use Rattle.segment_commands.specs.declared.explaining.Unfit.{Unfit}
 use Rattle.segment_commands.specs.declared.explaining.Unfit.TheVariants.{Image, Fault}
 use Rattle.segment_commands.specs.Explaining.{fault_for}
+use Rattle.segment_commands.specs.Faults.{bytes_refused}
 use Rattle.segment_commands.specs.Migrating.{BeginsAny, as_session}
 use Rattle.segment_commands.specs.ReadingOn.{IsWhyNoText, IsWhyNotWhole, Says}
 use Rattle.segment_commands.proofs.Fronts.{ends-early, format-grown, format-stays, goes-past, still-too-small, undecided}
@@ -80,13 +81,13 @@ module _ (new : Gave) (said : ℕ) (s : Says (format_of new.bytes) new.bytes sai
       elim t.how [
         | inl r ↦ as_fault fault ReadFault r.0 (refused NotRead
             (record { failed = lt-ltb 0 new.failures r.1; open_class = λ c d. (all_decided (format_of new.bytes) new.bytes).none open_yet c (decides-class new.bytes s.long c d) }))
-        | inr m ↦ as_fault fault OutOfMemory m.0 (inl (record { unread = inr (record { sound = sound m.1; undecided = open_yet }); refused = refl }))
+        | inr m ↦ as_fault fault (bytes_refused m.0) m.1 (inl (record { unread = inr (record { sound = sound m.2; undecided = open_yet }); asked = m.0; refused = refl }))
       ]
 
 -- ---- behind an image for which there was no room
 
-no-memory : (image : Given) → let answer : Result State SessionFault = Err RegionTooSmall in answer ≡ Err OutOfMemory → ⊥
-no-memory image e = cc
+no-memory : (asked : ℕ) → let answer : Result State SessionFault = Err RegionTooSmall in answer ≡ Err (bytes_refused asked) → ⊥
+no-memory asked e = cc
 
 -- no other cause is told as want of room
 is-room : (cause : OpenError) → let answer : Result State SessionFault = Err RegionTooSmall in answer ≡ Err (opened_fault cause) → cause ≡ NoRoom
@@ -101,7 +102,7 @@ too-small-in image region (Ok segment) o e = absurd (cc)
 too-small-in image region (Err refused) o e = subst (IsWhyNotAny image 0 (length region)) (is-room refused.cause e) o.answers.why
 
 too-small-any : (image : Given) → BeginsAny image (Err RegionTooSmall) → (capacity : ℕ) × IsTooSmallFor (format_of image.bytes) image 0 capacity
-too-small-any image (inl r) = absurd (no-memory image r.refused)
+too-small-any image (inl r) = absurd (no-memory r.asked r.refused)
 too-small-any image (inr b) = (length b.region, too-small-in image b.region b.opened b.opens_any b.answer)
 
 module _ (old new : Gave) (small : BeginsAny (given_since nothing_given old) (Err RegionTooSmall)) (grows : Grows old.bytes new.bytes) where

@@ -17,7 +17,7 @@ use Rattle.segment_file.specs.Files.{opens}
 use Rattle.segment_commands.specs.Opening.{BeginsIn, OpensFile}
 use Rattle.segment_commands.specs.Commands.{MakesSegment}
 use Rattle.segment_commands.specs.Running.{EndsRun, RunsFree, RunsOpened, RunsReadable, MakesRun}
-use Rattle.segment_commands.specs.declared.program_faults.ProgramFault.{ProgramFault}
+use Rattle.segment_commands.specs.declared.command_faults.CommandFault.{CommandFault}
 
 -- what is answered as a segment is answered as no fault
 no_fault : (s : State) (fault : SessionFault) → let answer : Result State SessionFault = Ok s in answer ≡ Err fault → ⊥
@@ -39,16 +39,12 @@ module _ {D O : Type 0} (step : D → Event → D → Type 0) (old read new : D)
   module _ (size : ℕ)
       (ends : (start : Start) (m : Mode) (capacity : ℕ) (image : Given) → Starts start m 0 capacity image (Ok s) → EndsRun step old new New path
       (record { start = start; mode = m; capacity = capacity; image = image; until = until; script = given_since script script'; out = taken_since (history out) (history out') }) flushes result) where
-    fresh_run : (image : Given) → BeginsIn (Fresh size) Write image (Ok s) → MakesRun step old new path size until script script' history flushes out out' result
-    fresh_run image (inl r) = absurd (no_fault s _ r.refused)
-    fresh_run image (inr b) = inr (record { image = image; capacity = b.capacity; ends = ends (Fresh size) Write b.capacity image b.starts })
-
     pub made_run : MakesSegment size (Ok s) → MakesRun step old new path size until script script' history flushes out out' result
     made_run (inl w) = absurd (no_fault s _ w.refused)
-    made_run (inr f) = fresh_run f.image f.begins
+    made_run (inr f) = let a = f.answers in inr (record { image = a.image; capacity = a.capacity; ends = ends (Fresh size) Write a.capacity a.image a.starts })
 
 module _ {D O : Type 0} (step : D → Event → D → Type 0) (old new : D) (path : List ℕ) (how : Making) (until : Until) (script script' : Gave) (history : O → Took) (flushes : Bool → Type 0) (out out' : O)
-    (result : Result (Unit {0}) ProgramFault) where
+    (result : Result (Unit {0}) CommandFault) where
   -- a run that does not save
   pub in_reading : (mode : Mode) → mode ≢ Write → RunsFree step old new path how until script script' history flushes out out' result mode
       → RunsReadable step old new path how until script script' history flushes out out' result mode

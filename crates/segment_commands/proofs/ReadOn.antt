@@ -26,13 +26,14 @@ use Rattle.image_check.specs.Reading.{front_of}
 use Rattle.image_check.specs.Verdicts.{Shows}
 use Rattle.image_check.proofs.Facts.{all_decided}
 use Rattle.segment_cli.specs.declared.faults.SessionFault.{SessionFault}
-use Rattle.segment_cli.specs.declared.faults.SessionFault.TheVariants.{Image as Refused, OutOfMemory, ReadFault, RegionTooSmall}
+use Rattle.segment_cli.specs.declared.faults.SessionFault.TheVariants.{Image as Refused, ReadFault, RegionTooSmall}
 use Rattle.segment_cli.specs.declared.faults.Start.TheVariants.{Image as OfImage}
 use Rattle.segment_cli.specs.Beginning.{IsWhyNotBegun, opened_fault}
 use Rattle.segment_disk.specs.Events.{nothing_given}
 use Rattle.segment_commands.specs.declared.explaining.Unfit.{Unfit}
 use Rattle.segment_commands.specs.declared.explaining.Unfit.TheVariants.{Image, Fault}
 use Rattle.segment_commands.specs.Explaining.{ExaminesIn, IsNoClass, IsToldOf, fault_for, unfit_for}
+use Rattle.segment_commands.specs.Faults.{bytes_refused}
 use Rattle.segment_commands.specs.Migrating.{as_session}
 use Rattle.segment_commands.specs.Opening.{BeginsIn}
 use Rattle.segment_commands.specs.ReadingOn.{IsFrontOf, IsMisread, IsTextOf, IsWhole, IsWhyNoText, IsWhyNotWhole, Says}
@@ -71,8 +72,8 @@ module _ (old new : Gave) (front : List ℕ) (said : ℕ) (f : IsFrontOf old fro
 no-read-class : IsNoClass ReadFault
 no-read-class class e = cc
 
-no-memory-class : IsNoClass OutOfMemory
-no-memory-class class e = cc
+no-memory-class : (asked : ℕ) → IsNoClass (bytes_refused asked)
+no-memory-class asked class e = cc
 
 no-room-class : IsNoClass RegionTooSmall
 no-room-class class e = cc
@@ -93,7 +94,7 @@ module _ (new : Gave) (said : ℕ) (s : Says current new.bytes said) where
     subst (λ (c : ImageClass). class_of current new.bytes ≡ Some c) (sym t.0) (ends-early current new.bytes said s t.2.short),
     subst (λ (c : ImageClass). Shows current new.bytes c v.place) (sym t.0) t.1,
   )
-  told-whole (Fault fault) t = elim t.how [ inl r ↦ subst IsNoClass (sym r.0) no-read-class | inr m ↦ subst IsNoClass (sym m.0) no-memory-class ]
+  told-whole (Fault fault) t = elim t.how [ inl r ↦ subst IsNoClass (sym r.0) no-read-class | inr m ↦ subst IsNoClass (sym m.1) (no-memory-class m.0) ]
 
   module _ (mode : Mode) where
     started : (fault : SessionFault) → IsWhyNotBegun OfImage image 0 said fault → BeginsIn OfImage mode image (Err fault)
@@ -122,7 +123,7 @@ module _ (new : Gave) (said : ℕ) (s : Says current new.bytes said) where
         elim t.how [
           | inl r ↦ as_fault fault ReadFault r.0 (started ReadFault
               (refl, record { failed = lt-ltb 0 new.failures r.1; open_class = (all_decided current new.bytes).none open_yet }))
-          | inr m ↦ as_fault fault OutOfMemory m.0 (inl (record { unread = inr (record { sound = sound m.1; undecided = open_yet }); refused = refl }))
+          | inr m ↦ as_fault fault (bytes_refused m.0) m.1 (inl (record { unread = inr (record { sound = sound m.2; undecided = open_yet }); asked = m.0; refused = refl }))
         ]
 
 -- ---- behind an image for which there was no room
@@ -165,7 +166,7 @@ module _ (mode : Mode) (text region : List ℕ) where
   why_not : (cause : OpenError) → IsWhyNotOf current text 0 (length region) cause → IsWhyNotBegun OfImage (as_given text) 0 (length region) (opened_fault cause)
   why_not (NoImage c) why = (refl, record { sound = refl; right = inl (refl, why) })
   why_not NoRoom why = why
-  why_not (NoMemory refusal) why = (refl, why.0)
+  why_not (NoMemory refusal) why = (refl, why)
   why_not NotRead why = absurd why
 
   abbrev no_segment : OpenError → Result State SessionFault

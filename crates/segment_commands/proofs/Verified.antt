@@ -49,7 +49,7 @@ module _ (image : Given) (region : List ℕ) where
       → IsWhyNotBegun Image image 0 (length region) (opened_fault cause)
   why_not_begun (NoImage c) why = (refl, why)
   why_not_begun NoRoom why = why
-  why_not_begun (NoMemory refusal) why = (refl, why.0)
+  why_not_begun (NoMemory refusal) why = (refl, why)
   why_not_begun NotRead why = (refl, why)
 
   abbrev no_segment : OpenError → Result State SessionFault

@@ -8,13 +8,14 @@ use Rattle.image_check.specs.declared.classes.ImageClass.{ImageClass}
 use Rattle.image_check.specs.declared.classes.ImageClass.TheVariants.{Truncated, BadMagic, UnsupportedVersion, BadSize, BadReserved, BadTag, BadFreeTree, BadIndex, BadObject, SharedBlock, BadContainer, OrphanBlock}
 use Rattle.image_check.specs.declared.errors.ExamineError.{ExamineError}
 use Rattle.image_check.specs.declared.errors.ExamineError.TheVariants.{Image as Judged, RegionTooSmall as TooSmall, OutOfMemory as NoMemory, ReadFault as NotRead}
+use Rattle.image_check.specs.declared.errors.MemoryFault.TheVariants.{BlockMap}
 use Rattle.image_check.specs.declared.verdict.Verdict.{Verdict}
 use Rattle.image_check.specs.Verdicts.{IsVerdict}
 use Rattle.segment_cli.specs.declared.faults.SessionFault.{SessionFault}
 use Rattle.segment_cli.specs.declared.faults.SessionFault.TheVariants.{Image as Refused, OutOfMemory, ReadFault, RegionTooSmall, WriteFault}
 use Rattle.segment_cli.specs.declared.faults.Start.TheVariants.{Image as OfImage}
-use Rattle.segment_commands.specs.declared.program_faults.ProgramFault.{ProgramFault}
-use Rattle.segment_commands.specs.declared.program_faults.ProgramFault.TheVariants.{Session}
+use Rattle.segment_commands.specs.declared.command_faults.CommandFault.{CommandFault}
+use Rattle.segment_commands.specs.Faults.{Session}
 use Rattle.segment_disk.specs.Events.{Event, After}
 use Rattle.segment_commands.specs.declared.explaining.Unfit.{Unfit}
 use Rattle.segment_commands.specs.declared.explaining.Unfit.TheVariants.{Image, Fault}
@@ -61,7 +62,7 @@ IsToldOf b (Fault fault) = IsNoClass fault
 abbrev pub unfit_for : ExamineError → Unfit
 unfit_for (Judged v) = Image v
 unfit_for TooSmall = Fault RegionTooSmall
-unfit_for (NoMemory refusal) = Fault OutOfMemory
+unfit_for (NoMemory refusal) = Fault (OutOfMemory (BlockMap refusal))
 unfit_for NotRead = Fault ReadFault
 
 -- an image is checked: a session for reading would begin with its segment, or this is why it would not
@@ -94,11 +95,11 @@ ExaminesFile step old new path result =
 -- ---- `check --explain`
 
 -- what is answered where a verdict went out, or not
-abbrev pub explained_as : {E : Type 0} → ImageClass → Result (Unit {0}) E → Result (Unit {0}) ProgramFault
+abbrev pub explained_as : {E : Type 0} → ImageClass → Result (Unit {0}) E → Result (Unit {0}) CommandFault
 explained_as class (Ok u) = Err (Session (Refused class))
 explained_as class (Err e) = Err (Session WriteFault)
 
-module _ {D O : Type 0} (step : D → Event → D → Type 0) (old new : D) (path : List ℕ) (history : O → Took) (flushes : O → Bool → O → Type 0) (out out' : O) (result : Result (Unit {0}) ProgramFault) where
+module _ {D O : Type 0} (step : D → Event → D → Type 0) (old new : D) (path : List ℕ) (history : O → Took) (flushes : O → Bool → O → Type 0) (out out' : O) (result : Result (Unit {0}) CommandFault) where
   -- the file has no segment, for a reason that is no class, and nothing was said
   pub record IsUnexplained : Type 0 where
     pub fault : SessionFault
@@ -110,7 +111,7 @@ module _ {D O : Type 0} (step : D → Event → D → Type 0) (old new : D) (pat
   pub record IsRefusedAloud : Type 0 where
     pub verdict : Verdict
     pub why : IsRefusedFrom step old new path verdict
-    pub said : Result (Unit {0}) ProgramFault
+    pub said : Result (Unit {0}) CommandFault
     pub tells : Tells history flushes out out' (verdict_text verdict) said
     pub answer : result ≡ explained_as verdict.class said
 

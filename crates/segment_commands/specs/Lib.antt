@@ -1,3 +1,4 @@
+pub mod Faults
 pub mod Opening
 pub mod ReadingOn
 pub mod Telling

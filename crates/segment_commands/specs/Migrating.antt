@@ -8,8 +8,8 @@ use Rattle.image_check.specs.Formats.{format_of}
 use Rattle.image_check.specs.OpeningAny.{OpensAny}
 use Rattle.segment_cli.specs.declared.faults.SessionFault.{SessionFault}
 use Rattle.segment_cli.specs.declared.faults.SessionFault.TheVariants.{WriteFault}
-use Rattle.segment_commands.specs.declared.program_faults.ProgramFault.{ProgramFault}
-use Rattle.segment_commands.specs.declared.program_faults.ProgramFault.TheVariants.{Session}
+use Rattle.segment_commands.specs.declared.command_faults.CommandFault.{CommandFault}
+use Rattle.segment_commands.specs.Faults.{Session}
 use Rattle.segment_cli.specs.Beginning.{opened_fault}
 use Rattle.segment_disk.specs.declared.presence.Making.{Making}
 use Rattle.segment_disk.specs.Events.{Event, After}
@@ -47,14 +47,14 @@ module _ {D : Type 0} (step : D → Event → D → Type 0) (old new : D) (path 
   OpensAnyFile result = IsUnopened step old new path result ⊎ IsAnyReadFrom result
 
   -- the file has no segment of any format, for this reason
-  pub record IsUnopenedMigration {O : Type 0} (out out' : O) (result : Result (Unit {0}) ProgramFault) : Type 0 where
+  pub record IsUnopenedMigration {O : Type 0} (out out' : O) (result : Result (Unit {0}) CommandFault) : Type 0 where
     pub fault : SessionFault
     pub opens_file : OpensAnyFile (Err fault)
     pub silent : out' ≡ out
     pub refused : result ≡ Err (Session fault)
 
 -- the file was read, and its image could not be written
-pub record IsUnwrittenMigration {D O : Type 0} (step : D → Event → D → Type 0) (old new : D) (path : List ℕ) (how : Making) (out out' : O) (result : Result (Unit {0}) ProgramFault) : Type 0 where
+pub record IsUnwrittenMigration {D O : Type 0} (step : D → Event → D → Type 0) (old new : D) (path : List ℕ) (how : Making) (out out' : O) (result : Result (Unit {0}) CommandFault) : Type 0 where
   pub segment : State
   pub read : D
   pub opens_file : OpensAnyFile step old read path (Ok segment)
@@ -63,16 +63,16 @@ pub record IsUnwrittenMigration {D O : Type 0} (step : D → Event → D → Typ
   pub refused : result ≡ Err (Session WriteFault)
 
 -- the file was read, its image was written whole, and then `ok` was said
-pub record IsMigratedFile {D O : Type 0} (step : D → Event → D → Type 0) (old new : D) (path : List ℕ) (how : Making) (history : O → Took) (flushes : O → Bool → O → Type 0) (out out' : O) (result : Result (Unit {0}) ProgramFault) : Type 0 where
+pub record IsMigratedFile {D O : Type 0} (step : D → Event → D → Type 0) (old new : D) (path : List ℕ) (how : Making) (history : O → Took) (flushes : O → Bool → O → Type 0) (out out' : O) (result : Result (Unit {0}) CommandFault) : Type 0 where
   pub segment : State
   pub read : D
   pub opens_file : OpensAnyFile step old read path (Ok segment)
-  pub writes : WritesImage step read new how path segment.cut.bytes (written ProgramFault)
+  pub writes : WritesImage step read new how path segment.cut.bytes (written CommandFault)
   pub tells : Tells history flushes out out' (codes "ok\n") result
-  pub answer : (fault : ProgramFault) → result ≡ Err fault → fault ≡ Session WriteFault
+  pub answer : (fault : CommandFault) → result ≡ Err fault → fault ≡ Session WriteFault
 
 -- `migrate`
-abbrev pub IsMigrate : {D O : Type 0} → (D → Event → D → Type 0) → D → D → List ℕ → Making → (O → Took) → (O → Bool → O → Type 0) → O → O → Result (Unit {0}) ProgramFault → Type 0
+abbrev pub IsMigrate : {D O : Type 0} → (D → Event → D → Type 0) → D → D → List ℕ → Making → (O → Took) → (O → Bool → O → Type 0) → O → O → Result (Unit {0}) CommandFault → Type 0
 IsMigrate step old new path how history flushes out out' result =
     IsUnopenedMigration step old new path out out' result
     ⊎ (IsUnwrittenMigration step old new path how out out' result ⊎ IsMigratedFile step old new path how history flushes out out' result)

@@ -5,7 +5,7 @@ use Rattle.segment_manager.specs.declared.modes.Mode.{Mode}
 use Rattle.segment_manager.specs.declared.modes.Mode.TheVariants.{ReadOnly}
 use Rattle.segment_manager.specs.State.{State}
 use Rattle.segment_cli.specs.declared.faults.SessionFault.{SessionFault}
-use Rattle.segment_cli.specs.declared.faults.SessionFault.TheVariants.{OutOfMemory, ReadFault}
+use Rattle.segment_cli.specs.declared.faults.SessionFault.TheVariants.{ReadFault}
 use Rattle.segment_cli.specs.declared.faults.Start.{Start}
 use Rattle.segment_cli.specs.declared.faults.Start.TheVariants.{Image}
 use Rattle.segment_cli.specs.Beginning.{Starts}
@@ -14,6 +14,7 @@ use Rattle.image_check.specs.Deciding.{decided}
 use Rattle.image_check.specs.Opening.{IsUntouched}
 use Rattle.segment_disk.specs.Events.{Event, After}
 use Rattle.segment_file.specs.Files.{opens, does_not_open}
+use Rattle.segment_commands.specs.Faults.{bytes_refused}
 
 -- what was read of an image decides no class of it, and no read failed
 pub record IsOpenYet (format : ℕ) (image : Given) : Type 0 where
@@ -24,7 +25,8 @@ pub record IsOpenYet (format : ℕ) (image : Given) : Type 0 where
 -- have, memory for what was read
 pub record IsRegionless (format : ℕ) (image : Given) (result : Result State SessionFault) : Type 0 where
   pub unread : IsUntouched image ⊎ IsOpenYet format image
-  pub refused : result ≡ Err OutOfMemory
+  pub asked : ℕ
+  pub refused : result ≡ Err (bytes_refused asked)
 
 -- a session began in a region of some capacity
 pub record IsBegunIn (start : Start) (mode : Mode) (image : Given) (result : Result State SessionFault) : Type 0 where

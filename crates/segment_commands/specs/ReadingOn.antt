@@ -5,7 +5,8 @@ use Rattle.image_check.specs.declared.classes.ImageClass.TheVariants.{BadSize as
 use Rattle.image_check.specs.EarlyTests.{has_front, size_word}
 use Rattle.image_check.specs.Formats.{format_of}
 use Rattle.segment_cli.specs.declared.faults.SessionFault.{SessionFault}
-use Rattle.segment_cli.specs.declared.faults.SessionFault.TheVariants.{OutOfMemory, ReadFault, RegionTooSmall}
+use Rattle.segment_cli.specs.declared.faults.SessionFault.TheVariants.{ReadFault, RegionTooSmall}
+use Rattle.segment_commands.specs.Faults.{bytes_refused}
 use Rattle.segment_commands.specs.declared.explaining.Unfit.{Unfit}
 use Rattle.segment_commands.specs.declared.explaining.Unfit.TheVariants.{Image, Fault}
 
@@ -30,7 +31,7 @@ pub record IsCutShort (said : ℕ) (gave : Gave) : Type 0 where
 -- it gave no more than these, and failed, or there was no memory to keep more
 pub record IsStopped (said : ℕ) (gave : Gave) (fault : SessionFault) : Type 0 where
   pub few : length gave.bytes ≤ said
-  pub how : ((fault ≡ ReadFault) × (0 < gave.failures)) ⊎ ((fault ≡ OutOfMemory) × (gave.failures ≡ 0))
+  pub how : ((fault ≡ ReadFault) × (0 < gave.failures)) ⊎ ((asked : ℕ) × (fault ≡ bytes_refused asked) × (gave.failures ≡ 0))
 
 abbrev pub IsWhyNotUpTo : ℕ → Gave → Unfit → Type 0
 IsWhyNotUpTo said gave (Image v) = (v.class ≡ Truncated) × (v.place ≡ length gave.bytes) × IsCutShort said gave

@@ -11,8 +11,8 @@ use Rattle.grow_shrink.specs.declared.refusals.GrowError.{GrowError}
 use Rattle.grow_shrink.specs.Resized.{IsRefusedBy, growth_refusal, grown, room_of, shrink_refusal, shrunk}
 use Rattle.segment_cli.specs.declared.faults.SessionFault.{SessionFault}
 use Rattle.segment_cli.specs.declared.faults.SessionFault.TheVariants.{WriteFault}
-use Rattle.segment_commands.specs.declared.program_faults.ProgramFault.{ProgramFault}
-use Rattle.segment_commands.specs.declared.program_faults.ProgramFault.TheVariants.{Growth, Session}
+use Rattle.segment_commands.specs.declared.command_faults.CommandFault.{CommandFault}
+use Rattle.segment_commands.specs.Faults.{Growth, Session}
 use Rattle.segment_commands.specs.declared.resizing.Resize.{Resize}
 use Rattle.segment_commands.specs.declared.resizing.Resize.TheVariants.{Grow, Shrink}
 use Rattle.segment_disk.specs.declared.presence.Making.{Making}
@@ -62,14 +62,14 @@ module _ {D O : Type 0} (step : D → Event → D → Type 0) (old new : D) (pat
   TellsAndWrites s result = IsUntold s result ⊎ IsTold s result
 
   -- the file has no segment, for this reason
-  pub record IsUnopenedResize (result : Result (Unit {0}) ProgramFault) : Type 0 where
+  pub record IsUnopenedResize (result : Result (Unit {0}) CommandFault) : Type 0 where
     pub fault : SessionFault
     pub opens : OpensFile step old new path Write (Err fault)
     pub silent : out' ≡ out
     pub refused : result ≡ Err (Session fault)
 
   -- the segment does not become larger or smaller, for this reason
-  pub record IsUnresized (why : State → Directory → Option GrowError) (result : Result (Unit {0}) ProgramFault) : Type 0 where
+  pub record IsUnresized (why : State → Directory → Option GrowError) (result : Result (Unit {0}) CommandFault) : Type 0 where
     pub segment : State
     pub opens : OpensFile step old new path Write (Ok segment)
     pub error : GrowError
@@ -79,18 +79,18 @@ module _ {D O : Type 0} (step : D → Event → D → Type 0) (old new : D) (pat
 
 -- the segment was read, and the one that it becomes was written
 pub record IsResized {D O : Type 0} (step : D → Event → D → Type 0) (old new : D) (path : List ℕ) (how : Making) (history : O → Took) (flushes : O → Bool → O → Type 0) (out out' : O)
-    (next : Directory → Directory) (result : Result (Unit {0}) ProgramFault) : Type 0 where
+    (next : Directory → Directory) (result : Result (Unit {0}) CommandFault) : Type 0 where
   pub segment : State
   pub read : D
   pub opens : OpensFile step old read path Write (Ok segment)
   pub resized : State
   pub becomes : Resizes segment resized next
   pub goes : TellsAndWrites step read new path how history flushes out out' resized result
-  pub answer : (fault : ProgramFault) → result ≡ Err fault → fault ≡ Session WriteFault
+  pub answer : (fault : CommandFault) → result ≡ Err fault → fault ≡ Session WriteFault
 
 -- `grow` and `shrink`
 abbrev pub IsResize : {D O : Type 0} → (D → Event → D → Type 0) → D → D → List ℕ → Making → (O → Took) → (O → Bool → O → Type 0) → O → O
-    → (State → Directory → Option GrowError) → (Directory → Directory) → Result (Unit {0}) ProgramFault → Type 0
+    → (State → Directory → Option GrowError) → (Directory → Directory) → Result (Unit {0}) CommandFault → Type 0
 IsResize step old new path how history flushes out out' why next result =
     IsUnopenedResize step old new path how history flushes out out' result
     ⊎ (IsUnresized step old new path how history flushes out out' why result ⊎ IsResized step old new path how history flushes out out' next result)

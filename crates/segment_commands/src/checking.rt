@@ -2,9 +2,8 @@
 ghost use Rattle.std.specs.Prelude.{◌≡◌, ◌^◌, ◌-◌, ◌<◌};
 ghost use Rattle.segment_commands.specs.Commands.{IsCheck};
 
-use crate::creating::WRITE_FAULT;
+use crate::command_faults::{CommandFault, WRITE_FAULT};
 use crate::examining::verify_segment;
-use crate::program_faults::ProgramFault;
 use crate::telling::tell;
 use segment_disk::{Disk, Output};
 use std::alloc::Global;
@@ -20,7 +19,7 @@ pub fn check<D: Disk, O: Output>(
     disk: &mut D,
     path: &str,
     out: &mut O,
-) -> Result<(), ProgramFault>
+) -> Result<(), CommandFault>
     requires { (O.history out.old).failures < 2 ^ 64 - 1 }
     ensures { IsCheck D.step disk.old disk.new path.now O.history O.flushes out.old out.new result }
 {

@@ -14,7 +14,7 @@ use crate::explaining::Unfit;
 use crate::heading::Headed;
 use crate::reading_on::read_on;
 use grow_shrink::region_for;
-use image_check::{ExamineError, Versions, examine, examine_bytes};
+use image_check::{ExamineError, MemoryFault, Versions, examine, examine_bytes};
 use raw_region::{Source, Steps};
 use segment_cli::SessionFault;
 use segment_disk::{Disk, Opened};
@@ -28,7 +28,9 @@ fn unfit_of(error: ExamineError) -> Unfit
     match error {
         ExamineError::Image(verdict) => Unfit::Image(verdict),
         ExamineError::RegionTooSmall => Unfit::Fault(SessionFault::RegionTooSmall),
-        ExamineError::OutOfMemory(_) => Unfit::Fault(SessionFault::OutOfMemory),
+        ExamineError::OutOfMemory(refusal) => Unfit::Fault(SessionFault::OutOfMemory(
+            MemoryFault::BlockMap(refusal),
+        )),
         ExamineError::ReadFault => Unfit::Fault(SessionFault::ReadFault),
     }
 }
@@ -38,9 +40,7 @@ fn examine_in<S: Source>(alloc: Global, reader: &mut S, bytes: u64) -> Result<()
     requires fresh { S.history reader.old ≡ nothing_given }
     ensures { ExaminesIn (given_since nothing_given (S.history reader.new)) result }
 {
-    let Ok(region) = region_for(alloc, bytes) else {
-        return Err(Unfit::Fault(SessionFault::OutOfMemory));
-    };
+    let region = region_for(alloc, bytes)?;
     match examine(alloc, reader, region, 0, &mut Steps::new()) {
         Ok(_) => Ok(()),
         Err(refused) => Err(unfit_of(refused.cause)),
@@ -52,9 +52,7 @@ fn examine_text(alloc: Global, text: &[u8]) -> Result<(), Unfit>
     requires { decided current text.now ≡ None }
     ensures { ExaminesIn (as_given text.now) result }
 {
-    let Ok(region) = region_for(alloc, text.len() as u64) else {
-        return Err(Unfit::Fault(SessionFault::OutOfMemory));
-    };
+    let region = region_for(alloc, text.len() as u64)?;
     match examine_bytes(Versions::Current, alloc, text, region, 0, &mut Steps::new()) {
         Ok(_) => Ok(()),
         Err(refused) => Err(unfit_of(refused.cause)),

@@ -1,16 +1,18 @@
 //! The command that tells why an image is refused, and where.
 ghost use Rattle.std.specs.Prelude.{◌≡◌, ◌^◌, ◌-◌, ◌<◌};
 ghost use Rattle.raw_region.specs.Device.{Writes};
+ghost use Rattle.image_check.specs.declared.errors.MemoryFault.TheVariants.{Bytes};
+ghost use Rattle.segment_cli.specs.declared.faults.SessionFault.TheVariants.{OutOfMemory as NoMemory};
+ghost use Rattle.segment_commands.specs.declared.explaining.Unfit.TheVariants.{Fault};
 ghost use Rattle.segment_commands.specs.Explaining.{IsExplain, fault_for, verdict_text, words_of as words_for};
 ghost use Rattle.segment_commands.specs.Telling.{Tells};
 
-use crate::creating::WRITE_FAULT;
+use crate::command_faults::{CommandFault, WRITE_FAULT};
 use crate::examining::examine_segment;
-use crate::program_faults::ProgramFault;
 use crate::telling::tell;
 use image_check::{ImageClass, Verdict};
-use raw_region::{DeviceFault, Sink};
-use segment_cli::SessionFault;
+use raw_region::{DeviceFault, OutOfMemory, Sink};
+use segment_cli::{ProgramFault, SessionFault};
 use segment_disk::{Disk, Output};
 use segment_lang::{Piece, put_pieces};
 use std::alloc::Global;
@@ -33,6 +35,14 @@ impl Unfit {
             Unfit::Image(verdict) => SessionFault::Image(verdict.class),
             Unfit::Fault(fault) => fault,
         }
+    }
+}
+
+impl From<OutOfMemory> for Unfit {
+    ghost from_gives = { λ refusal unfit. unfit ≡ Fault (NoMemory (Bytes refusal)) };
+
+    fn from(refusal: OutOfMemory) -> Unfit {
+        Unfit::Fault(SessionFault::from(refusal))
     }
 }
 
@@ -96,7 +106,7 @@ pub fn explain<D: Disk, O: Output>(
     disk: &mut D,
     path: &str,
     out: &mut O,
-) -> Result<(), ProgramFault>
+) -> Result<(), CommandFault>
     requires { (O.history out.old).failures < 2 ^ 64 - 1 }
     ensures { IsExplain D.step disk.old disk.new path.now O.history O.flushes out.old out.new result }
 {
@@ -106,9 +116,11 @@ pub fn explain<D: Disk, O: Output>(
             Err(_) => Err(WRITE_FAULT),
         },
         Err(Unfit::Image(verdict)) => match tell_verdict(out, verdict) {
-            Ok(()) => Err(ProgramFault::Session(SessionFault::Image(verdict.class))),
+            Ok(()) => Err(CommandFault::Program(ProgramFault::Session(SessionFault::Image(
+                verdict.class,
+            )))),
             Err(_) => Err(WRITE_FAULT),
         },
-        Err(Unfit::Fault(fault)) => Err(ProgramFault::Session(fault)),
+        Err(Unfit::Fault(fault)) => Err(CommandFault::Program(ProgramFault::Session(fault))),
     }
 }

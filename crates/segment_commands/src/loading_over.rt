@@ -2,9 +2,8 @@
 ghost use Rattle.std.specs.Prelude.{◌≡◌, ◌^◌, ◌-◌, ◌<◌};
 ghost use Rattle.segment_commands.specs.LoadOver.{IsLoadOver, LoadsOver};
 
-use crate::creating::WRITE_FAULT;
+use crate::command_faults::{CommandFault, WRITE_FAULT};
 use crate::loading::{load, load_dump};
-use crate::program_faults::ProgramFault;
 use raw_region::Source;
 use segment_disk::{Disk, Making, Presence};
 use segment_file::write_image;
@@ -17,7 +16,7 @@ fn load_held<D: Disk, S: Source>(
     path: &str,
     size: Option<u64>,
     script: &mut S,
-) -> Result<(), ProgramFault>
+) -> Result<(), CommandFault>
     requires { (S.history script.old).failures < 2 ^ 64 - 1 }
     ensures { LoadsOver D.step disk.old disk.new path.now size (S.history script.old) (S.history script.new) result }
 {
@@ -43,7 +42,7 @@ pub fn load_over<D: Disk, S: Source>(
     path: &str,
     size: Option<u64>,
     script: &mut S,
-) -> Result<(), ProgramFault>
+) -> Result<(), CommandFault>
     requires { (S.history script.old).failures < 2 ^ 64 - 1 }
     ensures { IsLoadOver D.step disk.old disk.new path.now size (S.history script.old) (S.history script.new) result }
 {
@@ -51,7 +50,7 @@ pub fn load_over<D: Disk, S: Source>(
         return load(alloc, disk, path, size, script);
     }
     let Ok(hold) = disk.hold(path) else {
-        return Err(ProgramFault::InUse);
+        return Err(CommandFault::InUse);
     };
     let answer = load_held(alloc, disk, path, size, script);
     disk.release(hold);

@@ -7,10 +7,9 @@ ghost use Rattle.segment_commands.specs.Holding.{Holds};
 ghost use Rattle.segment_commands.specs.Modes.{making_of};
 ghost use Rattle.segment_commands.specs.Migrating.{BeginsAny, IsMigrate, OpensAnyFile};
 
-use crate::creating::WRITE_FAULT;
+use crate::command_faults::{CommandFault, WRITE_FAULT};
 use crate::heading::Headed;
 use crate::modes::making_for;
-use crate::program_faults::ProgramFault;
 use crate::reading_on::read_on;
 use crate::telling::tell;
 use grow_shrink::region_for;
@@ -32,9 +31,7 @@ fn begin_any_in<S: Source>(
     requires fresh { S.history reader.old ≡ nothing_given }
     ensures { BeginsAny (given_since nothing_given (S.history reader.new)) result }
 {
-    let Ok(region) = region_for(alloc, bytes) else {
-        return Err(SessionFault::OutOfMemory);
-    };
+    let region = region_for(alloc, bytes)?;
     match open_any(alloc, reader, region, 0, Mode::Write, &mut Steps::new()) {
         Ok(segment) => Ok(segment),
         Err(refused) => Err(SessionFault::from(refused)),
@@ -96,7 +93,7 @@ fn migrate_held<D: Disk, O: Output>(
     path: &str,
     making: Making,
     out: &mut O,
-) -> Result<(), ProgramFault>
+) -> Result<(), CommandFault>
     requires { (O.history out.old).failures < 2 ^ 64 - 1 }
     ensures { IsMigrate D.step disk.old disk.new path.now making O.history O.flushes out.old out.new result }
 {
@@ -123,13 +120,13 @@ pub fn migrate<D: Disk, O: Output>(
     path: &str,
     saving: Saving,
     out: &mut O,
-) -> Result<(), ProgramFault>
+) -> Result<(), CommandFault>
     requires { (O.history out.old).failures < 2 ^ 64 - 1 }
     ensures { Holds D.step disk.old disk.new path.now (out.new ≡ out.old)
         (λ held done. IsMigrate D.step held done path.now (making_of saving) O.history O.flushes out.old out.new result) result }
 {
     let Ok(hold) = disk.hold(path) else {
-        return Err(ProgramFault::InUse);
+        return Err(CommandFault::InUse);
     };
     let answer = migrate_held(alloc, disk, path, making_for(saving), out);
     disk.release(hold);

@@ -1,12 +1,11 @@
 //! The opening of the segment in a file.
-ghost use Rattle.std.specs.Prelude.{◌≡◌, ◌^◌, ◌-◌, ◌<◌, Err, None, min};
+ghost use Rattle.std.specs.Prelude.{◌≡◌, ◌^◌, ◌-◌, ◌<◌, Err, None};
 ghost use Rattle.raw_region.specs.Device.{given_since};
 ghost use Rattle.raw_region.specs.Format.{current};
 ghost use Rattle.image_check.specs.Deciding.{decided};
 ghost use Rattle.image_check.specs.OpeningBytes.{as_given};
 ghost use Rattle.segment_cli.specs.declared.faults.SessionFault.TheVariants.{RegionTooSmall};
 ghost use Rattle.segment_cli.specs.declared.faults.Start.TheVariants.{Image as OfImage};
-ghost use Rattle.segment_cli.specs.Session.{IsTooSmall};
 ghost use Rattle.segment_disk.specs.Events.{nothing_given};
 ghost use Rattle.segment_commands.specs.Opening.{BeginsIn, OpensFile};
 
@@ -30,13 +29,9 @@ pub(crate) fn begin_in<S: Source>(
     bytes: u64,
 ) -> Result<Segment, SessionFault>
     requires { (S.history reader.old).failures < 2 ^ 64 - 1 }
-    ensures begins { BeginsIn start mode (given_since (S.history reader.old) (S.history reader.new)) result }
-    ensures room { result ≡ Err RegionTooSmall
-        → IsTooSmall start (given_since (S.history reader.old) (S.history reader.new)) 0 (min bytes 1073741824) }
+    ensures { BeginsIn start mode (given_since (S.history reader.old) (S.history reader.new)) result }
 {
-    let Ok(region) = region_for(alloc, bytes) else {
-        return Err(SessionFault::OutOfMemory);
-    };
+    let region = region_for(alloc, bytes)?;
     begin(alloc, start, mode, reader, region, 0)
 }
 
@@ -58,9 +53,7 @@ fn begin_text(alloc: Global, mode: Mode, text: &[u8], more: u64) -> Result<Segme
     requires { decided current text.now ≡ None }
     ensures { BeginsIn OfImage mode (as_given text.now) result }
 {
-    let Ok(region) = region_for(alloc, room_needed(text.len() as u64, more)) else {
-        return Err(SessionFault::OutOfMemory);
-    };
+    let region = region_for(alloc, room_needed(text.len() as u64, more))?;
     match open_bytes(alloc, text, region, 0, mode, &mut Steps::new()) {
         Ok(segment) => Ok(segment),
         Err(refused) => Err(SessionFault::from(refused)),

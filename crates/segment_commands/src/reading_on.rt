@@ -6,7 +6,7 @@ ghost use Rattle.segment_commands.specs.ReadingOn.{IsFrontOf, IsReadUpTo, IsText
 use crate::explaining::Unfit;
 use crate::heading::Headed;
 use image_check::{FRONT, ImageClass, Verdict, size_in_any};
-use raw_region::Source;
+use raw_region::{Source, append};
 use segment_cli::SessionFault;
 use std::alloc::Global;
 
@@ -33,9 +33,7 @@ fn read_up_to<S: Source>(reader: &mut S, text: &mut Vec<u8>, said: u64) -> Resul
                 return Err(Unfit::Image(Verdict { class, place }));
             }
             Ok(count) => {
-                if text.extend_from_slice(&piece[..count]).is_err() {
-                    return Err(Unfit::Fault(SessionFault::OutOfMemory));
-                }
+                append(text, &piece[..count])?;
             }
         }
     }
@@ -61,9 +59,7 @@ fn read_whole<S: Source>(
     ensures grows { Grows (S.history reader.old).bytes (S.history reader.new).bytes }
 {
     let mut text = Vec::new(alloc);
-    if text.extend_from_slice(front).is_err() {
-        return Err(Unfit::Fault(SessionFault::OutOfMemory));
-    }
+    append(&mut text, front)?;
     read_up_to(reader, &mut text, said)?;
     match reader.read(&mut [0]) {
         Err(_) => Err(Unfit::Fault(SessionFault::ReadFault)),

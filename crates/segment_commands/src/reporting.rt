@@ -12,9 +12,8 @@ ghost use Rattle.segment_report.specs.Picture.{picture_of};
 ghost use Rattle.segment_report.specs.Stat.{stat_text};
 ghost use Rattle.segment_commands.specs.Reporting.{IsReport, TellsOf, text_of};
 
-use crate::creating::WRITE_FAULT;
+use crate::command_faults::{CommandFault, WRITE_FAULT};
 use crate::opening::open_segment;
-use crate::program_faults::ProgramFault;
 use raw_region::DeviceFault;
 use segment_disk::{Disk, Output};
 use segment_manager::{Mode, Segment};
@@ -69,7 +68,7 @@ fn tell_of_file<D: Disk, O: Output>(
     path: &str,
     out: &mut O,
     what: Report,
-) -> Result<(), ProgramFault>
+) -> Result<(), CommandFault>
     requires { (O.history out.old).failures < 2 ^ 64 - 1 }
     ensures { IsReport D.step disk.old disk.new path.now O.history O.flushes out.old out.new (text_of what) result }
 {
@@ -90,7 +89,7 @@ pub fn stat<D: Disk, O: Output>(
     disk: &mut D,
     path: &str,
     out: &mut O,
-) -> Result<(), ProgramFault>
+) -> Result<(), CommandFault>
     requires { (O.history out.old).failures < 2 ^ 64 - 1 }
     ensures { IsReport D.step disk.old disk.new path.now O.history O.flushes out.old out.new stat_text result }
 {
@@ -107,7 +106,7 @@ pub fn draw<D: Disk, O: Output>(
     disk: &mut D,
     path: &str,
     out: &mut O,
-) -> Result<(), ProgramFault>
+) -> Result<(), CommandFault>
     requires { (O.history out.old).failures < 2 ^ 64 - 1 }
     ensures { IsReport D.step disk.old disk.new path.now O.history O.flushes out.old out.new picture_of result }
 {
@@ -125,7 +124,7 @@ pub fn draw_page<D: Disk, O: Output>(
     disk: &mut D,
     path: &str,
     out: &mut O,
-) -> Result<(), ProgramFault>
+) -> Result<(), CommandFault>
     requires { (O.history out.old).failures < 2 ^ 64 - 1 }
     ensures { IsReport D.step disk.old disk.new path.now O.history O.flushes out.old out.new page_of result }
 {
@@ -142,7 +141,7 @@ pub fn dump<D: Disk, O: Output>(
     disk: &mut D,
     path: &str,
     out: &mut O,
-) -> Result<(), ProgramFault>
+) -> Result<(), CommandFault>
     requires { (O.history out.old).failures < 2 ^ 64 - 1 }
     ensures { IsReport D.step disk.old disk.new path.now O.history O.flushes out.old out.new
         (λ d. dump_text d.size (portable d)) result }
@@ -161,7 +160,7 @@ pub fn dump_capacities<D: Disk, O: Output>(
     disk: &mut D,
     path: &str,
     out: &mut O,
-) -> Result<(), ProgramFault>
+) -> Result<(), CommandFault>
     requires { (O.history out.old).failures < 2 ^ 64 - 1 }
     ensures { IsReport D.step disk.old disk.new path.now O.history O.flushes out.old out.new
         (λ d. dump_text d.size (portable d) ++ capacities_text (capacities d)) result }
@@ -179,7 +178,7 @@ pub fn dump_json<D: Disk, O: Output>(
     disk: &mut D,
     path: &str,
     out: &mut O,
-) -> Result<(), ProgramFault>
+) -> Result<(), CommandFault>
     requires { (O.history out.old).failures < 2 ^ 64 - 1 }
     ensures { IsReport D.step disk.old disk.new path.now O.history O.flushes out.old out.new
         (λ d. json_dump (portable d)) result }

@@ -7,12 +7,12 @@ ghost use Rattle.segment_commands.specs.Modes.{making_of};
 ghost use Rattle.segment_commands.specs.Resizing.{IsResize, TellsAndWrites, TellsSize, next_by, refusal_by, size_line};
 ghost use Rattle.segment_commands.specs.Telling.{Tells};
 
-use crate::creating::WRITE_FAULT;
+use crate::command_faults::{CommandFault, WRITE_FAULT};
 use crate::modes::making_for;
 use crate::opening::open_segment;
-use crate::program_faults::ProgramFault;
 use grow_shrink::{GrowError, shrink_to_fit};
 use raw_region::DeviceFault;
+use segment_cli::ProgramFault;
 use segment_disk::{Disk, Making, Output};
 use segment_file::write_image;
 use segment_invocation::Saving;
@@ -84,7 +84,7 @@ fn resize_held<D: Disk, O: Output>(
     making: Making,
     more: u64,
     out: &mut O,
-) -> Result<(), ProgramFault>
+) -> Result<(), CommandFault>
     requires { (O.history out.old).failures < 2 ^ 64 - 1 }
     ensures { IsResize D.step disk.old disk.new path.now making O.history O.flushes out.old out.new
         (refusal_by how) (next_by how) result }
@@ -95,7 +95,7 @@ fn resize_held<D: Disk, O: Output>(
             Ok(()) => Ok(()),
             Err(_) => Err(WRITE_FAULT),
         },
-        Err(error) => Err(ProgramFault::Growth(error)),
+        Err(error) => Err(CommandFault::Program(ProgramFault::Growth(error))),
     }
 }
 
@@ -108,14 +108,14 @@ fn resize_file<D: Disk, O: Output>(
     making: Making,
     more: u64,
     out: &mut O,
-) -> Result<(), ProgramFault>
+) -> Result<(), CommandFault>
     requires { (O.history out.old).failures < 2 ^ 64 - 1 }
     ensures { Holds D.step disk.old disk.new path.now (out.new ≡ out.old)
         (λ held done. IsResize D.step held done path.now making O.history O.flushes out.old out.new
         (refusal_by how) (next_by how) result) result }
 {
     let Ok(hold) = disk.hold(path) else {
-        return Err(ProgramFault::InUse);
+        return Err(CommandFault::InUse);
     };
     let answer = resize_held(alloc, disk, path, how, making, more, out);
     disk.release(hold);
@@ -137,7 +137,7 @@ pub fn grow<D: Disk, O: Output>(
     extra: u64,
     saving: Saving,
     out: &mut O,
-) -> Result<(), ProgramFault>
+) -> Result<(), CommandFault>
     requires { (O.history out.old).failures < 2 ^ 64 - 1 }
     ensures { Holds D.step disk.old disk.new path.now (out.new ≡ out.old)
         (λ held done. IsResize D.step held done path.now (making_of saving) O.history O.flushes out.old out.new
@@ -166,7 +166,7 @@ pub fn shrink<D: Disk, O: Output>(
     path: &str,
     saving: Saving,
     out: &mut O,
-) -> Result<(), ProgramFault>
+) -> Result<(), CommandFault>
     requires { (O.history out.old).failures < 2 ^ 64 - 1 }
     ensures { Holds D.step disk.old disk.new path.now (out.new ≡ out.old)
         (λ held done. IsResize D.step held done path.now (making_of saving) O.history O.flushes out.old out.new

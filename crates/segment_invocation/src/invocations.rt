@@ -2,7 +2,8 @@
 ghost use Rattle.std.specs.Prelude.{◌≡◌, IfOk};
 ghost use Rattle.segment_invocation.specs.Invocations.{is_plain, is_plain_run, mode_called, origin_by, script_text, wants_size};
 
-use std::alloc::{AllocError, Global};
+use raw_region::{OutOfMemory, append};
+use std::alloc::Global;
 
 /// The name of a mode on the command line.
 #[derive(Clone, Copy, Debug, PartialEq, Eq)]
@@ -103,13 +104,13 @@ pub enum Script<'a> {
 /// # Errors
 ///
 /// Memory for it was refused.
-pub fn script_text(alloc: Global, lines: &[&str]) -> Result<Vec<u8>, AllocError>
+pub fn script_text(alloc: Global, lines: &[&str]) -> Result<Vec<u8>, OutOfMemory>
     ensures { IfOk result (λ text. text.items ≡ script_text lines.now) }
 {
     let mut text = Vec::new(alloc);
     'lines: for line in lines {
-        text.extend_from_slice(line.as_bytes())?;
-        text.push(b'\n')?;
+        append(&mut text, line.as_bytes())?;
+        append(&mut text, b"\n")?;
     }
     Ok(text)
 }

@@ -11,7 +11,7 @@ use Rattle.seg_types.specs.declared.refusals.Refusal.TheVariants.{NotFound, OutO
 use Rattle.seg_types.specs.Kinds.{is_value, same_kind, size_of}
 use Rattle.seg_types.specs.Names.{Key, ByHandle}
 use Rattle.seg_vector.specs.Vector.{spelled}
-use Rattle.seg_vector.specs.declared.places.Place.{Place}
+use Rattle.best_fit.specs.declared.places.Place.{Place}
 use Rattle.segment_manager.specs.declared.containers.element_runs.ElementRun.{ElementRun}
 use Rattle.segment_manager.specs.declared.modes.Mode.{Mode}
 use Rattle.segment_manager.specs.declared.objects.targets.Object.{Object as Located}

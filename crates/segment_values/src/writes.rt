@@ -11,6 +11,7 @@ ghost use Rattle.segment_manager.specs.Step.{is_read_only};
 ghost use Rattle.segment_values.specs.Ranges.{ChangesRange, HasRange, WritesRange, is_row, row_of};
 
 use crate::reads::{has_range, is_row, row_run};
+use seg_types::theorems::holds_value;
 use seg_types::{Key, Kind, Refusal, Scalar};
 use segment_manager::{Mode, Object, Segment, locate};
 
@@ -80,7 +81,7 @@ fn set_row<T: Scalar>(segment: &mut Segment, object: &Object, first: u64, row: &
     let _ = segment.as_bytes();
     'elements: for i in 0..row.len() {
         let value = row[i];
-        judge(value);
+        holds_value(value);
         // it is not refused, since there is such an element
         let _ = set_element(segment, object, first + i as u64, value);
     }
@@ -104,11 +105,4 @@ fn set_element<T: Scalar>(
         Kind::Vector(_) => segment.vec_set::<T, Object>(object, index, value),
         _ => segment.set::<T, Object>(object, index, value),
     }
-}
-
-/// Says that a value is one. An order knows it of what it compares.
-fn judge<T: Scalar>(value: T)
-    ensures { T.is_value value ≡ true }
-{
-    let _ = value.precedes(value);
 }

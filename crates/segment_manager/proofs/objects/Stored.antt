@@ -14,7 +14,7 @@ use Rattle.segment_manager.proofs.{Steps.with-found, Steps.IsOpenFor, Codes.numb
 use Rattle.segment_manager.proofs.{objects.Here.here, objects.Standings.standing-room, containers.ContentPlans.of_slice}
 use Rattle.segment_manager.proofs.{objects.Here.standing, objects.Rows.Has-element, blocks.Blocks.spelling-length}
 use Rattle.raw_region.proofs.Facts.{first, second}
-use Rattle.seg_vector.specs.declared.places.Place.{Place}
+use Rattle.best_fit.specs.declared.places.Place.{Place}
 use Rattle.segment_manager.specs.objects.Standing.{element_at, place_at, place_in}
 use Rattle.std.specs.Option.{ok_or}
 use Rattle.byteorder.specs.Endian.{little_number}

@@ -1,6 +1,6 @@
 use Rattle.std.proofs.Common.{inl, inr, Ok, Err, refl, subst}
 use Rattle.segment_cli.specs.declared.faults.SessionFault.TheVariants.{WriteFault}
-use Rattle.segment_commands.specs.declared.program_faults.ProgramFault.TheVariants.{Session}
+use Rattle.segment_commands.specs.Faults.{Session}
 use Rattle.segment_commands.specs.declared.explaining.Unfit.{Unfit}
 use Rattle.segment_commands.specs.Explaining.{IsUnfitFile}
 use Rattle.segment_commands.proofs.explaining.explain.Goals as goal

@@ -1,13 +1,10 @@
-use Rattle.std.proofs.Common.{inl, length, refl}
-use Rattle.raw_region.specs.Device.{given_since}
+use Rattle.std.proofs.Common.{inl, refl}
+use Rattle.std.proofs.lemmas.Result.{err_from_is_err_and}
+use Rattle.grow_shrink.specs.LargerRegion.{region_len}
 use Rattle.segment_cli.proofs.Laws.{not_asked}
-use Rattle.segment_commands.proofs.NewSegments.{no_room}
 use Rattle.segment_commands.proofs.opening.begin_in.Goals as goal
 
-pub returns-in_default-clause-begins : goal.returns-in_default-clause-begins
-returns-in_default-clause-begins g c = inl (record { unread = inl (not_asked (g.S.Source.history c.args.reader.now)); refused = refl })
-
-pub returns-clause-room : goal.returns-clause-room
-returns-clause-room g c =
-    let image = given_since (g.S.Source.history c.args.reader.now) (g.S.Source.history c.begin.new.image) in
-    no_room c.args.start c.args.mode image c.args.bytes (length c.in-Ok.region) c.begin.result c.in-Ok.ensures.room c.begin.ensures.starts
+pub returns-in_err-region : goal.returns-in_err-region
+returns-in_err-region g c =
+    let p = err_from_is_err_and c.from_residual.result c.from_residual.ensures.1 in
+    rw (p.1, p.2, c.in_err-region.ensures.refused) (inl (record { unread = inl (not_asked (g.S.Source.history c.args.reader.now)); asked = region_len c.args.bytes; refused = refl }))

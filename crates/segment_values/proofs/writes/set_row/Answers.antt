@@ -28,7 +28,7 @@ elements-preserved g c =
       begun = c.elements.invariant.begun;
       has = range-row c.args.segment.now o c.requires.object o.kind g.T.Scalar.kind refl (row-itself g.T.Scalar.kind o.kind c.requires.kind) g.T.Scalar.whole c.args.first c.elements.i c.args.row.now c.index-row-i.result
           c.elements-test.true c.index-row-i.is c.elements.segment c.set_element.new.segment (done_answer c.set_element.result) c.requires.writing c.elements.invariant.begun c.requires.there
-          (sym (g.met.T.Scalar.values c.index-row-i.result) ∙ c.judge.ensures) c.elements.invariant.has c.set_element.ensures.step;
+          (sym (g.met.T.Scalar.values c.index-row-i.result) ∙ c.holds_value.ensures) c.elements.invariant.has c.set_element.ensures.step;
       none = λ e. let within = c.elements-test.true in absurd (omega arith);
       frame = λ array. bytes-on c.args.segment.now o c.requires.object g.T.Scalar.kind array c.elements.segment
           c.set_element.new.segment c.args.first c.elements.i _ c.elements.invariant.has

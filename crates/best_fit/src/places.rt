@@ -1,4 +1,4 @@
-//! Where a map stands.
+//! Places in blocks.
 
 /// A place in the block of a handle: `at` bytes behind the handle.
 #[derive(Clone, Copy, Debug)]

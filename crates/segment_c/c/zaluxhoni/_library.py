@@ -3,7 +3,7 @@ from __future__ import annotations
 
 import ctypes
 import os
-from typing import Any, Dict, List
+from typing import TYPE_CHECKING, Any, Dict, List
 
 BOOL, U8, I32, I64, U64, STRING, VECTOR, MAP, STRINGS = 1, 2, 3, 4, 5, 65536, 131072, 196608, 262144
 
@@ -142,8 +142,10 @@ def _load_quick() -> Any:
     """The calls of zaluxhoni_rows.h for objects of CPython's, which keep the interpreter's lock."""
     library, pointer = ctypes.PyDLL(_path()), ctypes.POINTER
     library.zx_thread.argtypes, library.zx_thread.restype = [], ctypes.c_uint64
-    library.zx_python_at.argtypes = [pointer(Handle), pointer(Key), ctypes.c_uint32, ctypes.c_uint64, ctypes.py_object]
-    library.zx_python_at.restype = ctypes.py_object
+    library.zx_python_class.argtypes, library.zx_python_class.restype = [], ctypes.py_object
+    library.zx_python_place.argtypes = [ctypes.py_object, pointer(Handle), pointer(Key), ctypes.c_uint32,
+                                        ctypes.c_uint64, ctypes.py_object]
+    library.zx_python_place.restype = ctypes.c_bool
     library.zx_python_row.argtypes = [ctypes.py_object, ctypes.c_uint32, ctypes.c_void_p, ctypes.c_size_t]
     library.zx_python_row.restype = ctypes.c_bool
     return library
@@ -155,6 +157,21 @@ free.argtypes, free.restype = [ctypes.c_void_p], None
 quick = _load_quick()
 HAS_PYTHON: bool = quick.zx_python_row([], U8, None, 0)
 """Whether the library takes this interpreter's own lists and numbers."""
+if TYPE_CHECKING or not HAS_PYTHON:
+    class Place:
+        """What stands for the class of zx_python_class where the library makes none."""
+
+        def _item(self, place: Any) -> Any:
+            raise NotImplementedError
+
+        def _at(self, *place: Any) -> Any:
+            """The value at a key or an index, or puts one there. None where the other calls say why."""
+            return None
+
+        def __getitem__(self, place: Any) -> Any:
+            return self._item(place)
+else:
+    Place = quick.zx_python_class()
 NO_SPACE = 9
 
 

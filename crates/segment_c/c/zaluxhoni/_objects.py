@@ -10,7 +10,7 @@ from typing import (TYPE_CHECKING, Any, Dict, Iterable, Iterator, List, MutableM
 
 from . import _library
 from ._errors import Absent, BadCount, BadValue, Error, NoElement, OutOfRange, WrongKind, error_of
-from ._library import BOOL, HAS_PYTHON, I32, I64, STRING, STRINGS, U8, U64, VECTOR, MAP, quick, zx
+from ._library import BOOL, I32, I64, STRING, STRINGS, U8, U64, VECTOR, MAP, quick, zx
 from ._values import (KINDS, SCALARS, Key, Row, Texts, decoded, encoded, from_words, is_scalar, listed,
                       natural, number_in, pairs_of, raw_key, row, scalar, unpacked, value_of, whole)
 
@@ -19,10 +19,6 @@ if TYPE_CHECKING:
 
 _reads = {BOOL: zx.zx_read_bools, U8: zx.zx_read_u8s, I32: zx.zx_read_i32s, I64: zx.zx_read_i64s, U64: zx.zx_read_u64s}
 _AHEAD = 4096
-
-
-def _no_value(*_: Any) -> None:
-    """What stands for the function of zx_python_at where the library makes none."""
 
 
 class Lease:
@@ -74,7 +70,7 @@ def places_of(index: slice, length: int) -> range:
         raise BadValue(f"{index!r} has no step") from None
 
 
-class Object:
+class Object(_library.Place):
     """An object of a segment. Each of its methods looks its key up, so it is good as long as the segment is open."""
 
     def __init__(self, segment: Segment, key: Key, code: int) -> None:
@@ -86,16 +82,11 @@ class Object:
         """Its key: its name, or what unique() or handle() gave."""
         return self._key
 
-    def _at(self, *place: Any) -> Any:
-        """The value at a key or an index, or puts one there, as zx_python_at says. None where the other calls say
-        why."""
+    def _start(self) -> None:
+        """Tells the class of the library what it stands for."""
         segment = self._segment
-        at: Any = _no_value
-        if HAS_PYTHON:
-            owner = segment, self._raw
-            at = quick.zx_python_at(segment._handle, self._raw, self._code, segment._thread_number, owner)
-        self.__dict__["_at"] = at
-        return at(*place)
+        quick.zx_python_place(self, segment._handle, self._raw, self._code, segment._thread_number,
+                              (segment, self._raw))
 
     def _call(self, call: Any, *arguments: Any) -> None:
         code = self._segment._code(call, self._raw, *arguments)
@@ -312,9 +303,8 @@ class _Scalars(_Elements):
     def _get(self, place: int) -> int:
         return self._scalar(place)
 
-    def __getitem__(self, index: Any) -> Any:
-        value = self._at(index)
-        return super().__getitem__(index) if value is None else value
+    _item = _Elements.__getitem__
+    __getitem__ = _library.Place.__getitem__
 
     def _row(self, values: Any) -> Row:
         try:
@@ -767,12 +757,10 @@ class Map(_Pairs, Object, MutableMapping[int, int]):
         super().__init__(segment, key, code)
         self._key_code, self._value_code = code >> 8 & 255, code & 255
 
-    def __getitem__(self, key: int) -> int:
-        value: Optional[int] = self._at(key)
+    def _item(self, key: Any) -> int:
+        value = self._get(key)
         if value is None:
-            value = self._get(key)
-            if value is None:
-                raise Absent(f"the map {self._key!r} has no key {key!r}")
+            raise Absent(f"the map {self._key!r} has no key {key!r}")
         return value
 
     def _get(self, key: Any) -> Optional[int]:

@@ -555,6 +555,10 @@ static void unmap(zx_file *file, struct zx_held_file *held) {
                    (size != held->len || held->is_uncut);
     zx_close(&file->segment);
     if (held->owner != getpid()) return;
+    // a child that is forked from here on has another mapping there, maybe
+    pthread_mutex_lock(&guard);
+    held->mapped = NULL;
+    pthread_mutex_unlock(&guard);
     munmap(held->at, held->len);
     if (is_long && !cut(held->file, size)) cut(held->file, size);
 }
@@ -576,6 +580,7 @@ static zx_code remap(zx_file *file, struct zx_held_file *held, uint64_t size, ui
         return code;
     }
     zx_detach(&file->segment, &memory);
+    pthread_mutex_lock(&guard);
     void *at = mremap(held->at, held->len, wanted, MREMAP_MAYMOVE);
     bool is_done = at != MAP_FAILED;
     int error = errno;
@@ -583,6 +588,7 @@ static zx_code remap(zx_file *file, struct zx_held_file *held, uint64_t size, ui
         held->at = at;
         held->len = wanted;
     }
+    pthread_mutex_unlock(&guard);
     zx_code code = attach(file, held, size, ZX_WRITE);
     if (code == ZX_DONE && !is_done) code = faulty(file, ZX_FILE_FAULT, error);
     if ((code != ZX_DONE || wanted == size) && !cut_mapped(held, size) && code == ZX_DONE) code = fault(file);

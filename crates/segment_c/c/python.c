@@ -174,8 +174,8 @@ static void *at(void *self, void *const *passed, intptr_t count) {
         Py_DecRef(none);
     }
     bool is_here = place->segment && (!place->thread || place->thread == zx_thread());
-    if (!is_here || count < 1 || count > 2) return shared(_Py_NoneStruct);
-    bool is_map = place->kind >= ZX_MAP(0, 0) && place->kind < ZX_STRINGS;
+    if (!is_here || place->kind >= ZX_STRINGS || count < 1 || count > 2) return shared(_Py_NoneStruct);
+    bool is_map = place->kind >= ZX_MAP(0, 0);
     return (is_map ? at_key : at_index)(place, passed, count == 2);
 }
 

@@ -161,15 +161,15 @@ if TYPE_CHECKING or not HAS_PYTHON:
     class Place:
         """What stands for the class of zx_python_class where the library makes none."""
 
-        def _item(self, place: Any) -> Any:
+        def _item(self, index: Any) -> Any:
             raise NotImplementedError
 
         def _at(self, *place: Any) -> Any:
             """The value at a key or an index, or puts one there. None where the other calls say why."""
             return None
 
-        def __getitem__(self, place: Any) -> Any:
-            return self._item(place)
+        def __getitem__(self, index: Any) -> Any:
+            return self._item(index)
 else:
     Place = quick.zx_python_class()
 NO_SPACE = 9

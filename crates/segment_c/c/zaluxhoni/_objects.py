@@ -207,7 +207,7 @@ class _Elements(Object):
     def _value(self) -> Any:
         return self._all()
 
-    def __getitem__(self, index: Any) -> Any:
+    def _item(self, index: Any) -> Any:
         if not isinstance(index, slice):
             return self._get(self._place(index))
         places = places_of(index, len(self))
@@ -302,9 +302,6 @@ class _Scalars(_Elements):
 
     def _get(self, place: int) -> int:
         return self._scalar(place)
-
-    _item = _Elements.__getitem__
-    __getitem__ = _library.Place.__getitem__
 
     def _row(self, values: Any) -> Row:
         try:
@@ -624,7 +621,7 @@ class String(_Places):
     def _value(self) -> Any:
         return decoded(self._text(), self._segment.encoding)
 
-    def __getitem__(self, index: Any) -> Any:
+    def _item(self, index: Any) -> Any:
         if isinstance(index, slice):
             places_of(index, 0)
             return self._text()[index]

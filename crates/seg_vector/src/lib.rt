@@ -12,7 +12,7 @@ mod texts;
 mod vectors;
 
 pub use best_fit::Place;
-pub use elements::truncate;
+pub use elements::{spell, truncate};
 pub use sizing::{fit, give_back, reserve};
 pub use strings::SegString;
 pub use texts::SegTexts;

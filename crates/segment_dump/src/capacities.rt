@@ -17,8 +17,8 @@ use crate::objects::{Telling, put_anonymous, put_named, put_unique};
 use raw_region::{DeviceFault, Sink, word_in};
 use seg_types::{Class, Kind};
 use segment_lang::{Piece, put_pieces};
-use segment_manager::layout::{NAMED_AT, UNIQUE_AT};
 use segment_manager::conditioned::object_here;
+use segment_manager::layout::{NAMED_AT, UNIQUE_AT};
 use segment_manager::{Instance, Object, Segment};
 
 /// Where an index has its capacity, behind its first word.

@@ -5,4 +5,4 @@ use Rattle.raw_region.proofs.slices.hold_bytes.Goals as goal
 
 pub returns : goal.returns
 returns c =
-    record { each = λ k. omega (arith, c.type_inv.bytes k); all = fits-are_bytes _ (λ k. omega (arith, c.type_inv.bytes k)) }
+    record { each = λ k. omega (arith, c.type_inv.bytes k); all = fits-are_bytes c.args.bytes.now (λ k. omega (arith, c.type_inv.bytes k)) }

@@ -115,7 +115,10 @@ static FORMS: [&[(&[u8], CommandForm)]; 32] = [
         (b"reserve", CommandForm::Deed(DeedForm::Reserve)),
         (b"free", CommandForm::Deed(DeedForm::Free)),
         (b"reserve_named", CommandForm::Deed(DeedForm::ReserveNamed)),
-        (b"reserve_unique", CommandForm::Deed(DeedForm::ReserveUnique)),
+        (
+            b"reserve_unique",
+            CommandForm::Deed(DeedForm::ReserveUnique),
+        ),
     ],
     &[],
     &[
@@ -124,7 +127,10 @@ static FORMS: [&[(&[u8], CommandForm)]; 32] = [
     ],
     &[(b"sanity", CommandForm::Deed(DeedForm::Sanity))],
     &[(b"put", CommandForm::Put)],
-    &[(b"all_deallocated", CommandForm::Deed(DeedForm::AllDeallocated))],
+    &[(
+        b"all_deallocated",
+        CommandForm::Deed(DeedForm::AllDeallocated),
+    )],
     &[],
     &[
         (b"set", CommandForm::Deed(DeedForm::Set)),
@@ -132,7 +138,10 @@ static FORMS: [&[(&[u8], CommandForm)]; 32] = [
         (b"unique", CommandForm::Deed(DeedForm::ListKinds)),
     ],
     &[],
-    &[(b"show", CommandForm::Deed(DeedForm::Show)), (b"info", CommandForm::Deed(DeedForm::Info))],
+    &[
+        (b"show", CommandForm::Deed(DeedForm::Show)),
+        (b"info", CommandForm::Deed(DeedForm::Info)),
+    ],
     &[],
     &[(b"size", CommandForm::Size)],
     &[(b"pop", CommandForm::Pop)],
@@ -153,7 +162,10 @@ static FORMS: [&[(&[u8], CommandForm)]; 32] = [
     &[],
     &[
         (b"find", CommandForm::Deed(DeedForm::Find)),
-        (b"find_or_construct", CommandForm::Deed(DeedForm::FindOrConstruct)),
+        (
+            b"find_or_construct",
+            CommandForm::Deed(DeedForm::FindOrConstruct),
+        ),
     ],
     &[(b"insert", CommandForm::Deed(DeedForm::Insert))],
     &[
@@ -166,7 +178,10 @@ static FORMS: [&[(&[u8], CommandForm)]; 32] = [
     &[
         (b"get", CommandForm::Get),
         (b"shrink", CommandForm::Deed(DeedForm::Shrink)),
-        (b"shrink_indexes", CommandForm::Deed(DeedForm::ShrinkIndexes)),
+        (
+            b"shrink_indexes",
+            CommandForm::Deed(DeedForm::ShrinkIndexes),
+        ),
     ],
 ];
 
@@ -263,8 +278,8 @@ pub fn read_deed<'a>(form: DeedForm, bytes: &'a [u8], scratch: &'a mut Text) -> 
         DeedForm::Free => read_alone(Deed::Free, bytes),
         DeedForm::NumNamed => read_alone(Deed::NumNamed, bytes),
         DeedForm::NumUnique => read_alone(Deed::NumUnique, bytes),
-        DeedForm::ReserveNamed => only_number(bytes).map(Deed::ReserveNamed),
-        DeedForm::ReserveUnique => only_number(bytes).map(Deed::ReserveUnique),
+        DeedForm::ReserveNamed => Some(Deed::ReserveNamed(only_number(bytes)?)),
+        DeedForm::ReserveUnique => Some(Deed::ReserveUnique(only_number(bytes)?)),
         DeedForm::ShrinkIndexes => read_alone(Deed::ShrinkIndexes, bytes),
         DeedForm::ZeroFree => read_alone(Deed::ZeroFree, bytes),
         DeedForm::Sanity => read_alone(Deed::Sanity, bytes),

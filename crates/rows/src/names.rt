@@ -9,7 +9,7 @@ pub fn fault_name(fault: SessionFault) -> &'static str {
         SessionFault::Image(class) => class_name(class),
         SessionFault::BadSize => "fault BadSize",
         SessionFault::RegionTooSmall => "fault RegionTooSmall",
-        SessionFault::OutOfMemory => "fault OutOfMemory",
+        SessionFault::OutOfMemory(_) => "fault OutOfMemory",
         SessionFault::ReadFault => "fault ReadFault",
         SessionFault::WriteFault => "fault WriteFault",
         SessionFault::ScriptTooLong => "fault ScriptTooLong",

@@ -4,34 +4,28 @@
 ghost use Rattle.std.specs.Prelude.{◌≡◌, ⊤};
 ghost use Rattle.segment_disk.specs.Events.{nothing_taken};
 
+mod requests;
+
 use raw_region::stream::{ReadOnce, Reading, Writing};
 use raw_region::{DeviceFault, Source};
+use requests::{NoMemory, asked, borrowed, buffered, words};
 use segment_answers::{Lined, Numbered};
-use segment_cli::SessionFault;
+use segment_cli::{ProgramFault, SessionFault};
 use segment_commands::{
-    ProgramFault, check, create, draw, draw_page, dump, dump_capacities, dump_json, explain, grow,
-    lint, load, load_over, migrate, names, print, print_language, report, report_file, shrink,
-    stat,
+    CommandFault, check, check_all, create, explain, grow, lint, load, load_over, migrate, names,
+    print, print_language, put_trouble, report, report_no_memory, shrink, tell_segment,
 };
-use segment_disk::{Disk, HostDisk, Opened, Outlet, Output, Trouble};
+use segment_disk::{Disk, HostDisk, Opened, Outlet, Trouble};
 use segment_invocation::{
-    Invocation, InvocationFault, Keeping, ModeName, Running, Saving, Script, VERSION, invocation,
-    is_verbose, script_text,
+    Change, Invocation, Keeping, ModeName, Running, Saving, Script, VERSION, is_verbose,
+    script_text,
 };
-use segment_lang::{Piece, put_pieces};
 use segment_scripts::{Until, command_rows};
-use std::alloc::{AllocError, Global};
-use std::io::{self, BufWriter, ErrorKind, IsTerminal, Read, Write};
+use std::io::{self, IsTerminal, Read, Write};
 use std::process::ExitCode;
 
-/// Memory for reading the command line, or for the answers, was refused.
-const OUT_OF_MEMORY: ProgramFault = ProgramFault::Session(SessionFault::OutOfMemory);
-
-/// Standard output failed.
-const WRITE_FAULT: ProgramFault = ProgramFault::Session(SessionFault::WriteFault);
-
-/// How many bytes of answers go out at once, at most.
-const PIECE: usize = 65536;
+/// The command line is wrong.
+const USAGE: CommandFault = CommandFault::Program(ProgramFault::Usage);
 
 /// The status where the reader of standard output ended first, as of a program that SIGPIPE ends.
 const CLOSED_PIPE: u8 = 141;
@@ -40,38 +34,39 @@ const CLOSED_PIPE: u8 = 141;
 fn main(rt: HostRuntime) -> ExitCode {
     let status = match obey(&rt) {
         Ok(status) => status,
-        Err(fault) => tell(&rt, fault),
+        Err(_) => report_no_memory(&mut Writing::new(rt.stderr())),
     };
     ExitCode::from(status)
 }
 
 /// Says what a fault is, and answers its status.
-fn tell(rt: &HostRuntime, fault: ProgramFault) -> u8 {
+fn tell(rt: &HostRuntime, fault: CommandFault) -> u8 {
     report(fault, &mut Writing::new(rt.stderr()))
 }
 
-/// Does what the program's own command line asks for, and answers the status.
-fn obey(rt: &HostRuntime) -> Result<u8, ProgramFault> {
-    let owned = words(rt)?;
-    let words = borrowed(rt.alloc(), owned.as_slice()).map_err(|_| OUT_OF_MEMORY)?;
-    match invocation(rt.alloc(), words.as_slice()) {
+/// Does what the program's own command line asks for, and answers the status. Words that are no text are a wrong command
+/// line.
+fn obey(rt: &HostRuntime) -> Result<u8, NoMemory> {
+    let Some(owned) = words(rt)? else {
+        let _ = eprintln!(rt; "error: the command line is no UTF-8");
+        return Ok(tell(rt, USAGE));
+    };
+    let words = borrowed(rt.alloc(), owned.as_slice())?;
+    match asked(rt.alloc(), words.as_slice())? {
         Ok(asked) => perform(rt, &asked, is_verbose(words.as_slice())),
-        Err(InvocationFault::Usage(wrong)) => {
+        Err(wrong) => {
             let _ = eprint!(rt; "{wrong}");
-            Err(ProgramFault::Usage)
+            Ok(tell(rt, USAGE))
         }
-        Err(InvocationFault::OutOfMemory) => Err(OUT_OF_MEMORY),
     }
 }
 
 /// Does what the command line asks for, with the files of the system, standard input and standard output, and answers
 /// the status. Where a person reads standard error, or more is asked for, it is told behind the line of a fault why the
 /// system did not open or make the file, as far as it said so.
-fn perform(rt: &HostRuntime, asked: &Invocation<'_>, is_verbose: bool) -> Result<u8, ProgramFault> {
-    let Ok(buffer) = BufWriter::with_capacity(rt.alloc(), PIECE, io::writer(rt)) else {
-        return Err(OUT_OF_MEMORY);
-    };
-    let mut disk = HostDisk::patient(rt, seconds_of(asked));
+fn perform(rt: &HostRuntime, asked: &Invocation<'_>, is_verbose: bool) -> Result<u8, NoMemory> {
+    let buffer = buffered(rt.alloc(), io::writer(rt))?;
+    let mut disk = HostDisk::patient(rt, keeping_of(asked).wait);
     let mut scripts = HostDisk::new(rt);
     let out = Outlet::new(buffer);
     let is_verbose = is_verbose || rt.stderr().is_terminal();
@@ -82,54 +77,10 @@ fn perform(rt: &HostRuntime, asked: &Invocation<'_>, is_verbose: bool) -> Result
     let status = tell(rt, fault);
     if is_of_file(fault) && is_verbose {
         if let Some((path, trouble)) = trouble_of(asked, &disk, &scripts) {
-            report_file(path, trouble, &mut Writing::new(rt.stderr()));
+            let _ = put_trouble(path, trouble, &mut Writing::new(rt.stderr()));
         }
     }
     Ok(status)
-}
-
-/// Checks files one after another, and answers the worst status. Each line that is said of one begins with its path,
-/// which stands there as a text of the language.
-fn check_all<W: Write>(
-    rt: &HostRuntime,
-    disk: &mut HostDisk<'_, HostRuntime>,
-    files: &[&str],
-    is_quiet: bool,
-    is_verbose: bool,
-    out: &mut Outlet<W>,
-) -> Result<u8, ProgramFault>
-    requires { out.old.history ≡ nothing_taken }
-{
-    let mut worst = 0;
-    'files: for file in files {
-        let front = Piece::Text(file.as_bytes());
-        match check(rt.alloc(), disk, file, &mut Outlet::new(io::sink())) {
-            Ok(()) if is_quiet => {}
-            Ok(()) => {
-                let line = [front, Piece::Bytes(b": ok\n")];
-                let Ok(()) = put_pieces(out, &line) else {
-                    return Err(WRITE_FAULT);
-                };
-            }
-            Err(fault) => {
-                let Ok(()) = out.flush() else {
-                    return Err(WRITE_FAULT);
-                };
-                let _ = put_pieces(
-                    &mut Writing::new(rt.stderr()),
-                    &[front, Piece::Bytes(b": ")],
-                );
-                worst = worst.max(tell(rt, fault));
-                if let (true, Some(trouble)) = (is_verbose, disk.trouble()) {
-                    report_file(file, trouble, &mut Writing::new(rt.stderr()));
-                }
-            }
-        }
-    }
-    match out.flush() {
-        Ok(()) => Ok(worst),
-        Err(_) => Err(WRITE_FAULT),
-    }
 }
 
 /// What the system said of the script that was to be opened, or else of the file, and its path.
@@ -144,15 +95,19 @@ fn trouble_of<'a>(
     }
 }
 
-/// For how many seconds the right to write a file is waited for.
-fn seconds_of(asked: &Invocation<'_>) -> u64 {
+/// How the file that the command line names is taken and saved.
+fn keeping_of(asked: &Invocation<'_>) -> Keeping {
     match asked {
-        Invocation::RunWith(_, _, _, how) => how.keeping.wait,
-        Invocation::GrowWith(_, _, keeping)
-        | Invocation::ShrinkWith(_, keeping)
-        | Invocation::MigrateWith(_, keeping)
-        | Invocation::Load(_, _, keeping) => keeping.wait,
-        _ => 0,
+        Invocation::ChangeWith(_, _, keeping) | Invocation::Load(_, _, keeping) => *keeping,
+        _ => running_of(asked).keeping,
+    }
+}
+
+/// What a run is asked for beside its file, mode and size.
+fn running_of<'a>(asked: &'a Invocation<'a>) -> &'a Running<'a> {
+    match asked {
+        Invocation::RunWith(_, _, _, how) => how,
+        _ => &Running::PLAIN,
     }
 }
 
@@ -164,63 +119,47 @@ fn command<W: Write + Drop>(
     asked: &Invocation<'_>,
     is_verbose: bool,
     out: Outlet<W>,
-) -> Result<u8, ProgramFault>
+) -> Result<u8, CommandFault>
     requires { out.history ≡ nothing_taken }
 {
     let alloc = rt.alloc();
     let mut out = out;
     let answer = match asked {
         Invocation::Create(file, size) => create(alloc, disk, file, *size),
-        Invocation::Run(file, mode, size) => {
+        Invocation::Run(file, mode, size) | Invocation::RunWith(file, mode, size, _) => {
             let run = Run {
                 file,
                 mode: *mode,
                 size: *size,
+                how: running_of(asked),
             };
-            answer(rt, disk, scripts, run, &Running::PLAIN, out)?;
-            return Ok(0);
-        }
-        Invocation::RunWith(file, mode, size, how) => {
-            let run = Run {
-                file,
-                mode: *mode,
-                size: *size,
-            };
-            answer(rt, disk, scripts, run, how, out)?;
+            answer(rt, disk, scripts, run, out)?;
             return Ok(0);
         }
         Invocation::Check(file) => check(alloc, disk, file, &mut out),
         Invocation::CheckAll(files, is_quiet) => {
-            return check_all(rt, disk, files.as_slice(), *is_quiet, is_verbose, &mut out);
-        }
-        Invocation::Grow(file, bytes) => grow(alloc, disk, file, *bytes, Saving::InPlace, &mut out),
-        Invocation::GrowWith(file, bytes, keeping) => {
-            grow(alloc, disk, file, *bytes, keeping.saving, &mut out)
-        }
-        Invocation::Shrink(file) => shrink(alloc, disk, file, Saving::InPlace, &mut out),
-        Invocation::ShrinkWith(file, keeping) => {
-            shrink(alloc, disk, file, keeping.saving, &mut out)
-        }
-        Invocation::Migrate(file) => migrate(alloc, disk, file, Saving::InPlace, &mut out),
-        Invocation::MigrateWith(file, keeping) => {
-            migrate(alloc, disk, file, keeping.saving, &mut out)
+            let trouble_of = |disk: &HostDisk<'_, HostRuntime>| {
+                if is_verbose { disk.trouble() } else { None }
+            };
+            let mut err = Writing::new(rt.stderr());
+            let files = files.as_slice();
+            return check_all(
+                alloc, disk, files, *is_quiet, trouble_of, &mut out, &mut err,
+            );
         }
         Invocation::Explain(file) => explain(alloc, disk, file, &mut out),
-        Invocation::Stat(file) => stat(alloc, disk, file, &mut out),
-        Invocation::Draw(file) => draw(alloc, disk, file, &mut out),
-        Invocation::DrawPage(file) => draw_page(alloc, disk, file, &mut out),
-        Invocation::Dump(file) => dump(alloc, disk, file, &mut out),
-        Invocation::DumpCapacities(file) => dump_capacities(alloc, disk, file, &mut out),
-        Invocation::DumpJson(file) => dump_json(alloc, disk, file, &mut out),
+        Invocation::Grow(file, bytes) => grow(alloc, disk, file, *bytes, Saving::InPlace, &mut out),
+        Invocation::Shrink(file) => shrink(alloc, disk, file, Saving::InPlace, &mut out),
+        Invocation::Migrate(file) => migrate(alloc, disk, file, Saving::InPlace, &mut out),
+        Invocation::ChangeWith(file, change, Keeping { saving, .. }) => match change {
+            Change::Grow(bytes) => grow(alloc, disk, file, *bytes, *saving, &mut out),
+            Change::Shrink => shrink(alloc, disk, file, *saving, &mut out),
+            Change::Migrate => migrate(alloc, disk, file, *saving, &mut out),
+        },
+        Invocation::Tell(file, what) => tell_segment(alloc, disk, file, &mut out, *what),
         Invocation::Names(file, prefix, most) => {
-            names(
-                alloc,
-                disk,
-                file,
-                prefix,
-                most.unwrap_or(u64::MAX),
-                &mut out,
-            )
+            let most = most.unwrap_or(u64::MAX);
+            names(alloc, disk, file, prefix, most, &mut out)
         }
         Invocation::Load(file, size, keeping) => {
             let mut text = Reading::new(rt.reader());
@@ -245,90 +184,86 @@ fn ends_quietly(asked: &Invocation<'_>) -> bool {
     matches!(
         asked,
         Invocation::Explain(_)
-            | Invocation::Stat(_)
-            | Invocation::Draw(_)
-            | Invocation::DrawPage(_)
-            | Invocation::Dump(_)
-            | Invocation::DumpCapacities(_)
-            | Invocation::DumpJson(_)
+            | Invocation::Tell(_, _)
             | Invocation::Names(_, _, _)
             | Invocation::Lint
             | Invocation::Language
     )
 }
 
-/// The run that is asked for, as far as no option of its own says more.
+/// The run that is asked for.
 #[derive(Clone, Copy)]
 struct Run<'a> {
     file: &'a str,
     mode: ModeName,
     size: Option<u64>,
+    how: &'a Running<'a>,
 }
 
-/// Runs the script that is asked for, and gives its answers to an output.
+/// Runs the script that is asked for, and gives its answers to an output that makes of them what is wanted.
 fn answer<O: Lined + Drop>(
     rt: &HostRuntime,
     disk: &mut HostDisk<'_, HostRuntime>,
     scripts: &mut HostDisk<'_, HostRuntime>,
     run: Run<'_>,
-    how: &Running<'_>,
     out: O,
-) -> Result<(), ProgramFault>
+) -> Result<(), CommandFault>
     requires { O.history out ≡ nothing_taken }
 {
-    match &how.script {
+    if run.how.answering.numbered {
+        return answer_to(rt, disk, scripts, run, &mut Numbered::new(out));
+    }
+    let mut plain = out;
+    answer_to(rt, disk, scripts, run, &mut plain)
+}
+
+/// The same to an output as it is.
+fn answer_to<O: Lined>(
+    rt: &HostRuntime,
+    disk: &mut HostDisk<'_, HostRuntime>,
+    scripts: &mut HostDisk<'_, HostRuntime>,
+    run: Run<'_>,
+    out: &mut O,
+) -> Result<(), CommandFault>
+    requires { O.history out.old ≡ nothing_taken }
+{
+    match &run.how.script {
         Script::Input => {
             let mut script = Reading::new(Prompted::new(rt, rt.reader()));
-            answer_script(rt, disk, run, how, &mut script, out)
+            run_script(rt, disk, run, &mut script, out)
         }
         Script::File(path) => {
             let Ok(opened) = scripts.open(path) else {
-                return Err(ProgramFault::Session(SessionFault::ReadFault));
+                return Err(CommandFault::Program(ProgramFault::Session(SessionFault::ReadFault)));
             };
             let Opened { reader, len: _ } = opened;
             let mut script = reader;
-            answer_script(rt, disk, run, how, &mut script, out)
+            run_script(rt, disk, run, &mut script, out)
         }
         Script::Lines(lines) => {
-            let text = script_text(rt.alloc(), lines.as_slice()).map_err(|_| OUT_OF_MEMORY)?;
-            let mut script = Reading::new(text.as_slice());
-            answer_script(rt, disk, run, how, &mut script, out)
+            let text = script_text(rt.alloc(), lines.as_slice())?;
+            run_script(rt, disk, run, &mut Reading::new(text.as_slice()), out)
         }
     }
 }
 
-/// Runs a script, and gives its answers to an output that makes of them what is wanted.
-fn answer_script<S: Source, O: Lined + Drop>(
+/// Runs a script, to its end or to the first line that is refused.
+fn run_script<S: Source, O: Lined>(
     rt: &HostRuntime,
     disk: &mut HostDisk<'_, HostRuntime>,
     run: Run<'_>,
-    how: &Running<'_>,
-    script: &mut S,
-    out: O,
-) -> Result<(), ProgramFault>
-    requires script { (S.history script.old).failures ≡ 0 }
-    requires out { O.history out ≡ nothing_taken }
-{
-    if how.answering.numbered {
-        return answer_to(rt, disk, run, how, script, &mut Numbered::new(out));
-    }
-    let mut plain = out;
-    answer_to(rt, disk, run, how, script, &mut plain)
-}
-
-/// The same to an output as it is, to the end of the script or to the first line that is refused.
-fn answer_to<S: Source, O: Lined>(
-    rt: &HostRuntime,
-    disk: &mut HostDisk<'_, HostRuntime>,
-    run: Run<'_>,
-    how: &Running<'_>,
     script: &mut S,
     out: &mut O,
-) -> Result<(), ProgramFault>
+) -> Result<(), CommandFault>
     requires script { (S.history script.old).failures ≡ 0 }
     requires out { O.history out.old ≡ nothing_taken }
 {
-    let alloc = rt.alloc();
+    let Run {
+        file,
+        mode,
+        size,
+        how,
+    } = run;
     let saving = how.keeping.saving;
     let until = if how.answering.strict {
         Until::Refusal
@@ -336,7 +271,15 @@ fn answer_to<S: Source, O: Lined>(
         Until::End
     };
     segment_commands::run(
-        alloc, disk, run.file, run.mode, run.size, saving, until, script, out,
+        rt.alloc(),
+        disk,
+        file,
+        mode,
+        size,
+        saving,
+        until,
+        script,
+        out,
     )
 }
 
@@ -372,10 +315,15 @@ impl<'a, R: Read> ReadOnce for Prompted<'a, R> {
 /// The file with the script that the command line names, if there is one.
 fn script_of<'a>(asked: &Invocation<'a>) -> Option<&'a str> {
     match asked {
-        Invocation::RunWith(_, _, _, how) => match how.script {
-            Script::File(path) => Some(path),
-            Script::Input | Script::Lines(_) => None,
-        },
+        Invocation::RunWith(
+            _,
+            _,
+            _,
+            Running {
+                script: Script::File(path),
+                ..
+            },
+        ) => Some(*path),
         _ => None,
     }
 }
@@ -389,17 +337,10 @@ fn file_of<'a>(asked: &Invocation<'a>) -> Option<&'a str> {
         | Invocation::Check(file)
         | Invocation::Explain(file)
         | Invocation::Grow(file, _)
-        | Invocation::GrowWith(file, _, _)
         | Invocation::Shrink(file)
-        | Invocation::ShrinkWith(file, _)
         | Invocation::Migrate(file)
-        | Invocation::MigrateWith(file, _)
-        | Invocation::Stat(file)
-        | Invocation::Draw(file)
-        | Invocation::DrawPage(file)
-        | Invocation::Dump(file)
-        | Invocation::DumpCapacities(file)
-        | Invocation::DumpJson(file)
+        | Invocation::ChangeWith(file, _, _)
+        | Invocation::Tell(file, _)
         | Invocation::Names(file, _, _)
         | Invocation::Load(file, _, _) => Some(*file),
         Invocation::CheckAll(_, _)
@@ -410,26 +351,11 @@ fn file_of<'a>(asked: &Invocation<'a>) -> Option<&'a str> {
 }
 
 /// Whether a fault can be one of the file.
-fn is_of_file(fault: ProgramFault) -> bool {
+fn is_of_file(fault: CommandFault) -> bool {
     matches!(
         fault,
-        ProgramFault::Session(SessionFault::ReadFault | SessionFault::WriteFault)
+        CommandFault::Program(ProgramFault::Session(
+            SessionFault::ReadFault | SessionFault::WriteFault
+        ))
     )
-}
-
-/// The words of the command line, the program's name first. Those that are no text are a wrong command line.
-fn words(rt: &HostRuntime) -> Result<Vec<String>, ProgramFault> {
-    match std::env::args(rt) {
-        Ok(words) => words.collect(rt.alloc()).map_err(|_| OUT_OF_MEMORY),
-        Err(error) if error.kind() == ErrorKind::OutOfMemory => Err(OUT_OF_MEMORY),
-        Err(_) => {
-            let _ = eprintln!(rt; "error: the command line is no UTF-8");
-            Err(ProgramFault::Usage)
-        }
-    }
-}
-
-/// The words as texts that are lent.
-fn borrowed<'a>(alloc: Global, words: &'a [String]) -> Result<Vec<&'a str>, AllocError> {
-    words.iter().map(|word| word.as_str()).collect(alloc)
 }

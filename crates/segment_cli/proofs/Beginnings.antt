@@ -91,7 +91,7 @@ why_not_begun : (image : Given) (base capacity : ℕ) (cause : OpenError) → Is
     → IsWhyNotBegun Image image base capacity (opened_fault cause)
 why_not_begun image base capacity (NoImage c) why = (refl, why)
 why_not_begun image base capacity NoRoomForImage why = why
-why_not_begun image base capacity (NoMemory refusal) why = (refl, why.0)
+why_not_begun image base capacity (NoMemory refusal) why = (refl, why)
 why_not_begun image base capacity NotRead why = (refl, why)
 
 abbrev no_segment : OpenError → Result State SessionFault

@@ -7,7 +7,7 @@ use Rattle.raw_region.specs.{Answers.AddsFront, Format.current}
 use Rattle.raw_region.proofs.Laws.{added}
 use Rattle.segment_manager.specs.declared.modes.Mode.TheVariants.{Write}
 use Rattle.segment_manager.specs.{State.State, State.StandsFor, declared.modes.Mode.Mode, Directory.Directory}
-use Rattle.image_check.specs.{Opening.IsOutOfMemory, Opening.IsRefusedAs, Opening.IsUntouched, Saving.IsSaved}
+use Rattle.image_check.specs.{Opening.IsOutOfMemory, Opening.IsRefusedAs, Opening.IsUntouched, Passes.IsMapRefused, Saving.IsSaved}
 use Rattle.segment_lang.specs.Language.{whole}
 use Rattle.segment_cli.specs.declared.faults.SessionFault.TheVariants.{Image as Refused, RegionTooSmall, ScriptTooLong}
 use Rattle.segment_cli.specs.declared.faults.SessionFault.TheVariants.{BadSize, OutOfMemory, ReadFault, WriteFault}
@@ -111,8 +111,8 @@ module _ (start : Start) (mode : Mode) (base capacity : ℕ) (t : Traffic) where
   not_begun BadSize why script out saved = refused_before (IsSizeRefused start) why script out saved
   not_begun RegionTooSmall why script out saved = refused_before
       (IsTooSmall start t.image base capacity) why script out saved
-  not_begun OutOfMemory why script out saved = refused_before
-      ((start ≡ Image) × IsOutOfMemory current t.image) why script out saved
+  not_begun (OutOfMemory refusal) why script out saved = refused_before
+      ((start ≡ Image) × (IsOutOfMemory current t.image × IsMapRefused t.image.bytes refusal)) why script out saved
   not_begun ReadFault why script out saved = inl (record {
     image = why.0;
     undecided = why.1;

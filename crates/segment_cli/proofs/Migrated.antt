@@ -16,7 +16,7 @@ fault-why : (base capacity : ℕ) (image : Given) (saved : Taken) (cause : OpenE
     → IsWhyNotAny image base capacity cause → IsMigrationFault base capacity image saved (opened_fault cause)
 fault-why base capacity image saved (NoImage c) u why = record { why = why; bytes = u.bytes; failed = u.failed }
 fault-why base capacity image saved NoRoomForImage u why = record { why = why; bytes = u.bytes; failed = u.failed }
-fault-why base capacity image saved (NoMemory refusal) u why = record { why = why.0; bytes = u.bytes; failed = u.failed }
+fault-why base capacity image saved (NoMemory refusal) u why = record { why = why; bytes = u.bytes; failed = u.failed }
 fault-why base capacity image saved NotRead u why = record { why = why; bytes = u.bytes; failed = u.failed }
 
 pub not-migrated : (region : List ℕ) (base : ℕ) (mode : Mode) (image : Given) (saved : Taken) (refused : OpenRefused)

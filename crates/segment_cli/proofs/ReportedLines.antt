@@ -1,6 +1,7 @@
 -- What the program says of its faults, and the status that it ends with.
 use Rattle.std.proofs.Common.{◌≡◌, refl, [], codes}
 use Rattle.image_check.specs.declared.classes.ImageClass.TheVariants.{BadTag}
+use Rattle.image_check.specs.declared.errors.MemoryFault.{MemoryFault}
 use Rattle.grow_shrink.specs.declared.refusals.GrowError.TheVariants.{BadGrow}
 use Rattle.segment_cli.specs.declared.faults.SessionFault.TheVariants.{Image, RegionTooSmall, OutOfMemory}
 use Rattle.segment_cli.specs.declared.program_faults.ProgramFault.TheVariants.{Usage, Exists, Growth, Session}
@@ -30,11 +31,11 @@ region = refl
 region_status : status_of (Session RegionTooSmall) ≡ 1
 region_status = refl
 
-memory : fault_text (Session OutOfMemory) ≡ codes "segment: out of memory\n"
-memory = refl
+memory : (refusal : MemoryFault) → fault_text (Session (OutOfMemory refusal)) ≡ codes "segment: out of memory\n"
+memory refusal = refl
 
-memory_status : status_of (Session OutOfMemory) ≡ 4
-memory_status = refl
+memory_status : (refusal : MemoryFault) → status_of (Session (OutOfMemory refusal)) ≡ 4
+memory_status refusal = refl
 
 usage : fault_text Usage ≡ []
 usage = refl

@@ -8,10 +8,12 @@ use Rattle.segment_manager.specs.declared.errors.CreateError.TheVariants.{BadSiz
 use Rattle.segment_manager.specs.Directory.{Directory}
 use Rattle.segment_manager.specs.State.{State, StandsFor}
 use Rattle.segment_manager.specs.Calls.{HasZeroGaps}
+use Rattle.image_check.specs.declared.errors.MemoryFault.TheVariants.{BlockMap}
 use Rattle.image_check.specs.declared.errors.OpenError.{OpenError}
 use Rattle.image_check.specs.declared.errors.OpenError.TheVariants.{Image as NoImage, RegionTooSmall as NoRoomForImage}
 use Rattle.image_check.specs.declared.errors.OpenError.TheVariants.{OutOfMemory as NoMemory, ReadFault as NotRead}
 use Rattle.image_check.specs.Opening.{IsOutOfMemory, IsRefusedAs, IsUndecided}
+use Rattle.image_check.specs.Passes.{IsMapRefused}
 use Rattle.segment_cli.specs.declared.faults.Start.{Start}
 use Rattle.segment_cli.specs.declared.faults.Start.TheVariants.{Image}
 use Rattle.segment_scripts.specs.declared.faults.RunFault.{RunFault}
@@ -32,7 +34,7 @@ created_fault NoRoom = RegionTooSmall
 abbrev pub opened_fault : OpenError → SessionFault
 opened_fault (NoImage c) = Refused c
 opened_fault NoRoomForImage = RegionTooSmall
-opened_fault (NoMemory refusal) = OutOfMemory
+opened_fault (NoMemory refusal) = OutOfMemory (BlockMap refusal)
 opened_fault NotRead = ReadFault
 
 abbrev pub run_fault : RunFault → SessionFault
@@ -54,7 +56,8 @@ abbrev pub IsWhyNotBegun : Start → Given → ℕ → ℕ → SessionFault → 
 IsWhyNotBegun start image base capacity (Refused c) = (start ≡ Image) × IsRefusedAs current image c
 IsWhyNotBegun start image base capacity BadSize = IsSizeRefused start
 IsWhyNotBegun start image base capacity RegionTooSmall = IsTooSmall start image base capacity
-IsWhyNotBegun start image base capacity OutOfMemory = (start ≡ Image) × IsOutOfMemory current image
+IsWhyNotBegun start image base capacity (OutOfMemory refusal) =
+    (start ≡ Image) × (IsOutOfMemory current image × IsMapRefused image.bytes refusal)
 IsWhyNotBegun start image base capacity ReadFault = (start ≡ Image) × IsUndecided current image
 IsWhyNotBegun start image base capacity WriteFault = ⊥
 IsWhyNotBegun start image base capacity ScriptTooLong = ⊥

@@ -6,6 +6,7 @@ use Rattle.image_check.specs.Classes.{class_of}
 use Rattle.image_check.specs.Formats.{format_of}
 use Rattle.image_check.specs.Opening.{IsImage, IsOutOfMemory, IsReadToEnd, IsTooSmallFor}
 use Rattle.image_check.specs.OpeningAny.{IsRefusedAsAny, IsRenewed, IsUndecidedAny}
+use Rattle.image_check.specs.Passes.{IsMapRefused}
 use Rattle.segment_cli.specs.declared.faults.SessionFault.{SessionFault}
 use Rattle.segment_cli.specs.declared.faults.SessionFault.TheVariants.{Image as Refused, BadSize, RegionTooSmall}
 use Rattle.segment_cli.specs.declared.faults.SessionFault.TheVariants.{OutOfMemory, ReadFault, WriteFault}
@@ -43,8 +44,8 @@ IsMigrationFault base capacity image saved (Refused c) = IsNothingSaved saved (I
 IsMigrationFault base capacity image saved BadSize = ⊥
 IsMigrationFault base capacity image saved RegionTooSmall = IsNothingSaved saved
     (IsTooSmallFor (format_of image.bytes) image base capacity)
-IsMigrationFault base capacity image saved OutOfMemory = IsNothingSaved saved
-    (IsOutOfMemory (format_of image.bytes) image)
+IsMigrationFault base capacity image saved (OutOfMemory refusal) = IsNothingSaved saved
+    (IsOutOfMemory (format_of image.bytes) image × IsMapRefused image.bytes refusal)
 IsMigrationFault base capacity image saved ReadFault = IsNothingSaved saved (IsUndecidedAny image)
 IsMigrationFault base capacity image saved WriteFault = IsUnmigrated image saved
 IsMigrationFault base capacity image saved ScriptTooLong = ⊥

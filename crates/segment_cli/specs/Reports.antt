@@ -39,7 +39,7 @@ abbrev pub session_words : SessionFault → List ℕ
 session_words (session.Image c) = codes "image refused: " ++ class_words c
 session_words session.BadSize = codes "size refused"
 session_words session.RegionTooSmall = codes "size refused"
-session_words session.OutOfMemory = codes "out of memory"
+session_words (session.OutOfMemory refusal) = codes "out of memory"
 session_words session.ReadFault = codes "read fault"
 session_words session.WriteFault = codes "write fault"
 session_words session.ScriptTooLong = codes "script too long"
@@ -61,7 +61,7 @@ abbrev pub session_status : SessionFault → ℕ
 session_status (session.Image c) = 1
 session_status session.BadSize = 1
 session_status session.RegionTooSmall = 1
-session_status session.OutOfMemory = 4
+session_status (session.OutOfMemory refusal) = 4
 session_status session.ReadFault = 3
 session_status session.WriteFault = 3
 session_status session.ScriptTooLong = 3

@@ -10,6 +10,7 @@ use Rattle.segment_manager.specs.Directory.{Directory, empty}
 use Rattle.segment_manager.specs.State.{StandsFor}
 use Rattle.segment_manager.specs.Calls.{HasZeroGaps}
 use Rattle.image_check.specs.Opening.{IsOutOfMemory, IsRefusedAs, IsTooSmallFor, IsUndecided, IsUntouched}
+use Rattle.image_check.specs.Passes.{IsMapRefused}
 use Rattle.image_check.specs.Saving.{IsSaved}
 use Rattle.segment_lang.specs.Language.{whole as whole_language}
 use Rattle.segment_lang.specs.Reading.{reading}
@@ -182,8 +183,8 @@ AnswersFault start mode base capacity t (Refused c) = IsRefusedBefore t
     ((start ≡ Image) × IsRefusedAs current t.image c)
 AnswersFault start mode base capacity t BadSize = IsRefusedBefore t (IsSizeRefused start)
 AnswersFault start mode base capacity t RegionTooSmall = IsRefusedBefore t (IsTooSmall start t.image base capacity)
-AnswersFault start mode base capacity t OutOfMemory = IsRefusedBefore t
-    ((start ≡ Image) × IsOutOfMemory current t.image)
+AnswersFault start mode base capacity t (OutOfMemory refusal) = IsRefusedBefore t
+    ((start ≡ Image) × (IsOutOfMemory current t.image × IsMapRefused t.image.bytes refusal))
 AnswersFault start mode base capacity t ReadFault = IsImageUnread start t ⊎ IsScriptUnread start mode t
 AnswersFault start mode base capacity t WriteFault = IsAnswerUnwritten start mode t ⊎ IsImageUnwritten start mode t
 AnswersFault start mode base capacity t ScriptTooLong = IsScriptTooLong start mode t

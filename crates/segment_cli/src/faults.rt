@@ -1,8 +1,11 @@
 //! How a session begins, and why it may fail.
 ghost use Rattle.std.specs.Prelude.{◌≡◌};
+ghost use Rattle.image_check.specs.declared.errors.MemoryFault.TheVariants.{Bytes};
 ghost use Rattle.segment_cli.specs.Beginning.{created_fault, opened_fault, run_fault};
+ghost use Rattle.segment_cli.specs.declared.faults.SessionFault.TheVariants.{OutOfMemory as NoMemory};
 
-use image_check::{ImageClass, OpenError, OpenRefused};
+use image_check::{ImageClass, MemoryFault, OpenError, OpenRefused};
+use raw_region::OutOfMemory;
 use segment_manager::{CreateError, CreateRefused};
 use segment_scripts::RunFault;
 use thiserror::Error;
@@ -28,9 +31,9 @@ pub enum SessionFault {
     /// The region ends before base plus size.
     #[error("region too small")]
     RegionTooSmall,
-    /// Memory for the check of the image was refused.
-    #[error("out of memory")]
-    OutOfMemory,
+    /// Memory was refused. A session and a migration ask for that of the check of an image alone.
+    #[error("{0}")]
+    OutOfMemory(MemoryFault),
     /// A reader failed.
     #[error("read fault")]
     ReadFault,
@@ -60,9 +63,19 @@ impl From<OpenRefused> for SessionFault {
         match refused.cause {
             OpenError::Image(class) => SessionFault::Image(class),
             OpenError::RegionTooSmall => SessionFault::RegionTooSmall,
-            OpenError::OutOfMemory(_) => SessionFault::OutOfMemory,
+            OpenError::OutOfMemory(refusal) => {
+                SessionFault::OutOfMemory(MemoryFault::BlockMap(refusal))
+            }
             OpenError::ReadFault => SessionFault::ReadFault,
         }
+    }
+}
+
+impl From<OutOfMemory> for SessionFault {
+    ghost from_gives = { λ refusal fault. fault ≡ NoMemory (Bytes refusal) };
+
+    fn from(refusal: OutOfMemory) -> SessionFault {
+        SessionFault::OutOfMemory(MemoryFault::Bytes(refusal))
     }
 }
 

@@ -12,7 +12,7 @@ pub use faults::{SessionFault, Start};
 pub use image_check::save;
 pub use migrations::migrate;
 pub use program_faults::ProgramFault;
-pub use reports::report;
+pub use reports::{report, session_line, session_status};
 pub use segment_invocation::{Invocation, InvocationFault, ModeName, invocation};
 pub use segment_scripts::{Answered, End, Machine, RunFault, Scratch, Until, run};
 pub use serving::serve;

@@ -42,13 +42,13 @@ fn growth_line(error: GrowError) -> &'static [u8]
 }
 
 /// The line of a session that fails.
-fn session_line(fault: SessionFault) -> &'static [u8]
+pub fn session_line(fault: SessionFault) -> &'static [u8]
     ensures { result.now ≡ line (session_words fault) }
 {
     match fault {
         SessionFault::Image(class) => class_line(class),
         SessionFault::BadSize | SessionFault::RegionTooSmall => b"segment: size refused\n",
-        SessionFault::OutOfMemory => b"segment: out of memory\n",
+        SessionFault::OutOfMemory(_) => b"segment: out of memory\n",
         SessionFault::ReadFault => b"segment: read fault\n",
         SessionFault::WriteFault => b"segment: write fault\n",
         SessionFault::ScriptTooLong => b"segment: script too long\n",
@@ -68,13 +68,13 @@ fn fault_line(fault: ProgramFault) -> &'static [u8]
 }
 
 /// The status of a session that fails.
-fn session_status(fault: SessionFault) -> u8
+pub fn session_status(fault: SessionFault) -> u8
     ensures { result ≡ session_status fault }
 {
     match fault {
         SessionFault::Image(_) | SessionFault::BadSize | SessionFault::RegionTooSmall => 1,
         SessionFault::ReadFault | SessionFault::WriteFault | SessionFault::ScriptTooLong => 3,
-        SessionFault::OutOfMemory => 4,
+        SessionFault::OutOfMemory(_) => 4,
     }
 }
 

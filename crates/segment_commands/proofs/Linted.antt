@@ -6,12 +6,12 @@ use Rattle.segment_scripts.specs.Leaves.{Leaves}
 use Rattle.segment_scripts.specs.Linting.{is_at, lint_line, start}
 use Rattle.segment_scripts.specs.declared.faults.RunFault.{RunFault}
 use Rattle.segment_scripts.specs.declared.language.CommandRow.{CommandRow}
-use Rattle.segment_commands.specs.declared.program_faults.ProgramFault.{ProgramFault}
+use Rattle.segment_commands.specs.declared.command_faults.CommandFault.{CommandFault}
 use Rattle.segment_commands.specs.Linting.{Lints, answer_of}
 
 pub linted : {O : Type 0} (rows known : List CommandRow) (script script' : Gave) (history : O → Took) (flushes : O → Bool → O → Type 0) (old mid new : O) (ran : Result (Unit {0}) RunFault) (last : ℕ) (found ok : Bool)
     → Leaves lint_line (start rows) (given_since script script') (taken_since (history old) (history mid)) ran (is_at last found known)
-    → history new ≡ history mid → flushes mid ok new → (result : Result (Unit {0}) ProgramFault) → result ≡ answer_of ran ok found
+    → history new ≡ history mid → flushes mid ok new → (result : Result (Unit {0}) CommandFault) → result ≡ answer_of ran ok found
     → Lints rows script script' history flushes old new result
 linted rows known script script' history flushes old mid new ran last found ok leaves same flush result e = record {
   ran = ran;

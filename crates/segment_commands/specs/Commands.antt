@@ -1,25 +1,26 @@
 -- What the commands of the program do to a file: what the disk is asked, in order, what is said, and with which answer
 -- each ends.
-use Rattle.std.specs.Prelude.{◌≡◌, ◌≢◌, ◌⊎◌, ℕ, Bool, false, List, [], ◌∷◌, Result, Ok, Err, IfErr, IsTrue, codes}
+use Rattle.std.specs.Prelude.{◌≡◌, ◌≢◌, ◌⊎◌, ℕ, Bool, false, List, [], ◌∷◌, Result, Ok, Err, MatchResult, IsTrue, codes}
 use Rattle.block_tags.specs.Format.{is_legal_size}
 use Rattle.raw_region.specs.Device.{Given, Took}
 use Rattle.segment_manager.specs.declared.modes.Mode.TheVariants.{Write, ReadOnly}
 use Rattle.segment_manager.specs.State.{State}
 use Rattle.segment_cli.specs.declared.faults.SessionFault.{SessionFault}
-use Rattle.segment_cli.specs.declared.faults.SessionFault.TheVariants.{BadSize, OutOfMemory, WriteFault}
+use Rattle.segment_cli.specs.declared.faults.SessionFault.TheVariants.{BadSize, WriteFault}
 use Rattle.segment_cli.specs.declared.faults.Start.TheVariants.{Fresh}
-use Rattle.segment_commands.specs.declared.program_faults.ProgramFault.{ProgramFault}
-use Rattle.segment_commands.specs.declared.program_faults.ProgramFault.TheVariants.{Exists, Session}
+use Rattle.segment_cli.specs.Beginning.{Starts}
+use Rattle.segment_commands.specs.declared.command_faults.CommandFault.{CommandFault}
+use Rattle.segment_commands.specs.Faults.{Exists, Session, region_refused}
 use Rattle.segment_disk.specs.declared.presence.Presence.{Presence}
 use Rattle.segment_disk.specs.declared.presence.Presence.TheVariants.{There}
 use Rattle.segment_disk.specs.declared.presence.Making.TheVariants.{New}
 use Rattle.segment_disk.specs.Events.{Event, Looked, After}
 use Rattle.segment_file.specs.Files.{WritesImage}
-use Rattle.segment_commands.specs.Opening.{BeginsIn, OpensFile}
+use Rattle.segment_commands.specs.Opening.{OpensFile, VerifiesFile}
 use Rattle.segment_commands.specs.Telling.{Tells}
 
 -- a fault of the file's writer, or of the output, as the program answers it
-abbrev pub written_as : {E : Type 0} → Result (Unit {0}) E → Result (Unit {0}) ProgramFault
+abbrev pub written_as : {E : Type 0} → Result (Unit {0}) E → Result (Unit {0}) CommandFault
 written_as (Ok u) = Ok tt
 written_as (Err e) = Err (Session WriteFault)
 
@@ -30,24 +31,28 @@ pub record IsSizeless (size : ℕ) (result : Result State SessionFault) : Type 0
   pub illegal : is_legal_size size ≡ false
   pub refused : result ≡ Err BadSize
 
--- an empty segment of the size begins, or memory for it was refused
+-- a session begins with an empty segment of the size, in a region of some capacity
+pub record IsFreshSegment (size : ℕ) (segment : State) : Type 0 where
+  pub image : Given
+  pub capacity : ℕ
+  pub starts : Starts (Fresh size) Write 0 capacity image (Ok segment)
+
+-- one is made, or a region with room for it was refused
 pub record IsFresh (size : ℕ) (result : Result State SessionFault) : Type 0 where
   pub legal : IsTrue (is_legal_size size)
-  pub image : Given
-  pub begins : BeginsIn (Fresh size) Write image result
-  pub memory : IfErr result (λ fault. fault ≡ OutOfMemory)
+  pub answers : MatchResult result (IsFreshSegment size) (λ fault. fault ≡ region_refused size)
 
 abbrev pub MakesSegment : ℕ → Result State SessionFault → Type 0
 MakesSegment size result = IsSizeless size result ⊎ IsFresh size result
 
 module _ {D : Type 0} (step : D → Event → D → Type 0) (old new : D) (path : List ℕ) where
   -- something is there under the path, and nothing else was asked
-  pub record IsTaken (result : Result (Unit {0}) ProgramFault) : Type 0 where
+  pub record IsTaken (result : Result (Unit {0}) CommandFault) : Type 0 where
     pub asked : After step old (Looked path There ∷ []) new
     pub refused : result ≡ Err Exists
 
   -- nothing is there, and no segment was made: nothing else was asked
-  pub record IsNotCreated (size : ℕ) (result : Result (Unit {0}) ProgramFault) : Type 0 where
+  pub record IsNotCreated (size : ℕ) (result : Result (Unit {0}) CommandFault) : Type 0 where
     pub found : Presence
     pub free : found ≢ There
     pub asked : After step old (Looked path found ∷ []) new
@@ -56,7 +61,7 @@ module _ {D : Type 0} (step : D → Event → D → Type 0) (old new : D) (path 
     pub refused : result ≡ Err (Session fault)
 
   -- nothing is there, and the image of an empty segment was written to a new file
-  pub record IsCreated (size : ℕ) (result : Result (Unit {0}) ProgramFault) : Type 0 where
+  pub record IsCreated (size : ℕ) (result : Result (Unit {0}) CommandFault) : Type 0 where
     pub found : Presence
     pub free : found ≢ There
     pub looked : D
@@ -64,35 +69,41 @@ module _ {D : Type 0} (step : D → Event → D → Type 0) (old new : D) (path 
     pub segment : State
     pub made : MakesSegment size (Ok segment)
     pub writes : WritesImage step looked new New path segment.cut.bytes result
-    pub answer : (fault : ProgramFault) → result ≡ Err fault → fault ≡ Session WriteFault
+    pub answer : (fault : CommandFault) → result ≡ Err fault → fault ≡ Session WriteFault
 
   -- `create`
-  abbrev pub IsCreate : ℕ → Result (Unit {0}) ProgramFault → Type 0
+  abbrev pub IsCreate : ℕ → Result (Unit {0}) CommandFault → Type 0
   IsCreate size result = IsTaken result ⊎ (IsNotCreated size result ⊎ IsCreated size result)
 
   -- ---- a file that is looked at
 
   -- the file has no segment, for this reason, and nothing was said
-  pub record IsUnfit {O : Type 0} (out out' : O) (result : Result (Unit {0}) ProgramFault) : Type 0 where
+  pub record IsUnfit {O : Type 0} (out out' : O) (result : Result (Unit {0}) CommandFault) : Type 0 where
     pub fault : SessionFault
     pub opens : OpensFile step old new path ReadOnly (Err fault)
     pub silent : out' ≡ out
     pub refused : result ≡ Err (Session fault)
 
+  -- the same where its image alone was checked
+  pub record IsRefused {O : Type 0} (out out' : O) (result : Result (Unit {0}) CommandFault) : Type 0 where
+    pub fault : SessionFault
+    pub verifies : VerifiesFile step old new path (Err fault)
+    pub silent : out' ≡ out
+    pub refused : result ≡ Err (Session fault)
+
   -- the file has a segment, and `ok` was said
-  pub record IsFit {O : Type 0} (history : O → Took) (flushes : O → Bool → O → Type 0) (out out' : O) (result : Result (Unit {0}) ProgramFault) : Type 0 where
-    pub segment : State
-    pub opens : OpensFile step old new path ReadOnly (Ok segment)
+  pub record IsFit {O : Type 0} (history : O → Took) (flushes : O → Bool → O → Type 0) (out out' : O) (result : Result (Unit {0}) CommandFault) : Type 0 where
+    pub verifies : VerifiesFile step old new path (Ok tt)
     pub tells : Tells history flushes out out' (codes "ok\n") result
-    pub answer : (fault : ProgramFault) → result ≡ Err fault → fault ≡ Session WriteFault
+    pub answer : (fault : CommandFault) → result ≡ Err fault → fault ≡ Session WriteFault
 
   -- `check`: nothing is opened for writing
-  abbrev pub IsCheck : {O : Type 0} → (O → Took) → (O → Bool → O → Type 0) → O → O → Result (Unit {0}) ProgramFault → Type 0
-  IsCheck history flushes out out' result = IsUnfit out out' result ⊎ IsFit history flushes out out' result
+  abbrev pub IsCheck : {O : Type 0} → (O → Took) → (O → Bool → O → Type 0) → O → O → Result (Unit {0}) CommandFault → Type 0
+  IsCheck history flushes out out' result = IsRefused out out' result ⊎ IsFit history flushes out out' result
 
 -- ---- what the program says of itself
 
 -- the text was said
-pub record Prints {O : Type 0} (history : O → Took) (flushes : O → Bool → O → Type 0) (out out' : O) (text : List ℕ) (result : Result (Unit {0}) ProgramFault) : Type 0 where
+pub record Prints {O : Type 0} (history : O → Took) (flushes : O → Bool → O → Type 0) (out out' : O) (text : List ℕ) (result : Result (Unit {0}) CommandFault) : Type 0 where
   pub tells : Tells history flushes out out' text result
-  pub answer : (fault : ProgramFault) → result ≡ Err fault → fault ≡ Session WriteFault
+  pub answer : (fault : CommandFault) → result ≡ Err fault → fault ≡ Session WriteFault

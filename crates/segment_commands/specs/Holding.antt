@@ -1,16 +1,16 @@
 -- A command that writes a file takes the right to write it first, and is refused where another has it.
 use Rattle.std.specs.Prelude.{◌≡◌, ◌⊎◌, ℕ, false, List, [], ◌∷◌, Result, Err}
-use Rattle.segment_commands.specs.declared.program_faults.ProgramFault.{ProgramFault}
-use Rattle.segment_commands.specs.declared.program_faults.ProgramFault.TheVariants.{InUse}
+use Rattle.segment_commands.specs.declared.command_faults.CommandFault.{CommandFault}
+use Rattle.segment_commands.specs.declared.command_faults.CommandFault.TheVariants.{InUse}
 use Rattle.segment_disk.specs.Events.{Event, Held, After}
 use Rattle.segment_file.specs.Holding.{IsHolding}
 
 module _ {D : Type 0} (step : D → Event → D → Type 0) (old new : D) (path : List ℕ) where
   -- another has it: nothing else was asked of the disk, and nothing else was done
-  pub record IsInUse (is_idle : Type 0) (result : Result (Unit {0}) ProgramFault) : Type 0 where
+  pub record IsInUse (is_idle : Type 0) (result : Result (Unit {0}) CommandFault) : Type 0 where
     pub asked : After step old (Held path false ∷ []) new
     pub idle : is_idle
     pub refused : result ≡ Err InUse
 
-  abbrev pub Holds : Type 0 → (D → D → Type 0) → Result (Unit {0}) ProgramFault → Type 0
+  abbrev pub Holds : Type 0 → (D → D → Type 0) → Result (Unit {0}) CommandFault → Type 0
   Holds is_idle does result = IsInUse is_idle result ⊎ IsHolding step old new path does

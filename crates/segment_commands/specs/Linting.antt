@@ -7,19 +7,20 @@ use Rattle.segment_scripts.specs.declared.faults.RunFault.{RunFault}
 use Rattle.segment_scripts.specs.declared.language.CommandRow.{CommandRow}
 use Rattle.segment_cli.specs.Beginning.{run_fault}
 use Rattle.segment_cli.specs.declared.faults.SessionFault.TheVariants.{WriteFault}
-use Rattle.segment_commands.specs.declared.program_faults.ProgramFault.{ProgramFault}
-use Rattle.segment_commands.specs.declared.program_faults.ProgramFault.TheVariants.{Misspelled, Session}
+use Rattle.segment_commands.specs.declared.command_faults.CommandFault.{CommandFault}
+use Rattle.segment_commands.specs.declared.command_faults.CommandFault.TheVariants.{Misspelled}
+use Rattle.segment_commands.specs.Faults.{Session}
 use Rattle.segment_disk.specs.Events.{IsFlushed}
 
 -- a fault of the run is told first, then that not all went out, then that a line is no command
-abbrev pub answer_of : Result (Unit {0}) RunFault → Bool → Bool → Result (Unit {0}) ProgramFault
+abbrev pub answer_of : Result (Unit {0}) RunFault → Bool → Bool → Result (Unit {0}) CommandFault
 answer_of (Err fault) went_out found = Err (Session (run_fault fault))
 answer_of (Ok u) false found = Err (Session WriteFault)
 answer_of (Ok u) true true = Err Misspelled
 answer_of (Ok u) true false = Ok tt
 
 -- the findings of the script's lines went out, and the answer says whether there is one
-pub record Lints {O : Type 0} (rows : List CommandRow) (script script' : Gave) (history : O → Took) (flushes : O → Bool → O → Type 0) (out out' : O) (result : Result (Unit {0}) ProgramFault) : Type 0 where
+pub record Lints {O : Type 0} (rows : List CommandRow) (script script' : Gave) (history : O → Took) (flushes : O → Bool → O → Type 0) (out out' : O) (result : Result (Unit {0}) CommandFault) : Type 0 where
   pub ran : Result (Unit {0}) RunFault
   pub last : ℕ
   pub found : Bool

@@ -3,8 +3,8 @@ use Rattle.std.specs.Prelude.{◌≡◌, ◌≢◌, ◌⊎◌, ℕ, List, Option
 use Rattle.raw_region.specs.Device.{Gave}
 use Rattle.segment_manager.specs.State.{State}
 use Rattle.segment_cli.specs.declared.faults.SessionFault.TheVariants.{WriteFault}
-use Rattle.segment_commands.specs.declared.program_faults.ProgramFault.{ProgramFault}
-use Rattle.segment_commands.specs.declared.program_faults.ProgramFault.TheVariants.{Session}
+use Rattle.segment_commands.specs.declared.command_faults.CommandFault.{CommandFault}
+use Rattle.segment_commands.specs.Faults.{Session}
 use Rattle.segment_disk.specs.declared.presence.Presence.{Presence}
 use Rattle.segment_disk.specs.declared.presence.Presence.TheVariants.{There}
 use Rattle.segment_disk.specs.declared.presence.Making.TheVariants.{Beside}
@@ -13,11 +13,11 @@ use Rattle.segment_file.specs.Files.{WritesImage}
 use Rattle.segment_commands.specs.Holding.{Holds}
 use Rattle.segment_commands.specs.Loading.{IsLoad, LoadsDump}
 
-module _ {D : Type 0} (step : D → Event → D → Type 0) (old new : D) (path : List ℕ) (size : Option ℕ) (script script' : Gave) (result : Result (Unit {0}) ProgramFault) where
+module _ {D : Type 0} (step : D → Event → D → Type 0) (old new : D) (path : List ℕ) (size : Option ℕ) (script script' : Gave) (result : Result (Unit {0}) CommandFault) where
   -- no segment was made, and the disk was not asked for anything
   pub record IsNotLoadedOver : Type 0 where
     pub asked : new ≡ old
-    pub fault : ProgramFault
+    pub fault : CommandFault
     pub why : LoadsDump size script script' (Err fault)
     pub refused : result ≡ Err fault
 
@@ -26,12 +26,12 @@ module _ {D : Type 0} (step : D → Event → D → Type 0) (old new : D) (path 
     pub segment : State
     pub made : LoadsDump size script script' (Ok segment)
     pub writes : WritesImage step old new Beside path segment.cut.bytes result
-    pub answer : (fault : ProgramFault) → result ≡ Err fault → fault ≡ Session WriteFault
+    pub answer : (fault : CommandFault) → result ≡ Err fault → fault ≡ Session WriteFault
 
   abbrev pub LoadsOver : Type 0
   LoadsOver = IsNotLoadedOver ⊎ IsLoadedOver
 
-module _ {D : Type 0} (step : D → Event → D → Type 0) (old new : D) (path : List ℕ) (size : Option ℕ) (script script' : Gave) (result : Result (Unit {0}) ProgramFault) where
+module _ {D : Type 0} (step : D → Event → D → Type 0) (old new : D) (path : List ℕ) (size : Option ℕ) (script script' : Gave) (result : Result (Unit {0}) CommandFault) where
   -- nothing is there, or that can't be known: a new file is made
   pub record IsLoadedAnew : Type 0 where
     pub found : Presence

@@ -1,6 +1,7 @@
 -- How a segment is made of a dump, in a file that is not there: what the disk is asked, in order, and how it ends.
 use Rattle.std.specs.Prelude.{◌≡◌, ◌≢◌, ◌⊎◌, ◌^◌, ◌<◌, ◌≤◌, ⊤, ℕ, true, false, List, [], ◌∷◌, Option, Some, None, Result, Ok, Err, MatchResult, length, min}
 use Rattle.raw_region.specs.Device.{Gave, Given, given_since}
+use Rattle.raw_region.specs.Refusals.{refusal_of}
 use Rattle.block_tags.specs.Format.{is_legal_size}
 use Rattle.segment_manager.specs.Directory.{Directory}
 use Rattle.segment_manager.specs.State.{State, StandsFor}
@@ -12,10 +13,12 @@ use Rattle.segment_dump.specs.Notes.{without_notes}
 use Rattle.segment_dump.specs.Texts.{dump_text}
 use Rattle.segment_dump.specs.declared.faults.LoadError.{LoadError}
 use Rattle.segment_dump.specs.declared.faults.LoadError.TheVariants as load
+use Rattle.image_check.specs.declared.errors.MemoryFault.TheVariants.{BlockMap, Bytes}
 use Rattle.segment_cli.specs.declared.faults.SessionFault.{SessionFault}
 use Rattle.segment_cli.specs.declared.faults.SessionFault.TheVariants.{Image as Refused, BadSize, RegionTooSmall, OutOfMemory, ReadFault, WriteFault, ScriptTooLong}
-use Rattle.segment_commands.specs.declared.program_faults.ProgramFault.{ProgramFault}
-use Rattle.segment_commands.specs.declared.program_faults.ProgramFault.TheVariants.{Exists, BadDump, NoSpace, Session}
+use Rattle.segment_commands.specs.declared.command_faults.CommandFault.{CommandFault}
+use Rattle.segment_commands.specs.declared.command_faults.CommandFault.TheVariants.{BadDump, NoSpace}
+use Rattle.segment_commands.specs.Faults.{Exists, IsNoMemory, Session}
 use Rattle.segment_disk.specs.declared.presence.Presence.{Presence}
 use Rattle.segment_disk.specs.declared.presence.Presence.TheVariants.{There}
 use Rattle.segment_disk.specs.declared.presence.Making.TheVariants.{New}
@@ -45,20 +48,21 @@ abbrev pub IsWhyUnread : Given → SessionFault → Type 0
 IsWhyUnread given (Refused c) = ⊥
 IsWhyUnread given BadSize = ⊥
 IsWhyUnread given RegionTooSmall = ⊥
-IsWhyUnread given OutOfMemory = given.failed ≡ false
+IsWhyUnread given (OutOfMemory (Bytes refusal)) = (given.failed ≡ false) × (refusal ≡ refusal_of (length given.bytes))
+IsWhyUnread given (OutOfMemory (BlockMap refusal)) = ⊥
 IsWhyUnread given ReadFault = given.failed ≡ true
 IsWhyUnread given WriteFault = ⊥
 IsWhyUnread given ScriptTooLong = IsTooLong given
 
 -- ---- a segment that is made of it, but for the notes at its end
 
--- why a load is refused, as the program answers it; the room for a text is memory
-abbrev pub load_fault : ℕ → LoadError → ProgramFault
+-- why a load is refused, as the program answers it
+abbrev pub load_fault : ℕ → LoadError → CommandFault
 load_fault needed (load.BadDump bad) = BadDump bad
 load_fault needed load.BadSize = Session BadSize
 load_fault needed load.RegionTooSmall = Session RegionTooSmall
 load_fault needed load.NoSpace = NoSpace needed
-load_fault needed load.LongText = Session OutOfMemory
+load_fault needed load.LongText = NoSpace needed
 
 -- whatever objects the text is the dump of, they need so many bytes
 pub record NeedsRoom (text : List ℕ) (needed : ℕ) : Type 0 where
@@ -70,7 +74,7 @@ HasRoomFor None region = ⊤
 HasRoomFor (Some size) region = min size 1073741824 ≤ length region
 
 -- a load in a region with room for the size, and with room for each text, was refused
-pub record IsLoadRefused (text : List ℕ) (size : Option ℕ) (fault : ProgramFault) : Type 0 where
+pub record IsLoadRefused (text : List ℕ) (size : Option ℕ) (fault : CommandFault) : Type 0 where
   pub region : List ℕ
   pub roomy : HasRoomFor size region
   pub room : ℕ
@@ -82,8 +86,8 @@ pub record IsLoadRefused (text : List ℕ) (size : Option ℕ) (fault : ProgramF
   pub fault_is : fault ≡ load_fault needed cause
 
 -- the text is the dump of the segment, or there is none: for a reason of the load, or since memory was refused
-abbrev pub LoadsSegment : List ℕ → Option ℕ → Result State ProgramFault → Type 0
-LoadsSegment text size result = MatchResult result (IsLoaded (without_notes text) size) (λ fault. IsLoadRefused text size fault ⊎ (fault ≡ Session OutOfMemory))
+abbrev pub LoadsSegment : List ℕ → Option ℕ → Result State CommandFault → Type 0
+LoadsSegment text size result = MatchResult result (IsLoaded (without_notes text) size) (λ fault. IsLoadRefused text size fault ⊎ IsNoMemory fault)
 
 -- as many bytes as are asked for, or else as the text says
 abbrev pub IsWanted : List ℕ → Option ℕ → ℕ → Type 0
@@ -101,15 +105,15 @@ pub record IsFitting (text : List ℕ) (size : Option ℕ) : Type 0 where
   pub room : (items_needs (portable directory)).room ≤ asked_of size said
 
 -- a segment is made, if memory is given
-abbrev pub IsMadeIfGiven : Result State ProgramFault → Type 0
-IsMadeIfGiven result = MatchResult result (λ segment. ⊤) (λ fault. fault ≡ Session OutOfMemory)
+abbrev pub IsMadeIfGiven : Result State CommandFault → Type 0
+IsMadeIfGiven result = MatchResult result (λ segment. ⊤) IsNoMemory
 
 -- a segment may have the size that was asked for, if one was
 abbrev pub IsSizeFit : Option ℕ → Type 0
 IsSizeFit None = ⊤
 IsSizeFit (Some size) = is_legal_size size ≡ true
 
-module _ (size : Option ℕ) (script script' : Gave) (result : Result State ProgramFault) where
+module _ (size : Option ℕ) (script script' : Gave) (result : Result State CommandFault) where
   -- no segment has the size that was asked for, and nothing was read
   pub record IsSizeUnfit : Type 0 where
     pub asked : ℕ
@@ -138,7 +142,7 @@ module _ (size : Option ℕ) (script script' : Gave) (result : Result State Prog
 
 -- ---- `load`
 
-module _ {D : Type 0} (step : D → Event → D → Type 0) (old new : D) (path : List ℕ) (size : Option ℕ) (script script' : Gave) (result : Result (Unit {0}) ProgramFault) where
+module _ {D : Type 0} (step : D → Event → D → Type 0) (old new : D) (path : List ℕ) (size : Option ℕ) (script script' : Gave) (result : Result (Unit {0}) CommandFault) where
   -- something is there under the path, and nothing else was asked for
   pub record IsTakenLoad : Type 0 where
     pub asked : After step old (Looked path There ∷ []) new
@@ -150,7 +154,7 @@ module _ {D : Type 0} (step : D → Event → D → Type 0) (old new : D) (path 
     pub found : Presence
     pub free : found ≢ There
     pub asked : After step old (Looked path found ∷ []) new
-    pub fault : ProgramFault
+    pub fault : CommandFault
     pub why : LoadsDump size script script' (Err fault)
     pub refused : result ≡ Err fault
 
@@ -163,7 +167,7 @@ module _ {D : Type 0} (step : D → Event → D → Type 0) (old new : D) (path 
     pub segment : State
     pub made : LoadsDump size script script' (Ok segment)
     pub writes : WritesImage step looked new New path segment.cut.bytes result
-    pub answer : (fault : ProgramFault) → result ≡ Err fault → fault ≡ Session WriteFault
+    pub answer : (fault : CommandFault) → result ≡ Err fault → fault ≡ Session WriteFault
 
   abbrev pub IsLoad : Type 0
   IsLoad = IsTakenLoad ⊎ (IsNotLoadedTo ⊎ IsLoadedTo)
@@ -171,4 +175,4 @@ module _ {D : Type 0} (step : D → Event → D → Type 0) (old new : D) (path 
   -- Where a dump was read that fits, of whatever segment, and with whatever notes, its segment is in the file, but for
   -- something that is there, memory that is not given, or a file that cannot be written.
   pub record LoadsWhatFits : Type 0 where
-    pub loads : (text : List ℕ) → IsReadWhole (given_since script script') text → IsFitting text size → IsTakenLoad ⊎ ((result ≡ Err (Session OutOfMemory)) ⊎ IsLoadedTo)
+    pub loads : (text : List ℕ) → IsReadWhole (given_since script script') text → IsFitting text size → IsTakenLoad ⊎ (((fault : CommandFault) × IsNoMemory fault × (result ≡ Err fault)) ⊎ IsLoadedTo)

@@ -1,60 +1,37 @@
 -- How an image of an older format is written anew in its file: what the disk is asked, in order, and what is said.
 use Rattle.std.specs.Prelude.{◌≡◌, ◌⊎◌, Bool, List, ℕ, Result, Ok, Err, codes}
-use Rattle.raw_region.specs.Device.{Given, Took}
+use Rattle.raw_region.specs.Device.{Took}
 use Rattle.segment_manager.specs.declared.modes.Mode.TheVariants.{Write}
 use Rattle.segment_manager.specs.State.{State}
-use Rattle.image_check.specs.declared.errors.OpenRefused.{OpenRefused}
-use Rattle.image_check.specs.Formats.{format_of}
-use Rattle.image_check.specs.OpeningAny.{OpensAny}
+use Rattle.image_check.specs.declared.versions.Versions.TheVariants.{All}
 use Rattle.segment_cli.specs.declared.faults.SessionFault.{SessionFault}
 use Rattle.segment_cli.specs.declared.faults.SessionFault.TheVariants.{WriteFault}
-use Rattle.segment_commands.specs.declared.program_faults.ProgramFault.{ProgramFault}
-use Rattle.segment_commands.specs.declared.program_faults.ProgramFault.TheVariants.{Session}
-use Rattle.segment_cli.specs.Beginning.{opened_fault}
+use Rattle.segment_commands.specs.declared.command_faults.CommandFault.{CommandFault}
+use Rattle.segment_commands.specs.Faults.{Session}
 use Rattle.segment_disk.specs.declared.presence.Making.{Making}
-use Rattle.segment_disk.specs.Events.{Event, After}
-use Rattle.segment_file.specs.Files.{WritesImage, opens}
-use Rattle.segment_commands.specs.Opening.{IsRegionless, IsUnopened}
+use Rattle.segment_disk.specs.Events.{Event}
+use Rattle.segment_file.specs.Files.{WritesImage}
+use Rattle.segment_commands.specs.Opening.{OpensWith}
 use Rattle.segment_commands.specs.Telling.{Tells}
 
 -- a writing that answers Ok
 abbrev pub written : (E : Type 0) → Result (Unit {0}) E
 written E = Ok tt
 
--- an opened image, or why there is none, as a session answers it
-abbrev pub as_session : Result State OpenRefused → Result State SessionFault
-as_session (Ok s) = Ok s
-as_session (Err refused) = Err (opened_fault refused.cause)
-
--- an image of any of the three formats was opened in a region, or not
-pub record IsOpenedAnyIn (image : Given) (result : Result State SessionFault) : Type 0 where
-  pub region : List ℕ
-  pub opened : Result State OpenRefused
-  pub opens_any : OpensAny image region 0 Write opened
-  pub answer : result ≡ as_session opened
-
-abbrev pub BeginsAny : Given → Result State SessionFault → Type 0
-BeginsAny image result = IsRegionless (format_of image.bytes) image result ⊎ IsOpenedAnyIn image result
-
 module _ {D : Type 0} (step : D → Event → D → Type 0) (old new : D) (path : List ℕ) where
-  -- the file was opened, read and closed, and nothing else was asked
-  pub record IsAnyReadFrom (result : Result State SessionFault) : Type 0 where
-    pub image : Given
-    pub asked : After step old (opens path image) new
-    pub begins : BeginsAny image result
-
+  -- the segment of a file of any of the three formats
   abbrev pub OpensAnyFile : Result State SessionFault → Type 0
-  OpensAnyFile result = IsUnopened step old new path result ⊎ IsAnyReadFrom result
+  OpensAnyFile result = OpensWith step old new path All Write 0 result
 
   -- the file has no segment of any format, for this reason
-  pub record IsUnopenedMigration {O : Type 0} (out out' : O) (result : Result (Unit {0}) ProgramFault) : Type 0 where
+  pub record IsUnopenedMigration {O : Type 0} (out out' : O) (result : Result (Unit {0}) CommandFault) : Type 0 where
     pub fault : SessionFault
     pub opens_file : OpensAnyFile (Err fault)
     pub silent : out' ≡ out
     pub refused : result ≡ Err (Session fault)
 
 -- the file was read, and its image could not be written
-pub record IsUnwrittenMigration {D O : Type 0} (step : D → Event → D → Type 0) (old new : D) (path : List ℕ) (how : Making) (out out' : O) (result : Result (Unit {0}) ProgramFault) : Type 0 where
+pub record IsUnwrittenMigration {D O : Type 0} (step : D → Event → D → Type 0) (old new : D) (path : List ℕ) (how : Making) (out out' : O) (result : Result (Unit {0}) CommandFault) : Type 0 where
   pub segment : State
   pub read : D
   pub opens_file : OpensAnyFile step old read path (Ok segment)
@@ -63,16 +40,16 @@ pub record IsUnwrittenMigration {D O : Type 0} (step : D → Event → D → Typ
   pub refused : result ≡ Err (Session WriteFault)
 
 -- the file was read, its image was written whole, and then `ok` was said
-pub record IsMigratedFile {D O : Type 0} (step : D → Event → D → Type 0) (old new : D) (path : List ℕ) (how : Making) (history : O → Took) (flushes : O → Bool → O → Type 0) (out out' : O) (result : Result (Unit {0}) ProgramFault) : Type 0 where
+pub record IsMigratedFile {D O : Type 0} (step : D → Event → D → Type 0) (old new : D) (path : List ℕ) (how : Making) (history : O → Took) (flushes : O → Bool → O → Type 0) (out out' : O) (result : Result (Unit {0}) CommandFault) : Type 0 where
   pub segment : State
   pub read : D
   pub opens_file : OpensAnyFile step old read path (Ok segment)
-  pub writes : WritesImage step read new how path segment.cut.bytes (written ProgramFault)
+  pub writes : WritesImage step read new how path segment.cut.bytes (written CommandFault)
   pub tells : Tells history flushes out out' (codes "ok\n") result
-  pub answer : (fault : ProgramFault) → result ≡ Err fault → fault ≡ Session WriteFault
+  pub answer : (fault : CommandFault) → result ≡ Err fault → fault ≡ Session WriteFault
 
 -- `migrate`
-abbrev pub IsMigrate : {D O : Type 0} → (D → Event → D → Type 0) → D → D → List ℕ → Making → (O → Took) → (O → Bool → O → Type 0) → O → O → Result (Unit {0}) ProgramFault → Type 0
+abbrev pub IsMigrate : {D O : Type 0} → (D → Event → D → Type 0) → D → D → List ℕ → Making → (O → Took) → (O → Bool → O → Type 0) → O → O → Result (Unit {0}) CommandFault → Type 0
 IsMigrate step old new path how history flushes out out' result =
     IsUnopenedMigration step old new path out out' result
     ⊎ (IsUnwrittenMigration step old new path how out out' result ⊎ IsMigratedFile step old new path how history flushes out out' result)

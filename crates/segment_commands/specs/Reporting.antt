@@ -5,10 +5,10 @@ use Rattle.segment_manager.specs.declared.modes.Mode.TheVariants.{ReadOnly}
 use Rattle.segment_manager.specs.Directory.{Directory}
 use Rattle.segment_manager.specs.State.{State, StandsFor}
 use Rattle.segment_cli.specs.declared.faults.SessionFault.TheVariants.{WriteFault}
-use Rattle.segment_commands.specs.declared.program_faults.ProgramFault.{ProgramFault}
-use Rattle.segment_commands.specs.declared.program_faults.ProgramFault.TheVariants.{Session}
-use Rattle.segment_commands.specs.declared.reporting.Report.{Report}
-use Rattle.segment_commands.specs.declared.reporting.Report.TheVariants.{Figures, Picture, Page, Dump, Capacities, Json}
+use Rattle.segment_commands.specs.declared.command_faults.CommandFault.{CommandFault}
+use Rattle.segment_commands.specs.Faults.{Session}
+use Rattle.segment_invocation.specs.declared.invocations.Report.{Report}
+use Rattle.segment_invocation.specs.declared.invocations.Report.TheVariants.{Figures, Picture, Page, Dump, Capacities, Json}
 use Rattle.segment_disk.specs.Events.{Event}
 use Rattle.segment_dump.specs.Capacities.{capacities, capacities_text}
 use Rattle.segment_dump.specs.Json.{json_dump}
@@ -35,13 +35,13 @@ abbrev pub TellsOf : {O E : Type 0} → (O → Took) → (O → Bool → O → T
 TellsOf history flushes out out' s text result = (d : Directory) → StandsFor s.cut.bytes d → Tells history flushes out out' (text d) result
 
 module _ {D O : Type 0} (step : D → Event → D → Type 0) (old new : D) (path : List ℕ) (history : O → Took) (flushes : O → Bool → O → Type 0) (out out' : O)
-    (text : Directory → List ℕ) (result : Result (Unit {0}) ProgramFault) where
+    (text : Directory → List ℕ) (result : Result (Unit {0}) CommandFault) where
   -- the file has a segment, and the text of its directory was said
   pub record IsReported : Type 0 where
     pub segment : State
     pub opens : OpensFile step old new path ReadOnly (Ok segment)
     pub tells : TellsOf history flushes out out' segment text result
-    pub answer : (fault : ProgramFault) → result ≡ Err fault → fault ≡ Session WriteFault
+    pub answer : (fault : CommandFault) → result ≡ Err fault → fault ≡ Session WriteFault
 
   -- `stat`, `draw` and `dump`: nothing is opened for writing
   abbrev pub IsReport : Type 0

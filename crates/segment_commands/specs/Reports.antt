@@ -1,58 +1,16 @@
 -- What the program says of a fault, and the status that it ends with.
 use Rattle.std.specs.Prelude.{◌≡◌, ◌⊎◌, ◌∷◌, ◌+◌, ◌++◌, ⊤, ℕ, List, [], codes, decimal}
-use Rattle.raw_region.specs.Answers.{AddsFront}
-use Rattle.raw_region.specs.Device.{Took}
-use Rattle.image_check.specs.declared.classes.ImageClass.{ImageClass}
-use Rattle.image_check.specs.declared.classes.ImageClass.TheVariants as class
-use Rattle.grow_shrink.specs.declared.refusals.GrowError.{GrowError}
-use Rattle.grow_shrink.specs.declared.refusals.GrowError.TheVariants as growth
 use Rattle.segment_dump.specs.declared.faults.BadDump.{BadDump as Bad}
 use Rattle.segment_dump.specs.declared.faults.DumpFault.{DumpFault}
 use Rattle.segment_dump.specs.declared.faults.DumpFault.TheVariants as dump
-use Rattle.segment_cli.specs.declared.faults.SessionFault.{SessionFault}
-use Rattle.segment_cli.specs.declared.faults.SessionFault.TheVariants as session
-use Rattle.segment_commands.specs.declared.program_faults.ProgramFault.{ProgramFault}
-use Rattle.segment_commands.specs.declared.program_faults.ProgramFault.TheVariants.{Usage, Exists, InUse, Stopped, Misspelled, Growth, BadDump, NoSpace, Session}
+use Rattle.segment_cli.specs.Reports.{fault_text, line, status_of}
+use Rattle.segment_commands.specs.declared.command_faults.CommandFault.{CommandFault}
+use Rattle.segment_commands.specs.declared.command_faults.CommandFault.TheVariants.{Program, InUse, Stopped, Misspelled, BadDump, NoSpace}
 use Rattle.segment_lang.specs.Texts.{quoted_text}
 use Rattle.segment_disk.specs.declared.presence.Trouble.{Trouble}
 use Rattle.segment_disk.specs.declared.presence.Trouble.TheVariants.{Missing, Homeless, Unnamed, Folder, Denied, Taken}
 
 -- ---- the line of a fault
-
--- a class by its number and its name
-abbrev pub class_words : ImageClass → List ℕ
-class_words class.Truncated = codes "1 Truncated"
-class_words class.BadMagic = codes "2 BadMagic"
-class_words class.UnsupportedVersion = codes "3 UnsupportedVersion"
-class_words class.BadSize = codes "4 BadSize"
-class_words class.BadReserved = codes "5 BadReserved"
-class_words class.BadTag = codes "6 BadTag"
-class_words class.BadFreeTree = codes "7 BadFreeTree"
-class_words class.BadIndex = codes "8 BadIndex"
-class_words class.BadObject = codes "9 BadObject"
-class_words class.SharedBlock = codes "10 SharedBlock"
-class_words class.BadContainer = codes "11 BadContainer"
-class_words class.OrphanBlock = codes "12 OrphanBlock"
-
-abbrev pub growth_name : GrowError → List ℕ
-growth_name growth.ReadOnly = codes "ReadOnly"
-growth_name growth.BadGrow = codes "BadGrow"
-growth_name growth.TooLarge = codes "TooLarge"
-growth_name growth.RegionTooSmall = codes "RegionTooSmall"
-
--- what stands behind `segment: `
-abbrev pub session_words : SessionFault → List ℕ
-session_words (session.Image c) = codes "image refused: " ++ class_words c
-session_words session.BadSize = codes "size refused"
-session_words session.RegionTooSmall = codes "size refused"
-session_words session.OutOfMemory = codes "out of memory"
-session_words session.ReadFault = codes "read fault"
-session_words session.WriteFault = codes "write fault"
-session_words session.ScriptTooLong = codes "script too long"
-
--- a line of the program, which ends with a line end
-abbrev pub line : List ℕ → List ℕ
-line words = codes "segment: " ++ words ++ 0x0A ∷ []
 
 -- what is wrong with a dump, and its line
 abbrev pub dump_words : DumpFault → List ℕ
@@ -73,29 +31,14 @@ bad_dump_line bad = codes "segment: dump refused: line " ++ (decimal bad.line ++
 abbrev pub no_space_line : ℕ → List ℕ
 no_space_line needed = codes "segment: no space: the objects need " ++ (decimal needed ++ (codes " bytes\n" ++ []))
 
--- a wrong command line has been told of by whoever read it
-abbrev pub fault_text : ProgramFault → List ℕ
-fault_text Usage = []
-fault_text Exists = line (codes "file exists")
-fault_text InUse = line (codes "file in use")
-fault_text Stopped = line (codes "stopped at an error, and nothing is saved")
-fault_text Misspelled = line (codes "some lines are no commands")
-fault_text (Growth e) = line (codes "growth refused: " ++ growth_name e)
-fault_text (BadDump bad) = bad_dump_line bad
-fault_text (NoSpace needed) = no_space_line needed
-fault_text (Session f) = line (session_words f)
-
--- the line has no number in it
-abbrev pub HasFixedLine : ProgramFault → Type 0
-HasFixedLine Usage = ⊤
-HasFixedLine Exists = ⊤
-HasFixedLine InUse = ⊤
-HasFixedLine Stopped = ⊤
-HasFixedLine Misspelled = ⊤
-HasFixedLine (Growth e) = ⊤
-HasFixedLine (BadDump bad) = ⊥
-HasFixedLine (NoSpace needed) = ⊥
-HasFixedLine (Session f) = ⊤
+-- the line of a fault
+abbrev pub command_text : CommandFault → List ℕ
+command_text (Program f) = fault_text f
+command_text InUse = line (codes "file in use")
+command_text Stopped = line (codes "stopped at an error, and nothing is saved")
+command_text Misspelled = line (codes "some lines are no commands")
+command_text (BadDump bad) = bad_dump_line bad
+command_text (NoSpace needed) = no_space_line needed
 
 -- what a second line says of the file of a path, which stands there as a text of the language
 abbrev pub trouble_words : Trouble → List ℕ
@@ -111,30 +54,10 @@ trouble_text path trouble = codes "segment: " ++ (quoted_text path ++ (trouble_w
 
 -- ---- its status
 
-abbrev pub session_status : SessionFault → ℕ
-session_status (session.Image c) = 1
-session_status session.BadSize = 1
-session_status session.RegionTooSmall = 1
-session_status session.OutOfMemory = 4
-session_status session.ReadFault = 3
-session_status session.WriteFault = 3
-session_status session.ScriptTooLong = 3
-
-abbrev pub status_of : ProgramFault → ℕ
-status_of Usage = 2
-status_of Exists = 3
-status_of InUse = 3
-status_of Stopped = 1
-status_of Misspelled = 1
-status_of (Growth e) = 1
-status_of (BadDump bad) = 1
-status_of (NoSpace needed) = 1
-status_of (Session f) = session_status f
-
--- ---- what goes out
-
--- all of the text went out and no write failed, or one failed and some of the text went out, from the first byte on,
--- but not all
-abbrev pub Puts : Took → Took → List ℕ → Type 0
-Puts old new text = ((new.failures ≡ old.failures) × (new.bytes ≡ old.bytes ++ text))
-    ⊎ ((new.failures ≡ old.failures + 1) × AddsFront old.bytes new.bytes text)
+abbrev pub command_status : CommandFault → ℕ
+command_status (Program f) = status_of f
+command_status InUse = 3
+command_status Stopped = 1
+command_status Misspelled = 1
+command_status (BadDump bad) = 1
+command_status (NoSpace needed) = 1

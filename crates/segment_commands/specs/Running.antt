@@ -18,8 +18,9 @@ use Rattle.segment_cli.specs.declared.faults.Start.{Start}
 use Rattle.segment_cli.specs.declared.faults.Start.TheVariants.{Fresh, Image}
 use Rattle.segment_cli.specs.declared.faults.SessionFault.{SessionFault}
 use Rattle.segment_cli.specs.declared.faults.SessionFault.TheVariants.{ReadFault, WriteFault}
-use Rattle.segment_commands.specs.declared.program_faults.ProgramFault.{ProgramFault}
-use Rattle.segment_commands.specs.declared.program_faults.ProgramFault.TheVariants.{Exists, Session, Stopped}
+use Rattle.segment_commands.specs.declared.command_faults.CommandFault.{CommandFault}
+use Rattle.segment_commands.specs.declared.command_faults.CommandFault.TheVariants.{Stopped}
+use Rattle.segment_commands.specs.Faults.{Exists, Session}
 use Rattle.segment_cli.specs.Serving.{IsServed, IsUnserved}
 use Rattle.segment_cli.specs.Session.{Begins, IsSession}
 use Rattle.segment_disk.specs.declared.presence.Making.{Making}
@@ -29,6 +30,7 @@ use Rattle.segment_disk.specs.declared.presence.Presence.TheVariants.{Absent, Th
 use Rattle.segment_disk.specs.Events.{Event, Looked, After}
 use Rattle.segment_file.specs.Files.{Written, Overtaken, NotMade, Closed, Offered, writes, whole, all_of, opens}
 use Rattle.segment_commands.specs.Holding.{Holds}
+use Rattle.segment_file.specs.Opening.{file_region}
 use Rattle.segment_commands.specs.Opening.{OpensFile}
 use Rattle.segment_commands.specs.Commands.{MakesSegment}
 
@@ -165,13 +167,13 @@ module _ {D : Type 0} (step : D → Event → D → Type 0) (old new : D) (how :
   EndsRun result = MatchResult result IsRun (λ fault. IsStoppedRun fault ⊎ (IsLostRun fault ⊎ IsUnsavedRun fault))
 
 -- the end of a run, as the program answers it
-abbrev pub as_program : Result End SessionFault → Result (Unit {0}) ProgramFault
+abbrev pub as_program : Result End SessionFault → Result (Unit {0}) CommandFault
 as_program (Ok Whole) = Ok tt
 as_program (Ok Refused) = Err Stopped
 as_program (Err fault) = Err (Session fault)
 
 -- the program answers as a run did
-pub record IsAnswerOf (runs : Result End SessionFault → Type 0) (result : Result (Unit {0}) ProgramFault) : Type 0 where
+pub record IsAnswerOf (runs : Result End SessionFault → Type 0) (result : Result (Unit {0}) CommandFault) : Type 0 where
   pub answer : Result End SessionFault
   pub ran : runs answer
   pub result_is : result ≡ as_program answer
@@ -179,7 +181,7 @@ pub record IsAnswerOf (runs : Result End SessionFault → Type 0) (result : Resu
 -- ---- the segment of a file
 
 -- the script can't be read at all, and the disk was not asked for anything
-pub record IsScriptless {D O : Type 0} (old new : D) (script script' : Gave) (out out' : O) (result : Result (Unit {0}) ProgramFault) : Type 0 where
+pub record IsScriptless {D O : Type 0} (old new : D) (script script' : Gave) (out out' : O) (result : Result (Unit {0}) CommandFault) : Type 0 where
   pub asked : new ≡ old
   pub failed : script'.failures ≡ script.failures + 1
   pub silent : out' ≡ out
@@ -194,12 +196,15 @@ module _ {D : Type 0} (step : D → Event → D → Type 0) (old new : D) (path 
     pub silent : out' ≡ out
     pub refused : result ≡ Err fault
 
-  -- the file was opened, read and closed, and the script ran on its segment
+  -- the file was opened, read and closed, and the script ran on its segment, in a region with room for what the disk
+  -- told of the file's length, and for what the image says
   pub record IsOpenedRun {O : Type 0} (history : O → Took) (flushes : Bool → Type 0) (out out' : O) (result : Result End SessionFault) : Type 0 where
+    pub len : ℕ
     pub image : Given
     pub capacity : ℕ
+    pub room : capacity ≡ file_region len 0 image.bytes
     pub read : D
-    pub asked : After step old (opens path image) read
+    pub asked : After step old (opens path len image) read
     pub ends : EndsRun step read new how path
         (record { start = Image; mode = mode; capacity = capacity; image = image; until = until; script = given_since script script'; out = taken_since (history out) (history out') })
         flushes result
@@ -207,7 +212,7 @@ module _ {D : Type 0} (step : D → Event → D → Type 0) (old new : D) (path 
   abbrev pub RunsOpened : {O : Type 0} → (O → Took) → (Bool → Type 0) → O → O → Result End SessionFault → Type 0
   RunsOpened history flushes out out' result = IsUnopenedRun out out' result ⊎ IsOpenedRun history flushes out out' result
 
-module _ {D O : Type 0} (step : D → Event → D → Type 0) (old new : D) (path : List ℕ) (how : Making) (until : Until) (script script' : Gave) (history : O → Took) (flushes : Bool → Type 0) (out out' : O) (result : Result (Unit {0}) ProgramFault) where
+module _ {D O : Type 0} (step : D → Event → D → Type 0) (old new : D) (path : List ℕ) (how : Making) (until : Until) (script script' : Gave) (history : O → Took) (flushes : Bool → Type 0) (out out' : O) (result : Result (Unit {0}) CommandFault) where
   -- a run that saves nothing
   abbrev pub RunsFree : Mode → Type 0
   RunsFree mode = IsAnswerOf (RunsOpened step old new path mode how until script script' history flushes out out') result
@@ -250,7 +255,7 @@ module _ {D : Type 0} (step : D → Event → D → Type 0) (old new : D) (path 
   MakesRun history flushes out out' result = IsUnmadeRun out out' result ⊎ IsMadeRun history flushes out out' result
 
   -- something is there already, and nothing else was asked for
-  pub record IsTakenRun {O : Type 0} (out out' : O) (result : Result (Unit {0}) ProgramFault) : Type 0 where
+  pub record IsTakenRun {O : Type 0} (out out' : O) (result : Result (Unit {0}) CommandFault) : Type 0 where
     pub asked : After step old (Looked path There ∷ []) new
     pub unasked : script' ≡ script
     pub silent : out' ≡ out
@@ -265,13 +270,13 @@ pub record IsRunBehind {D : Type 0} (step : D → Event → D → Type 0) (old :
   pub goes : goes_on looked
 
 -- a run on a segment that is made, in a file that is not there
-abbrev pub RunsNewFile : {D O : Type 0} → (D → Event → D → Type 0) → D → D → List ℕ → ℕ → Until → Gave → Gave → (O → Took) → (Bool → Type 0) → O → O → Result (Unit {0}) ProgramFault → Type 0
+abbrev pub RunsNewFile : {D O : Type 0} → (D → Event → D → Type 0) → D → D → List ℕ → ℕ → Until → Gave → Gave → (O → Took) → (Bool → Type 0) → O → O → Result (Unit {0}) CommandFault → Type 0
 RunsNewFile step old new path size until script script' history flushes out out' result =
     IsTakenRun step old new path size until script script' out out' result
     ⊎ IsRunBehind step old path (λ found. found ≢ There) (λ looked. IsAnswerOf (MakesRun step looked new path size until script script' history flushes out out') result)
 
 -- the same, or on the segment in the file where something is there
-abbrev pub RunsAnyFile : {D O : Type 0} → (D → Event → D → Type 0) → D → D → List ℕ → ℕ → Making → Until → Gave → Gave → (O → Took) → (Bool → Type 0) → O → O → Result (Unit {0}) ProgramFault → Type 0
+abbrev pub RunsAnyFile : {D O : Type 0} → (D → Event → D → Type 0) → D → D → List ℕ → ℕ → Making → Until → Gave → Gave → (O → Took) → (Bool → Type 0) → O → O → Result (Unit {0}) CommandFault → Type 0
 RunsAnyFile step old new path size how until script script' history flushes out out' result =
     IsRunBehind step old path (λ found. found ≡ Absent) (λ looked. IsAnswerOf (MakesRun step looked new path size until script script' history flushes out out') result)
     ⊎ IsRunBehind step old path (λ found. found ≢ Absent) (λ looked. RunsFile step looked new path how until script script' history flushes out out' result Write)

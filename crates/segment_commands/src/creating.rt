@@ -1,11 +1,11 @@
 //! The command that makes an empty segment in a file.
 ghost use Rattle.segment_commands.specs.Commands.{IsCreate, MakesSegment};
 
-use crate::opening::begin_in;
-use crate::program_faults::ProgramFault;
+use crate::command_faults::{CommandFault, WRITE_FAULT};
 use block_tags::is_legal_size;
+use grow_shrink::region_for;
 use raw_region::stream::Reading;
-use segment_cli::{SessionFault, Start};
+use segment_cli::{ProgramFault, SessionFault, Start, begin};
 use segment_disk::{Disk, Making, Presence};
 use segment_file::write_image;
 use segment_manager::{Mode, Segment};
@@ -19,8 +19,16 @@ pub(crate) fn new_segment(alloc: Global, size: u64) -> Result<Segment, SessionFa
     if !is_legal_size(size) {
         return Err(SessionFault::BadSize);
     }
+    let region = region_for(alloc, size)?;
     let mut nothing = Reading::new(io::empty());
-    begin_in(alloc, Start::Fresh(size), Mode::Write, &mut nothing, size)
+    begin(
+        alloc,
+        Start::Fresh(size),
+        Mode::Write,
+        &mut nothing,
+        region,
+        0,
+    )
 }
 
 /// Makes an empty segment of `size` bytes in a file that is not there.
@@ -35,18 +43,15 @@ pub fn create<D: Disk>(
     disk: &mut D,
     path: &str,
     size: u64,
-) -> Result<(), ProgramFault>
+) -> Result<(), CommandFault>
     ensures { IsCreate D.step disk.old disk.new path.now size result }
 {
     if disk.look(path) == Presence::There {
-        return Err(ProgramFault::Exists);
+        return Err(CommandFault::Program(ProgramFault::Exists));
     }
     let segment = new_segment(alloc, size)?;
-    match write_image(disk, path, Making::New, &segment) {
+    match write_image(disk, path, Making::New, &mut D::hold_none(), &segment) {
         Ok(()) => Ok(()),
         Err(_) => Err(WRITE_FAULT),
     }
 }
-
-/// A file or standard output can't be written.
-pub(crate) const WRITE_FAULT: ProgramFault = ProgramFault::Session(SessionFault::WriteFault);

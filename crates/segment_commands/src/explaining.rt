@@ -1,40 +1,18 @@
 //! The command that tells why an image is refused, and where.
 ghost use Rattle.std.specs.Prelude.{◌≡◌, ◌^◌, ◌-◌, ◌<◌};
 ghost use Rattle.raw_region.specs.Device.{Writes};
-ghost use Rattle.segment_commands.specs.Explaining.{IsExplain, fault_for, verdict_text, words_of as words_for};
+ghost use Rattle.segment_commands.specs.Explaining.{IsExplain, verdict_text, words_of as words_for};
 ghost use Rattle.segment_commands.specs.Telling.{Tells};
 
-use crate::creating::WRITE_FAULT;
-use crate::examining::examine_segment;
-use crate::program_faults::ProgramFault;
+use crate::command_faults::{CommandFault, WRITE_FAULT};
 use crate::telling::tell;
 use image_check::{ImageClass, Verdict};
 use raw_region::{DeviceFault, Sink};
-use segment_cli::SessionFault;
+use segment_cli::{ProgramFault, SessionFault};
 use segment_disk::{Disk, Output};
+use segment_file::{Unfit, examine_file};
 use segment_lang::{Piece, put_pieces};
 use std::alloc::Global;
-
-/// Why there is no segment in a file.
-#[derive(Clone, Copy)]
-pub(crate) enum Unfit {
-    /// The image is of a class that is refused, which a place shows.
-    Image(Verdict),
-    /// For another reason.
-    Fault(SessionFault),
-}
-
-impl Unfit {
-    /// The same without the place.
-    pub(crate) fn into_fault(self) -> SessionFault
-        ensures { result ≡ fault_for self }
-    {
-        match self {
-            Unfit::Image(verdict) => SessionFault::Image(verdict.class),
-            Unfit::Fault(fault) => fault,
-        }
-    }
-}
 
 /// Why an image of a class is refused.
 fn words_of(class: ImageClass) -> &'static str
@@ -96,19 +74,24 @@ pub fn explain<D: Disk, O: Output>(
     disk: &mut D,
     path: &str,
     out: &mut O,
-) -> Result<(), ProgramFault>
+) -> Result<(), CommandFault>
     requires { (O.history out.old).failures < 2 ^ 64 - 1 }
     ensures { IsExplain D.step disk.old disk.new path.now O.history O.flushes out.old out.new result }
 {
-    match examine_segment(alloc, disk, path) {
+    match examine_file(alloc, disk, path) {
         Ok(()) => match tell(out, b"ok\n") {
             Ok(()) => Ok(()),
             Err(_) => Err(WRITE_FAULT),
         },
         Err(Unfit::Image(verdict)) => match tell_verdict(out, verdict) {
-            Ok(()) => Err(ProgramFault::Session(SessionFault::Image(verdict.class))),
+            Ok(()) => Err(CommandFault::Program(ProgramFault::Session(SessionFault::Image(
+                verdict.class,
+            )))),
             Err(_) => Err(WRITE_FAULT),
         },
-        Err(Unfit::Fault(fault)) => Err(ProgramFault::Session(fault)),
+        Err(Unfit::OutOfMemory(refusal)) => {
+            Err(CommandFault::from(SessionFault::OutOfMemory(refusal)))
+        }
+        Err(Unfit::ReadFault) => Err(CommandFault::from(SessionFault::ReadFault)),
     }
 }

@@ -3,7 +3,7 @@ ghost use Rattle.std.specs.Prelude.{◌≡◌, ◌^◌, ◌-◌, ◌<◌, MatchR
 ghost use Rattle.raw_region.specs.Device.{given_since};
 ghost use Rattle.segment_commands.specs.Loading.{IsReadWhole, IsWhyUnread};
 
-use raw_region::Source;
+use raw_region::{Source, append};
 use segment_cli::SessionFault;
 use std::alloc::Global;
 
@@ -32,9 +32,7 @@ pub(crate) fn read_text<S: Source>(alloc: Global, reader: &mut S) -> Result<Vec<
             Err(_) => return Err(SessionFault::ReadFault),
             Ok(0) => return Ok(text),
             Ok(count) => {
-                if text.extend_from_slice(&piece[..count]).is_err() {
-                    return Err(SessionFault::OutOfMemory);
-                }
+                append(&mut text, &piece[..count])?;
                 if text.len() as u64 > LONGEST {
                     return Err(SessionFault::ScriptTooLong);
                 }

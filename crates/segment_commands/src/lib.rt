@@ -3,6 +3,7 @@
 
 mod answering;
 mod checking;
+mod command_faults;
 mod creating;
 mod examining;
 mod explaining;
@@ -15,7 +16,6 @@ mod migrating;
 mod modes;
 mod naming;
 mod opening;
-mod program_faults;
 mod reading_on;
 mod reporting;
 mod reports;
@@ -23,7 +23,8 @@ mod resizing;
 mod running;
 mod telling;
 
-pub use checking::check;
+pub use checking::{check, check_all};
+pub use command_faults::{CommandFault, WRITE_FAULT};
 pub use creating::create;
 pub use explaining::explain;
 pub use linting::lint;
@@ -32,9 +33,8 @@ pub use loading_over::load_over;
 pub use migrating::migrate;
 pub use modes::run;
 pub use naming::names;
-pub use program_faults::ProgramFault;
-pub use reporting::{draw, draw_page, dump, dump_capacities, dump_json, stat};
-pub use reports::{report, report_file};
+pub use reporting::tell_segment;
+pub use reports::{put_trouble, report, report_no_memory};
 pub use resizing::{grow, shrink};
 pub use running::{run_in_new_file, run_on_file, run_on_file_or_new};
 pub use telling::{print, print_language};

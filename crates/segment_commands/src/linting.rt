@@ -3,11 +3,10 @@ ghost use Rattle.std.specs.Prelude.{◌≡◌, ◌^◌, ◌-◌, ◌<◌};
 ghost use Rattle.segment_commands.specs.Linting.{Lints, answer_of};
 
 use crate::answering::Flushing;
-use crate::creating::WRITE_FAULT;
-use crate::program_faults::ProgramFault;
+use crate::command_faults::{CommandFault, WRITE_FAULT};
 use raw_region::Source;
 use segment_answers::Lined;
-use segment_cli::SessionFault;
+use segment_cli::{ProgramFault, SessionFault};
 use segment_scripts::{CommandRow, Lint, RunFault, run_followed};
 
 /// Tells which lines of a script are no commands, where, and what is expected there; the rows say what is expected
@@ -21,7 +20,7 @@ pub fn lint<S: Source, O: Lined>(
     rows: &[CommandRow],
     script: &mut S,
     out: &mut O,
-) -> Result<(), ProgramFault>
+) -> Result<(), CommandFault>
     requires script { (S.history script.old).failures < 2 ^ 64 - 1 }
     requires out { (O.history out.old).failures < 2 ^ 64 - 1 }
     ensures { Lints rows.now (S.history script.old) (S.history script.new) O.history O.flushes out.old out.new result }
@@ -38,13 +37,13 @@ fn lint_answer(
     answered: Result<(), RunFault>,
     went_out: bool,
     has_found: bool,
-) -> Result<(), ProgramFault>
+) -> Result<(), CommandFault>
     ensures { result ≡ answer_of answered went_out has_found }
 {
     match answered {
-        Err(fault) => Err(ProgramFault::Session(SessionFault::from(fault))),
+        Err(fault) => Err(CommandFault::Program(ProgramFault::Session(SessionFault::from(fault)))),
         Ok(()) if !went_out => Err(WRITE_FAULT),
-        Ok(()) if has_found => Err(ProgramFault::Misspelled),
+        Ok(()) if has_found => Err(CommandFault::Misspelled),
         Ok(()) => Ok(()),
     }
 }

@@ -4,21 +4,17 @@ ghost use Rattle.block_tags.specs.Format.{is_legal_size};
 ghost use Rattle.segment_dump.specs.Loading.{IsAsked};
 ghost use Rattle.segment_commands.specs.Loading.{IsFitting, IsLoad, IsMadeIfGiven, IsSizeFit, IsWanted, LoadsDump, LoadsSegment, LoadsWhatFits, NeedsRoom, load_fault};
 
-use crate::creating::WRITE_FAULT;
+use crate::command_faults::{CommandFault, WRITE_FAULT};
 use crate::gathering::read_text;
-use crate::program_faults::ProgramFault;
 use block_tags::is_legal_size;
 use grow_shrink::region_for;
 use raw_region::Source;
-use segment_cli::SessionFault;
+use segment_cli::{ProgramFault, SessionFault};
 use segment_disk::{Disk, Making, Presence};
 use segment_dump::{LoadError, count_dump, said_size, without_notes};
 use segment_file::write_image;
 use segment_manager::Segment;
 use std::alloc::Global;
-
-/// Memory was refused.
-const OUT_OF_MEMORY: ProgramFault = ProgramFault::Session(SessionFault::OutOfMemory);
 
 /// How many bytes the segment of a dump is to have: as many as are asked for, or else as the dump says.
 fn wanted_size(text: &[u8], size: Option<u64>) -> u64
@@ -32,15 +28,16 @@ fn wanted_size(text: &[u8], size: Option<u64>) -> u64
 }
 
 /// Why a load is refused, as the program answers it, of a dump whose objects need so many bytes.
-fn fault_of(error: LoadError, needed: u64) -> ProgramFault
+fn fault_of(error: LoadError, needed: u64) -> CommandFault
     ensures { result ≡ load_fault needed error }
 {
     match error {
-        LoadError::BadDump(bad) => ProgramFault::BadDump(bad),
-        LoadError::BadSize => ProgramFault::Session(SessionFault::BadSize),
-        LoadError::RegionTooSmall => ProgramFault::Session(SessionFault::RegionTooSmall),
-        LoadError::NoSpace => ProgramFault::NoSpace(needed),
-        LoadError::LongText => OUT_OF_MEMORY,
+        LoadError::BadDump(bad) => CommandFault::BadDump(bad),
+        LoadError::BadSize => CommandFault::Program(ProgramFault::Session(SessionFault::BadSize)),
+        LoadError::RegionTooSmall => CommandFault::Program(ProgramFault::Session(
+            SessionFault::RegionTooSmall,
+        )),
+        LoadError::NoSpace | LoadError::LongText => CommandFault::NoSpace(needed),
     }
 }
 
@@ -56,16 +53,12 @@ fn needed_by(text: &[u8]) -> u64
 }
 
 /// A segment of a dump, of the size that is asked for, or else with nothing free.
-fn segment_of(alloc: Global, text: &[u8], size: Option<u64>) -> Result<Segment, ProgramFault>
+fn segment_of(alloc: Global, text: &[u8], size: Option<u64>) -> Result<Segment, CommandFault>
     ensures loads { LoadsSegment text.now size result }
     ensures makes { IsFitting text.now size → IsMadeIfGiven result }
 {
-    let Ok(region) = region_for(alloc, wanted_size(text, size)) else {
-        return Err(OUT_OF_MEMORY);
-    };
-    let Ok(mut room) = region_for(alloc, text.len() as u64) else {
-        return Err(OUT_OF_MEMORY);
-    };
+    let region = region_for(alloc, wanted_size(text, size))?;
+    let mut room = region_for(alloc, text.len() as u64)?;
     let capacity = room.capacity();
     match segment_dump::load(text, room.bytes_mut(0, capacity), region, 0, size) {
         Ok(segment) => Ok(segment),
@@ -89,16 +82,16 @@ pub(crate) fn load_dump<S: Source>(
     alloc: Global,
     size: Option<u64>,
     script: &mut S,
-) -> Result<Segment, ProgramFault>
+) -> Result<Segment, CommandFault>
     requires { (S.history script.old).failures < 2 ^ 64 - 1 }
     ensures { LoadsDump size (S.history script.old) (S.history script.new) result }
 {
     if is_unfit(size) {
-        return Err(ProgramFault::Session(SessionFault::BadSize));
+        return Err(CommandFault::Program(ProgramFault::Session(SessionFault::BadSize)));
     }
     match read_text(alloc, script) {
         Ok(text) => segment_of(alloc, text.as_slice(), size),
-        Err(fault) => Err(ProgramFault::Session(fault)),
+        Err(fault) => Err(CommandFault::Program(ProgramFault::Session(fault))),
     }
 }
 
@@ -118,16 +111,16 @@ pub fn load<D: Disk, S: Source>(
     path: &str,
     size: Option<u64>,
     script: &mut S,
-) -> Result<(), ProgramFault>
+) -> Result<(), CommandFault>
     requires { (S.history script.old).failures < 2 ^ 64 - 1 }
     ensures does { IsLoad D.step disk.old disk.new path.now size (S.history script.old) (S.history script.new) result }
     ensures succeeds { LoadsWhatFits D.step disk.old disk.new path.now size (S.history script.old) (S.history script.new) result }
 {
     if disk.look(path) == Presence::There {
-        return Err(ProgramFault::Exists);
+        return Err(CommandFault::Program(ProgramFault::Exists));
     }
     match load_dump(alloc, size, script) {
-        Ok(segment) => match write_image(disk, path, Making::New, &segment) {
+        Ok(segment) => match write_image(disk, path, Making::New, &mut D::hold_none(), &segment) {
             Ok(()) => Ok(()),
             Err(_) => Err(WRITE_FAULT),
         },

@@ -3,10 +3,11 @@ ghost use Rattle.std.specs.Prelude.{◌≡◌, ◌^◌, ◌-◌, ◌<◌};
 ghost use Rattle.segment_disk.specs.Events.{IsFlushed};
 ghost use Rattle.segment_commands.specs.Modes.{RunsInMode, making_of};
 
-use crate::program_faults::ProgramFault;
+use crate::command_faults::CommandFault;
 use crate::running::{run_in_new_file, run_on_file, run_on_file_or_new};
 use raw_region::Source;
 use segment_answers::Lined;
+use segment_cli::ProgramFault;
 use segment_disk::{Disk, Making};
 use segment_invocation::{ModeName, Saving};
 use segment_manager::Mode;
@@ -41,7 +42,7 @@ pub fn run<D: Disk, S: Source, O: Lined>(
     until: Until,
     script: &mut S,
     out: &mut O,
-) -> Result<(), ProgramFault>
+) -> Result<(), CommandFault>
     requires script { (S.history script.old).failures < 2 ^ 64 - 1 }
     requires out { (O.history out.old).failures < 2 ^ 64 - 1 }
     ensures { RunsInMode D.step disk.old disk.new path.now until (S.history script.old) (S.history script.new)
@@ -51,11 +52,11 @@ pub fn run<D: Disk, S: Source, O: Lined>(
     match mode {
         ModeName::CreateOnly => match size {
             Some(size) => run_in_new_file(alloc, disk, path, size, until, script, out),
-            None => Err(ProgramFault::Usage),
+            None => Err(CommandFault::Program(ProgramFault::Usage)),
         },
         ModeName::OpenOrCreate => match size {
             Some(size) => run_on_file_or_new(alloc, disk, path, size, how, until, script, out),
-            None => Err(ProgramFault::Usage),
+            None => Err(CommandFault::Program(ProgramFault::Usage)),
         },
         ModeName::OpenOnly => run_on_file(alloc, disk, path, Mode::Write, how, until, script, out),
         ModeName::OpenReadOnly => run_on_file(

@@ -3,9 +3,8 @@ ghost use Rattle.std.specs.Prelude.{◌≡◌, ◌^◌, ◌-◌, ◌<◌};
 ghost use Rattle.segment_report.specs.Names.{names_text};
 ghost use Rattle.segment_commands.specs.Reporting.{IsReport, TellsOf};
 
-use crate::creating::WRITE_FAULT;
+use crate::command_faults::{CommandFault, WRITE_FAULT};
 use crate::opening::open_segment;
-use crate::program_faults::ProgramFault;
 use raw_region::DeviceFault;
 use segment_disk::{Disk, Output};
 use segment_manager::{Mode, Segment};
@@ -39,7 +38,7 @@ pub fn names<D: Disk, O: Output>(
     prefix: &str,
     most: u64,
     out: &mut O,
-) -> Result<(), ProgramFault>
+) -> Result<(), CommandFault>
     requires { (O.history out.old).failures < 2 ^ 64 - 1 }
     ensures { IsReport D.step disk.old disk.new path.now O.history O.flushes out.old out.new (names_text prefix.now most) result }
 {

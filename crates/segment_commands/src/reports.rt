@@ -1,78 +1,14 @@
 //! What the program says of a fault, and the status that it ends with.
-ghost use Rattle.std.specs.Prelude.{◌≡◌, ◌++◌, ◌-◌, ◌^◌, ◌<◌, codes};
+ghost use Rattle.std.specs.Prelude.{◌≡◌, ◌-◌, ◌^◌, ◌<◌, codes};
 ghost use Rattle.raw_region.specs.Device.{Writes};
-ghost use Rattle.segment_commands.specs.Reports.{HasFixedLine, Puts, bad_dump_line, dump_words, fault_text, growth_name, line, no_space_line, session_status, session_words, status_of, trouble_text, trouble_words};
-ghost use Rattle.segment_cli.specs.declared.faults.SessionFault.TheVariants.{Image};
+ghost use Rattle.segment_cli.specs.Reports.{Puts, line};
+ghost use Rattle.segment_commands.specs.Reports.{bad_dump_line, command_status, command_text, dump_words, no_space_line, trouble_text, trouble_words};
 
-use crate::program_faults::ProgramFault;
-use grow_shrink::GrowError;
-use image_check::ImageClass;
+use crate::command_faults::CommandFault;
 use raw_region::{DeviceFault, Sink, write_all};
-use segment_cli::SessionFault;
 use segment_disk::Trouble;
 use segment_dump::{BadDump, DumpFault};
 use segment_lang::{Piece, put_pieces};
-
-/// The line of an image that is refused.
-fn class_line(class: ImageClass) -> &'static [u8]
-    ensures { result.now ≡ line (session_words (Image class)) }
-{
-    match class {
-        ImageClass::Truncated => b"segment: image refused: 1 Truncated\n",
-        ImageClass::BadMagic => b"segment: image refused: 2 BadMagic\n",
-        ImageClass::UnsupportedVersion => b"segment: image refused: 3 UnsupportedVersion\n",
-        ImageClass::BadSize => b"segment: image refused: 4 BadSize\n",
-        ImageClass::BadReserved => b"segment: image refused: 5 BadReserved\n",
-        ImageClass::BadTag => b"segment: image refused: 6 BadTag\n",
-        ImageClass::BadFreeTree => b"segment: image refused: 7 BadFreeTree\n",
-        ImageClass::BadIndex => b"segment: image refused: 8 BadIndex\n",
-        ImageClass::BadObject => b"segment: image refused: 9 BadObject\n",
-        ImageClass::SharedBlock => b"segment: image refused: 10 SharedBlock\n",
-        ImageClass::BadContainer => b"segment: image refused: 11 BadContainer\n",
-        ImageClass::OrphanBlock => b"segment: image refused: 12 OrphanBlock\n",
-    }
-}
-
-/// The line of a segment that does not grow.
-fn growth_line(error: GrowError) -> &'static [u8]
-    ensures { result.now ≡ line (codes "growth refused: " ++ growth_name error) }
-{
-    match error {
-        GrowError::ReadOnly => b"segment: growth refused: ReadOnly\n",
-        GrowError::BadGrow => b"segment: growth refused: BadGrow\n",
-        GrowError::TooLarge => b"segment: growth refused: TooLarge\n",
-        GrowError::RegionTooSmall => b"segment: growth refused: RegionTooSmall\n",
-    }
-}
-
-/// The line of a session that fails.
-fn session_line(fault: SessionFault) -> &'static [u8]
-    ensures { result.now ≡ line (session_words fault) }
-{
-    match fault {
-        SessionFault::Image(class) => class_line(class),
-        SessionFault::BadSize | SessionFault::RegionTooSmall => b"segment: size refused\n",
-        SessionFault::OutOfMemory => b"segment: out of memory\n",
-        SessionFault::ReadFault => b"segment: read fault\n",
-        SessionFault::WriteFault => b"segment: write fault\n",
-        SessionFault::ScriptTooLong => b"segment: script too long\n",
-    }
-}
-
-/// The line of a fault; a wrong command line has none. Those of a dump that is refused are put by their parts.
-fn fault_line(fault: ProgramFault) -> &'static [u8]
-    ensures { HasFixedLine fault → result.now ≡ fault_text fault }
-{
-    match fault {
-        ProgramFault::Usage | ProgramFault::BadDump(_) | ProgramFault::NoSpace(_) => b"",
-        ProgramFault::Exists => b"segment: file exists\n",
-        ProgramFault::InUse => b"segment: file in use\n",
-        ProgramFault::Stopped => b"segment: stopped at an error, and nothing is saved\n",
-        ProgramFault::Misspelled => b"segment: some lines are no commands\n",
-        ProgramFault::Growth(error) => growth_line(error),
-        ProgramFault::Session(fault) => session_line(fault),
-    }
-}
 
 /// What is wrong with a dump.
 fn dump_words(cause: DumpFault) -> &'static [u8]
@@ -126,52 +62,54 @@ fn put_no_space<S: Sink>(needed: u64, err: &mut S) -> Result<(), DeviceFault>
     )
 }
 
-/// Writes the line of a fault.
-fn put_fault<S: Sink>(fault: ProgramFault, err: &mut S) -> Result<(), DeviceFault>
+/// Writes a line, and answers the status that the program ends with.
+fn put_line<S: Sink>(line: &[u8], status: u8, err: &mut S) -> u8
     requires { (S.history err.old).failures < 2 ^ 64 - 1 }
-    ensures { Writes (S.history err.old) (S.history err.new) result (fault_text fault) }
+    ensures status { result ≡ status }
+    ensures text { Puts (S.history err.old) (S.history err.new) line.now }
 {
-    match fault {
-        ProgramFault::BadDump(bad) => put_bad_dump(bad, err),
-        ProgramFault::NoSpace(needed) => put_no_space(needed, err),
-        _ => write_all(err, fault_line(fault)),
-    }
-}
-
-/// The status of a session that fails.
-fn session_status(fault: SessionFault) -> u8
-    ensures { result ≡ session_status fault }
-{
-    match fault {
-        SessionFault::Image(_) | SessionFault::BadSize | SessionFault::RegionTooSmall => 1,
-        SessionFault::ReadFault | SessionFault::WriteFault | SessionFault::ScriptTooLong => 3,
-        SessionFault::OutOfMemory => 4,
-    }
-}
-
-/// The status that the program ends with: 1 where an image, a size, a growth, a script or a dump is refused, 2 for a
-/// wrong command line, 3 for a file that exists or is in use and for faults, 4 for want of memory.
-fn status_of(fault: ProgramFault) -> u8
-    ensures { result ≡ status_of fault }
-{
-    match fault {
-        ProgramFault::Growth(_) | ProgramFault::Stopped | ProgramFault::Misspelled => 1,
-        ProgramFault::BadDump(_) | ProgramFault::NoSpace(_) => 1,
-        ProgramFault::Usage => 2,
-        ProgramFault::Exists | ProgramFault::InUse => 3,
-        ProgramFault::Session(fault) => session_status(fault),
-    }
+    let _ = write_all(err, line);
+    status
 }
 
 /// Writes the line of a fault, none for a wrong command line, and answers the status that the program ends with, which
-/// is the same where the writer fails.
-pub fn report<S: Sink>(fault: ProgramFault, err: &mut S) -> u8
+/// is the same where the writer fails: 1 where an image, a size, a growth, a script or a dump is refused, 2 for a wrong
+/// command line, 3 for a file that exists or is in use and for faults, 4 for want of memory.
+pub fn report<S: Sink>(fault: CommandFault, err: &mut S) -> u8
     requires { (S.history err.old).failures < 2 ^ 64 - 1 }
-    ensures status { result ≡ status_of fault }
-    ensures text { Puts (S.history err.old) (S.history err.new) (fault_text fault) }
+    ensures status { result ≡ command_status fault }
+    ensures text { Puts (S.history err.old) (S.history err.new) (command_text fault) }
 {
-    let _ = put_fault(fault, err);
-    status_of(fault)
+    match fault {
+        CommandFault::Program(fault) => segment_cli::report(fault, err),
+        CommandFault::InUse => put_line(b"segment: file in use\n", 3, err),
+        CommandFault::Stopped => {
+            put_line(
+                b"segment: stopped at an error, and nothing is saved\n",
+                1,
+                err,
+            )
+        }
+        CommandFault::Misspelled => put_line(b"segment: some lines are no commands\n", 1, err),
+        CommandFault::NoSpace(needed) => {
+            let _ = put_no_space(needed, err);
+            1
+        }
+        CommandFault::BadDump(bad) => {
+            let _ = put_bad_dump(bad, err);
+            1
+        }
+    }
+}
+
+/// Writes the line of memory that was refused to the program itself, and answers the status: that of a session without
+/// memory.
+pub fn report_no_memory<S: Sink>(err: &mut S) -> u8
+    requires { (S.history err.old).failures < 2 ^ 64 - 1 }
+    ensures status { result ≡ 4 }
+    ensures text { Puts (S.history err.old) (S.history err.new) (line (codes "out of memory")) }
+{
+    put_line(b"segment: out of memory\n", 4, err)
 }
 
 /// What is said of a file.
@@ -190,16 +128,20 @@ fn trouble_words(trouble: Trouble) -> &'static [u8]
 
 /// Writes a line that says why the file of a path can't be read or written, behind the line of the fault. The path
 /// stands there as a text of the language, so that none of its bytes ends the line or means something to a terminal.
-pub fn report_file<S: Sink>(path: &str, trouble: Trouble, err: &mut S)
+///
+/// # Errors
+///
+/// The writer failed; what it took is a part of the line, from the first byte on.
+pub fn put_trouble<S: Sink>(path: &str, trouble: Trouble, err: &mut S) -> Result<(), DeviceFault>
     requires { (S.history err.old).failures < 2 ^ 64 - 1 }
-    ensures { Puts (S.history err.old) (S.history err.new) (trouble_text path.now trouble) }
+    ensures { Writes (S.history err.old) (S.history err.new) result (trouble_text path.now trouble) }
 {
-    let _ = put_pieces(
+    put_pieces(
         err,
         &[
             Piece::Bytes(b"segment: "),
             Piece::Text(path.as_bytes()),
             Piece::Bytes(trouble_words(trouble)),
         ],
-    );
+    )
 }

@@ -4,12 +4,12 @@ ghost use Rattle.segment_disk.specs.Events.{IsFlushed};
 ghost use Rattle.segment_commands.specs.Running.{MakesRun, RunsAnyFile, RunsFile, RunsHeld, RunsNewFile, RunsOpened, as_program};
 
 use crate::answering::answer_and_save;
+use crate::command_faults::CommandFault;
 use crate::creating::new_segment;
 use crate::opening::open_segment;
-use crate::program_faults::ProgramFault;
 use raw_region::Source;
 use segment_answers::Lined;
-use segment_cli::SessionFault;
+use segment_cli::{ProgramFault, SessionFault};
 use segment_disk::{Disk, Making, Presence};
 use segment_manager::Mode;
 use segment_scripts::{End, Until};
@@ -33,6 +33,7 @@ fn run_opened<D: Disk, S: Source, O: Lined>(
     path: &str,
     mode: Mode,
     how: Making,
+    hold: &mut D::Hold,
     until: Until,
     script: &mut S,
     out: &mut O,
@@ -43,7 +44,7 @@ fn run_opened<D: Disk, S: Source, O: Lined>(
         O.history (IsFlushed O.history O.flushes out.new) out.old out.new result }
 {
     match open_segment(alloc, disk, path, mode, 0) {
-        Ok(mut segment) => answer_and_save(disk, path, how, &mut segment, until, script, out),
+        Ok(mut segment) => answer_and_save(disk, path, how, hold, &mut segment, until, script, out),
         Err(fault) => Err(fault),
     }
 }
@@ -57,16 +58,26 @@ fn run_held<D: Disk, S: Source, O: Lined>(
     until: Until,
     script: &mut S,
     out: &mut O,
-) -> Result<(), ProgramFault>
+) -> Result<(), CommandFault>
     requires script { (S.history script.old).failures < 2 ^ 64 - 1 }
     requires out { (O.history out.old).failures < 2 ^ 64 - 1 }
     ensures { RunsHeld D.step disk.old disk.new path.now how until (S.history script.old) (S.history script.new)
         O.history (IsFlushed O.history O.flushes out.new) out.old out.new result }
 {
-    let Ok(hold) = disk.hold(path) else {
-        return Err(ProgramFault::InUse);
+    let Ok(mut hold) = disk.hold(path) else {
+        return Err(CommandFault::InUse);
     };
-    let answer = run_opened(alloc, disk, path, Mode::Write, how, until, script, out);
+    let answer = run_opened(
+        alloc,
+        disk,
+        path,
+        Mode::Write,
+        how,
+        &mut hold,
+        until,
+        script,
+        out,
+    );
     disk.release(hold);
     answered(answer)
 }
@@ -90,19 +101,20 @@ pub fn run_on_file<D: Disk, S: Source, O: Lined>(
     until: Until,
     script: &mut S,
     out: &mut O,
-) -> Result<(), ProgramFault>
+) -> Result<(), CommandFault>
     requires script { (S.history script.old).failures < 2 ^ 64 - 1 }
     requires out { (O.history out.old).failures < 2 ^ 64 - 1 }
     ensures { RunsFile D.step disk.old disk.new path.now how until (S.history script.old) (S.history script.new)
         O.history (IsFlushed O.history O.flushes out.new) out.old out.new result mode }
 {
     if !can_be_read(script) {
-        return Err(ProgramFault::Session(SessionFault::ReadFault));
+        return Err(CommandFault::Program(ProgramFault::Session(SessionFault::ReadFault)));
     }
     if mode == Mode::Write {
         run_held(alloc, disk, path, how, until, script, out)
     } else {
-        answered(run_opened(alloc, disk, path, mode, how, until, script, out))
+        let mut none = D::hold_none();
+        answered(run_opened(alloc, disk, path, mode, how, &mut none, until, script, out))
     }
 }
 
@@ -126,6 +138,7 @@ fn run_made<D: Disk, S: Source, O: Lined>(
             disk,
             path,
             Making::New,
+            &mut D::hold_none(),
             &mut segment,
             until,
             script,
@@ -150,14 +163,14 @@ pub fn run_in_new_file<D: Disk, S: Source, O: Lined>(
     until: Until,
     script: &mut S,
     out: &mut O,
-) -> Result<(), ProgramFault>
+) -> Result<(), CommandFault>
     requires script { (S.history script.old).failures < 2 ^ 64 - 1 }
     requires out { (O.history out.old).failures < 2 ^ 64 - 1 }
     ensures { RunsNewFile D.step disk.old disk.new path.now size until (S.history script.old) (S.history script.new)
         O.history (IsFlushed O.history O.flushes out.new) out.old out.new result }
 {
     if disk.look(path) == Presence::There {
-        return Err(ProgramFault::Exists);
+        return Err(CommandFault::Program(ProgramFault::Exists));
     }
     answered(run_made(alloc, disk, path, size, until, script, out))
 }
@@ -177,7 +190,7 @@ pub fn run_on_file_or_new<D: Disk, S: Source, O: Lined>(
     until: Until,
     script: &mut S,
     out: &mut O,
-) -> Result<(), ProgramFault>
+) -> Result<(), CommandFault>
     requires script { (S.history script.old).failures < 2 ^ 64 - 1 }
     requires out { (O.history out.old).failures < 2 ^ 64 - 1 }
     ensures { RunsAnyFile D.step disk.old disk.new path.now size how until (S.history script.old) (S.history script.new)
@@ -190,12 +203,12 @@ pub fn run_on_file_or_new<D: Disk, S: Source, O: Lined>(
 }
 
 /// What a run answered, as the program answers it.
-pub(crate) fn answered(answer: Result<End, SessionFault>) -> Result<(), ProgramFault>
+pub(crate) fn answered(answer: Result<End, SessionFault>) -> Result<(), CommandFault>
     ensures { result ≡ as_program answer }
 {
     match answer {
         Ok(End::Whole) => Ok(()),
-        Ok(End::Refused) => Err(ProgramFault::Stopped),
-        Err(fault) => Err(ProgramFault::Session(fault)),
+        Ok(End::Refused) => Err(CommandFault::Stopped),
+        Err(fault) => Err(CommandFault::Program(ProgramFault::Session(fault))),
     }
 }

@@ -4,8 +4,7 @@ ghost use Rattle.segment_scripts.specs.CommandRows.{row_text};
 ghost use Rattle.segment_commands.specs.Commands.{Prints};
 ghost use Rattle.segment_commands.specs.Telling.{Tells};
 
-use crate::creating::WRITE_FAULT;
-use crate::program_faults::ProgramFault;
+use crate::command_faults::{CommandFault, WRITE_FAULT};
 use raw_region::{DeviceFault, write_all};
 use segment_disk::Output;
 use segment_scripts::{CommandRow, put_language};
@@ -24,7 +23,7 @@ pub(crate) fn tell<O: Output>(out: &mut O, text: &[u8]) -> Result<(), DeviceFaul
 /// # Errors
 ///
 /// `WriteFault` where the output fails.
-pub fn print<O: Output>(out: &mut O, text: &str) -> Result<(), ProgramFault>
+pub fn print<O: Output>(out: &mut O, text: &str) -> Result<(), CommandFault>
     requires { (O.history out.old).failures < 2 ^ 64 - 1 }
     ensures { Prints O.history O.flushes out.old out.new text.now result }
 {
@@ -48,7 +47,7 @@ fn tell_language<O: Output>(out: &mut O, rows: &[CommandRow]) -> Result<(), Devi
 /// # Errors
 ///
 /// `WriteFault` where the output fails.
-pub fn print_language<O: Output>(out: &mut O, rows: &[CommandRow]) -> Result<(), ProgramFault>
+pub fn print_language<O: Output>(out: &mut O, rows: &[CommandRow]) -> Result<(), CommandFault>
     requires { (O.history out.old).failures < 2 ^ 64 - 1 }
     ensures { Prints O.history O.flushes out.old out.new (flat_map row_text rows.now) result }
 {

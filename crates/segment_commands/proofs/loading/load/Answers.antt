@@ -1,4 +1,4 @@
-use Rattle.std.proofs.Common.{rules, ap, inl, inr, Err}
+use Rattle.std.proofs.Common.{rules, inl, inr, refl}
 use Rattle.segment_commands.proofs.Commanded.{written_whole}
 use Rattle.segment_commands.proofs.Loads.{unmade}
 use Rattle.segment_commands.proofs.loading.load.Goals as goal
@@ -32,5 +32,5 @@ returns-in-Ok-write_image-clause-succeeds g c = record {
 
 pub returns-clause-succeeds : goal.returns-clause-succeeds
 returns-clause-succeeds g c = record {
-  loads = λ text r f. inr (inl (ap Err (unmade c.args.size (g.S.Source.history c.args.script.now) (g.S.Source.history c.load_dump.new.script) c.in-Err.fault text c.in-Err.ensures r f)));
+  loads = λ text r f. inr (inl (c.in-Err.fault, unmade c.args.size (g.S.Source.history c.args.script.now) (g.S.Source.history c.load_dump.new.script) c.in-Err.fault text c.in-Err.ensures r f, refl));
 }

@@ -1,0 +1,60 @@
+//! The requests for memory of the program itself, for its command line and its answers: each in a function that alone
+//! makes the token of its refusal.
+
+use segment_invocation::{Invocation, InvocationFault, UsageError, invocation};
+use std::alloc::Global;
+use std::io::{BufWriter, ErrorKind, Write};
+
+/// How many bytes of answers go out at once, at most.
+const PIECE: usize = 65536;
+
+/// The allocator refused memory for the command line or the answers. Its field is private: this module alone makes it,
+/// where it asked.
+#[derive(Clone, Copy)]
+pub struct NoMemory {
+    _made: (),
+}
+
+/// What the token of a refusal is.
+const REFUSED: NoMemory = NoMemory { _made: () };
+
+/// The words of the command line, the program's name first, where they are texts.
+pub fn words(rt: &HostRuntime) -> Result<Option<Vec<String>>, NoMemory> {
+    match std::env::args(rt) {
+        Ok(words) => match words.collect(rt.alloc()) {
+            Ok(words) => Ok(Some(words)),
+            Err(_) => Err(REFUSED),
+        },
+        Err(error) if error.kind() == ErrorKind::OutOfMemory => Err(REFUSED),
+        Err(_) => Ok(None),
+    }
+}
+
+/// The words as texts that are lent.
+pub fn borrowed<'a>(alloc: Global, words: &'a [String]) -> Result<Vec<&'a str>, NoMemory> {
+    words
+        .iter()
+        .map(|word| word.as_str())
+        .collect(alloc)
+        .map_err(|_| REFUSED)
+}
+
+/// What the words ask for, or what is wrong with them.
+pub fn asked<'a>(
+    alloc: Global,
+    words: &'a [&'a str],
+) -> Result<Result<Invocation<'a>, UsageError>, NoMemory> {
+    match invocation(alloc, words) {
+        Ok(asked) => Ok(Ok(asked)),
+        Err(InvocationFault::Usage(wrong)) => Ok(Err(wrong)),
+        Err(InvocationFault::OutOfMemory) => Err(REFUSED),
+    }
+}
+
+/// A writer that puts its bytes out in pieces.
+pub fn buffered<W: Write + Drop>(alloc: Global, writer: W) -> Result<BufWriter<W>, NoMemory> {
+    match BufWriter::with_capacity(alloc, PIECE, writer) {
+        Ok(buffer) => Ok(buffer),
+        Err(_) => Err(REFUSED),
+    }
+}

@@ -1,0 +1,63 @@
+//! Why a command fails.
+ghost use Rattle.std.specs.Prelude.{◌≡◌};
+ghost use Rattle.image_check.specs.declared.errors.MemoryFault.TheVariants.{Bytes};
+ghost use Rattle.segment_cli.specs.declared.faults.SessionFault.TheVariants.{OutOfMemory as NoMemory};
+ghost use Rattle.segment_commands.specs.Faults.{Growth, Session};
+
+use grow_shrink::GrowError;
+use raw_region::OutOfMemory;
+use segment_cli::{ProgramFault, SessionFault};
+use segment_dump::BadDump;
+use thiserror::Error;
+
+/// Why a command fails.
+#[derive(Clone, Copy, Debug, PartialEq, Eq, Error)]
+pub enum CommandFault {
+    /// It fails as a program over sessions does.
+    #[error("{0}")]
+    Program(ProgramFault),
+    /// Another has the right to write the file.
+    #[error("file in use")]
+    InUse,
+    /// An answer of a strict run is an error.
+    #[error("stopped at an error, and nothing is saved")]
+    Stopped,
+    /// A line of a script that is linted is no command.
+    #[error("some lines are no commands")]
+    Misspelled,
+    /// A text is no dump.
+    #[error("dump refused: {0}")]
+    BadDump(BadDump),
+    /// The objects of a dump do not fit the size: they need so many bytes.
+    #[error("no space: the objects need {0} bytes")]
+    NoSpace(u64),
+}
+
+/// A file or standard output can't be written.
+pub const WRITE_FAULT: CommandFault = CommandFault::Program(ProgramFault::Session(
+    SessionFault::WriteFault,
+));
+
+impl From<GrowError> for CommandFault {
+    ghost from_gives = { λ error fault. fault ≡ Growth error };
+
+    fn from(error: GrowError) -> CommandFault {
+        CommandFault::Program(ProgramFault::Growth(error))
+    }
+}
+
+impl From<SessionFault> for CommandFault {
+    ghost from_gives = { λ failed fault. fault ≡ Session failed };
+
+    fn from(failed: SessionFault) -> CommandFault {
+        CommandFault::Program(ProgramFault::Session(failed))
+    }
+}
+
+impl From<OutOfMemory> for CommandFault {
+    ghost from_gives = { λ refusal fault. fault ≡ Session (NoMemory (Bytes refusal)) };
+
+    fn from(refusal: OutOfMemory) -> CommandFault {
+        CommandFault::from(SessionFault::from(refusal))
+    }
+}

@@ -29,7 +29,7 @@ all-edit : {T : Type 0} → (test : T → Bool) (xs : List T) (i j : ℕ) (ys : 
 all-edit test xs i j ys v e = all-both test (take i xs) (ys ++ drop j xs) (all-parts test i xs v).0
     (all-both test ys (drop j xs) e (all-parts test j xs v).1)
 
-all-one : {T : Type 0} → (test : T → Bool) (y : T) → test y ≡ true → IsTrue (list_all test (y ∷ []))
+pub all-one : {T : Type 0} → (test : T → Bool) (y : T) → test y ≡ true → IsTrue (list_all test (y ∷ []))
 all-one test y e = and_from (test y) true e refl
 
 pub all-at : {T : Type 0} → (test : T → Bool) (xs : List T) (i : ℕ) {x : T} → IsTrue (list_all test xs)

@@ -53,9 +53,9 @@ then_some g f x = map_then g f x ∙ some_map g (option_and_then f x)
 -- what is there is made a command of
 pub map_made : {A B C : Type 0} (g : B → C) (f : A → B) {x : Option A} {y : Option B}
     → MatchOption x (y ≡ None) (λ a. IsSomeAnd y (λ b. b ≡ f a)) → option_map g y ≡ option_map (λ a. g (f a)) x
-map_made g f {None} {y} h = ap (option_map g) h
-map_made g f {Some a} {None} h = absurd h
-map_made g f {Some a} {Some b} h = ap (λ b. Some (g b)) h
+map_made g f {x = None} h = ap (option_map g) h
+map_made g f {x = Some a} {y = None} h = absurd h
+map_made g f {x = Some a} {y = Some b} h = ap (λ b. Some (g b)) h
 
 pub some_of : {A B : Type 0} {f : A → B} {x : Option A} {y : Option B} → option_map f x ≡ y → is_some x ≡ is_some y
 some_of {x = None} h = ap is_some h

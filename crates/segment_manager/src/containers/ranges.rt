@@ -103,11 +103,7 @@ impl Segment {
     ///
     /// `ReadOnly` where the segment is open for reading, and else `NotFound` where no object has the key, `WrongKind`
     /// where it is of another kind, `NoSpace` where its storage cannot be regrown. Nothing changes.
-    pub fn vec_extend<T: Scalar, O: Target>(
-        &mut self,
-        key: &O,
-        values: &[T],
-    ) -> Result<(), Refusal>
+    pub fn vec_extend<T: Scalar, O: Target>(&mut self, key: &O, values: &[T]) -> Result<(), Refusal>
         requires { O.stands key.now self.old }
         ensures step { ExtendsVector self.old self.new (O.key key.now) T.kind (map T.whole values.now)
             (done_answer result) }

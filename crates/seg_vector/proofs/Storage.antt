@@ -372,7 +372,7 @@ pub unchanged : (c : Cut) (from n : ℕ) → IsHeap current c.bytes → IsChange
 unchanged c from n heap =
     record { place = record { before = refl; after = refl }; live = heap; rest = record { at = λ k f. refl } }
 
--- so many elements are written over
+-- n elements are written over
 pub overwritten-all : {old new : Cut} {p : Place} {each len g : ℕ} (i n : ℕ) {t : Table} {bytes : List ℕ}
     (more : List ℕ) → Stands old.bytes p each len t bytes → i + n ≤ len → length more ≡ each * n
     → link_at (bytes_of old.bytes) (place_at p) ≡ Some g → IsChanged current old new (g + each * i) (length more)
@@ -388,18 +388,12 @@ overwritten-all {new} {p} {each} {len} {g} i n {t} {bytes} more s f e link c1 co
     (unchanged new (p.handle + (p.at + 8)) 8 (laid-heap _ _ c1.live)) (ap (word_at (bytes_of new.bytes)) (omega arith)
     ∙ (written-run (each * i) s link c1 (omega (arith, inside, total, less))).words.len_word)
 
--- one
+-- one is
 pub overwritten : {old new : Cut} {p : Place} {each len g : ℕ} (i : ℕ) {t : Table} {bytes : List ℕ} (more : List ℕ)
     → Stands old.bytes p each len t bytes → i < len → length more ≡ each
     → link_at (bytes_of old.bytes) (place_at p) ≡ Some g → IsChanged current old new (g + each * i) (length more)
     → Has (bytes_of new.bytes) (g + each * i) more → IsRewritten old new p each len t (patched bytes (each * i) more)
-overwritten i more s f e = overwritten-all i 1 more s (omega arith) (omega arith)
-
--- there is no element without storage
-pub none-there : {b : List ℕ} {p : Place} {each len k : ℕ} {o : Option Extent} {bytes : List ℕ}
-    → Stands b p each len (table k o) bytes → link_at (bytes_of b) (place_at p) ≡ None → len ≡ 0
-none-there {k = k} {o = None} s link = let none = eqb-true k 0 s.table in let f = s.fits in omega arith
-none-there {o = Some x} s link = none-some link s.words.link
+overwritten {each = each} i more s f e = overwritten-all i 1 more s (omega (arith, f)) (omega (arith, e))
 
 -- ---- elements are left out at the end
 

@@ -281,10 +281,10 @@ command_in_front line part rest reader e short h =
 
 -- ---- whether a line is a command
 
-pub no_error : {o : Option Command} {r : Reading} → true ≡ is_some o → as_reading o ≡ r → is_wrong r ≡ false
-no_error {o = None} h e = absurd (cc)
-no_error {o = Some c} h e = ap is_wrong (sym e)
+pub no_error : (o : Option Command) (r : Reading) → true ≡ is_some o → as_reading o ≡ r → is_wrong r ≡ false
+no_error None r h e = absurd (cc)
+no_error (Some c) r h e = ap is_wrong (sym e)
 
-pub bad_syntax : {o : Option Command} {r : Reading} → false ≡ is_some o → as_reading o ≡ r → BadSyntax ≡ r
-bad_syntax {o = None} h e = e
-bad_syntax {o = Some c} h e = absurd (cc)
+pub bad_syntax : (o : Option Command) (r : Reading) → false ≡ is_some o → as_reading o ≡ r → BadSyntax ≡ r
+bad_syntax None r h e = e
+bad_syntax (Some c) r h e = absurd (cc)

@@ -54,4 +54,3 @@ pub record HasRange (old new : State) (o : Located) (first : ℕ) (zs : List ℤ
   pub stays : Stays old new
   pub here : IsObject o new
   pub denotes : (d : Directory) → StandsFor old.cut.bytes d → StandsFor new.cut.bytes (with_range d (ByHandle o.handle) first zs)
-

@@ -22,6 +22,8 @@ use Rattle.segment_manager.specs.objects.Located.{IsObject}
 use Rattle.segment_manager.specs.objects.Standing.{place_at}
 use Rattle.segment_manager.specs.State.{Answers, Moves, State, StandsFor, Stays}
 use Rattle.segment_manager.specs.Step.{changed, is_read_only, with_items}
+pub use Rattle.segment_manager.specs.containers.Ranges.{ChangesRange, WritesRange, is_row, numbers_if, range_at, range_in}
+pub use Rattle.segment_manager.specs.containers.Ranges.{range_of, replaced, with_range, written, written_if}
 
 -- ---- reading
 

@@ -9,11 +9,16 @@ mod serving;
 mod sessions;
 
 pub use faults::{SessionFault, Start};
-pub use image_check::save;
+pub use grow_shrink::GrowError;
+pub use image_check::{ImageClass, MemoryFault, save};
 pub use migrations::migrate;
 pub use program_faults::ProgramFault;
 pub use reports::{report, session_line, session_status};
-pub use segment_invocation::{Invocation, InvocationFault, ModeName, invocation};
-pub use segment_scripts::{Answered, End, Machine, RunFault, Scratch, Until, run};
+pub use segment_invocation::{
+    Invocation, InvocationFault, Keeping, ModeName, Running, Saving, Script, UsageError, invocation,
+};
+pub use segment_scripts::{
+    Answered, End, Follower, Machine, Nobody, RunFault, Scratch, Until, run, run_until,
+};
 pub use serving::serve;
 pub use sessions::{begin, session};

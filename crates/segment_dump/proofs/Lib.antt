@@ -20,6 +20,7 @@ mod Sections
 mod KindWords
 mod Readers
 mod Rooms
+mod Askings
 mod ObjectRooms
 mod Sums
 mod ContentLines

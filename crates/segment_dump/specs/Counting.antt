@@ -8,7 +8,8 @@ use Rattle.segment_dump.specs.declared.counting.Front.{Front}
 use Rattle.segment_dump.specs.declared.needs.Needs.{Needs}
 use Rattle.segment_dump.specs.Items.{Content, Item, Items, kind_of_content, count_of_content}
 use Rattle.segment_dump.specs.Leads.{IsSmall}
-use Rattle.segment_dump.specs.Need.{all_needs, item_needs, items_needs, text_needs, texts_needs}
+use Rattle.segment_dump.specs.Asked.{AreAtMost, HasObjects}
+use Rattle.segment_dump.specs.Need.{all_needs, both, front_room, item_needs, items_needs, only_room, text_needs, texts_needs}
 use Rattle.segment_dump.specs.Texts.{dump_text, end_text, front_text, items_text}
 
 -- ---- what it has
@@ -57,12 +58,16 @@ pub record CountsObjects (text : List ℕ) (result : Result Needs ℕ) : Type 0 
 pub record CountsDump (text : List ℕ) (result : Result Count ℕ) : Type 0 where
   pub counts : (n : ℕ) (items : Items) → n < 2 ^ 64 → AreCountable items → text ≡ dump_text n items → result ≡ Ok (record { size = n; needs = items_needs items })
 
--- whatever the text is, it begins with the three first lines of a dump, and this size was read there
+-- whatever the text is, it begins with the three first lines of a dump, where this size was read, and with objects in
+-- front of the line `end`, and these ask for at least what was counted
 pub record IsCounted (text : List ℕ) (count : Count) : Type 0 where
   pub front : Front
   pub behind : List ℕ
   pub is : text ≡ fronted front ++ behind
   pub size : count.size ≡ front.size
+  pub asked : Needs
+  pub objects : HasObjects behind asked
+  pub most : AreAtMost count.needs (both (only_room (front_room front.named front.unique)) asked)
 
 -- the size that it says, of whatever objects the text is the dump
 pub record SaysSize (text : List ℕ) (result : Option ℕ) : Type 0 where

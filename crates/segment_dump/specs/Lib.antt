@@ -10,6 +10,7 @@ pub mod Laws
 pub mod Reads
 pub mod Leads
 pub mod Need
+pub mod Asked
 pub mod Counting
 pub mod Lines
 pub mod Building

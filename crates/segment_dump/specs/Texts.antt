@@ -62,6 +62,12 @@ head_line Named name kind n = codes "named " ++ name_text name ++ 0x20 ∷ measu
 head_line Unique name kind n = codes "unique " ++ measure_text kind n
 head_line Anonymous name kind n = codes "anonymous " ++ measure_text kind n
 
+-- a line that tells an object: some bytes, its name where it has one, its kind, more bytes, and a number
+abbrev pub told_line : List ℕ → Class → List ℕ → Kind → List ℕ → ℕ → List ℕ
+told_line lead Named name kind between n = lead ++ (name_text name ++ (0x20 ∷ (kind_text kind ++ (between ++ (number_text n ++ 0x0A ∷ [])))))
+told_line lead Unique name kind between n = lead ++ (kind_text kind ++ (between ++ (number_text n ++ 0x0A ∷ [])))
+told_line lead Anonymous name kind between n = lead ++ (kind_text kind ++ (between ++ (number_text n ++ 0x0A ∷ [])))
+
 abbrev pub item_text : Item → List ℕ
 item_text i = head_line i.class i.name (kind_of_content i.content) (count_of_content i.content) ++ content_text i.content
 

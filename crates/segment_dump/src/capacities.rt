@@ -13,12 +13,13 @@ ghost use Rattle.segment_dump.specs.Owed.{WritesOf};
 ghost use Rattle.segment_dump.specs.Texts.{dump_text};
 
 use crate::dumping::dump;
+use crate::entries::put_line;
 use crate::objects::{Telling, put_anonymous, put_named, put_unique};
 use raw_region::{DeviceFault, Sink, word_in};
 use seg_types::{Class, Kind};
 use segment_lang::{Piece, put_pieces};
-use segment_manager::layout::{NAMED_AT, UNIQUE_AT};
 use segment_manager::conditioned::object_here;
+use segment_manager::layout::{NAMED_AT, UNIQUE_AT};
 use segment_manager::{Instance, Object, Segment};
 
 /// Where an index has its capacity, behind its first word.
@@ -145,37 +146,8 @@ fn put_note<W: Sink>(said: Instance<'_>, places: u64, out: &mut W) -> Result<(),
     ensures { Writes (W.history out.old) (W.history out.new) result (capacity_note (record { holder = Holds said.entry.class said.entry.name.now said.entry.kind; places = places })) }
 {
     match said.class {
-        Class::Named => put_pieces(
-            out,
-            &[
-                Piece::Bytes(b"# capacity of named "),
-                Piece::Name(said.name),
-                Piece::Bytes(b" "),
-                Piece::Kind(said.kind),
-                Piece::Bytes(b": "),
-                Piece::Number(places),
-                Piece::Bytes(b"\n"),
-            ],
-        ),
-        Class::Unique => put_pieces(
-            out,
-            &[
-                Piece::Bytes(b"# capacity of unique "),
-                Piece::Kind(said.kind),
-                Piece::Bytes(b": "),
-                Piece::Number(places),
-                Piece::Bytes(b"\n"),
-            ],
-        ),
-        Class::Anonymous => put_pieces(
-            out,
-            &[
-                Piece::Bytes(b"# capacity of anonymous "),
-                Piece::Kind(said.kind),
-                Piece::Bytes(b": "),
-                Piece::Number(places),
-                Piece::Bytes(b"\n"),
-            ],
-        ),
+        Class::Named => put_line(b"# capacity of named ", said, b": ", places, out),
+        Class::Unique => put_line(b"# capacity of unique ", said, b": ", places, out),
+        Class::Anonymous => put_line(b"# capacity of anonymous ", said, b": ", places, out),
     }
 }

@@ -1,6 +1,7 @@
 //! What the objects of a dump need, counted from its text before a segment is begun.
 ghost use Rattle.std.specs.Prelude.{◌≡◌, ◌++◌, ℕ, List, true, length, flat_map, IfOk, IfSome};
 ghost use Rattle.std.specs.Bool.{OnTrue};
+ghost use Rattle.segment_dump.specs.Asked.{AskTogether, AsksContent, AsksNothing, AsksObject, AsksString, AsksText, Begins, HasObjects, IsText};
 ghost use Rattle.segment_dump.specs.Counting.{AreTexts, CountsDump, CountsObjects, IsContent, IsCountable, IsCounted, IsFront, fronted};
 ghost use Rattle.segment_dump.specs.Leads.{IsSmall};
 ghost use Rattle.segment_dump.specs.Need.{all_needs, block_room, item_needs, nothing, only_room, text_needs, texts_needs};
@@ -38,6 +39,7 @@ pub struct Front {
 /// How many bytes a text has, and what is behind its lines.
 fn text_len(text: &[u8]) -> Option<(u64, &[u8])>
     ensures value { Reads text_lines (λ bytes. IsSmall (length bytes)) Any length text.now (seen result) }
+    ensures text { IfSome result (λ r. Begins IsText text.now r.0 r.1.now) }
     ensures small { IfSome result (λ r. IsSmall r.0) }
 {
     let (len, rest) = next_count(behind(text, b"  ")?)?;
@@ -46,7 +48,8 @@ fn text_len(text: &[u8]) -> Option<(u64, &[u8])>
 
 /// What so many texts need, and what is behind their lines.
 fn count_texts(text: &[u8], count: u64) -> Option<(Needs, &[u8])>
-    ensures { Reads (flat_map text_lines) (AreTexts count) Any (all_needs text_needs) text.now (seen result) }
+    ensures value { Reads (flat_map text_lines) (AreTexts count) Any (all_needs text_needs) text.now (seen result) }
+    ensures asks { IfSome result (λ r. Begins (AskTogether AsksText count) text.now r.0 r.1.now) }
 {
     let mut rest = text;
     let mut needs = only_room(0);
@@ -71,7 +74,8 @@ fn text_needs(len: u64) -> Needs
 
 /// What the texts among the elements of an object need, and what is behind its lines.
 fn count_content(text: &[u8], kind: Kind, count: u64) -> Option<(Needs, &[u8])>
-    ensures { Reads content_text (IsContent kind count) Any texts_needs text.now (seen result) }
+    ensures value { Reads content_text (IsContent kind count) Any texts_needs text.now (seen result) }
+    ensures asks { IfSome result (λ r. Begins (AsksContent kind count) text.now r.0 r.1.now) }
 {
     match kind {
         Kind::Scalar(_) => skip(text, count),
@@ -84,14 +88,16 @@ fn count_content(text: &[u8], kind: Kind, count: u64) -> Option<(Needs, &[u8])>
 
 /// What is behind so many lines, which need nothing.
 fn skip(text: &[u8], count: u64) -> Option<(Needs, &[u8])>
-    ensures { Reads lines_text (AreLines count) Any (λ lines. nothing) text.now (seen result) }
+    ensures value { Reads lines_text (AreLines count) Any (λ lines. nothing) text.now (seen result) }
+    ensures asks { IfSome result (λ r. Begins (AsksNothing count) text.now r.0 r.1.now) }
 {
     Some((only_room(0), behind_lines(text, count)?))
 }
 
 /// What a string needs, and what is behind its lines.
 fn count_string(text: &[u8]) -> Option<(Needs, &[u8])>
-    ensures { Reads text_lines (λ bytes. IsSmall (length bytes)) Any (λ bytes. only_room (block_room (length bytes))) text.now (seen result) }
+    ensures value { Reads text_lines (λ bytes. IsSmall (length bytes)) Any (λ bytes. only_room (block_room (length bytes))) text.now (seen result) }
+    ensures asks { IfSome result (λ r. Begins AsksString text.now r.0 r.1.now) }
 {
     let (len, rest) = text_len(text)?;
     Some((only_room(block_room(len)), rest))
@@ -99,7 +105,8 @@ fn count_string(text: &[u8]) -> Option<(Needs, &[u8])>
 
 /// What an object needs, and what is behind its lines.
 fn count_object(text: &[u8]) -> Option<(Needs, &[u8])>
-    ensures { Reads item_text IsCountable Any item_needs text.now (seen result) }
+    ensures value { Reads item_text IsCountable Any item_needs text.now (seen result) }
+    ensures asks { IfSome result (λ r. Begins AsksObject text.now r.0 r.1.now) }
 {
     let (name_len, rest) = behind_lead(text)?;
     let ((kind, count), rest) = next_measure(rest)?;
@@ -118,7 +125,8 @@ fn is_end(text: &[u8]) -> bool
 
 /// What all objects need, up to the line `end`; or how many bytes are left from the first line on that cannot be read.
 fn count_objects(text: &[u8]) -> Result<Needs, usize>
-    ensures { CountsObjects text.now result }
+    ensures counts { CountsObjects text.now result }
+    ensures asks { IfOk result (HasObjects text.now) }
 {
     let mut rest = text;
     let mut needs = only_room(0);

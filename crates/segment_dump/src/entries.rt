@@ -4,7 +4,7 @@ ghost use Rattle.raw_region.specs.Device.{Writes};
 ghost use Rattle.seg_types.specs.Names.{ByHandle};
 ghost use Rattle.segment_manager.specs.objects.Instances.{SaysOf};
 ghost use Rattle.segment_dump.specs.Owed.{WritesOf, text_at};
-ghost use Rattle.segment_dump.specs.Texts.{head_line};
+ghost use Rattle.segment_dump.specs.Texts.{head_line, told_line};
 
 use crate::layouts::InLines;
 use crate::objects::Telling;
@@ -51,35 +51,44 @@ fn put_head<W: Sink>(said: Instance<'_>, count: u64, out: &mut W) -> Result<(), 
     ensures { Writes (W.history out.old) (W.history out.new) result (head_line said.entry.class said.entry.name.now said.entry.kind count) }
 {
     match said.class {
+        Class::Named => put_line(b"named ", said, b" ", count, out),
+        Class::Unique => put_line(b"unique ", said, b" ", count, out),
+        Class::Anonymous => put_line(b"anonymous ", said, b" ", count, out),
+    }
+}
+
+/// Writes a line that tells an object: some bytes, its name where it has one, its kind, more bytes, and a number.
+pub(crate) fn put_line<'a, W: Sink>(
+    lead: &'a [u8],
+    said: Instance<'a>,
+    between: &'a [u8],
+    number: u64,
+    out: &mut W,
+) -> Result<(), DeviceFault>
+    requires { (W.history out.old).failures < 2 ^ 64 - 1 }
+    ensures { Writes (W.history out.old) (W.history out.new) result
+        (told_line lead.now said.entry.class said.entry.name.now said.entry.kind between.now number) }
+{
+    match said.class {
         Class::Named => put_pieces(
             out,
             &[
-                Piece::Bytes(b"named "),
+                Piece::Bytes(lead),
                 Piece::Name(said.name),
                 Piece::Bytes(b" "),
                 Piece::Kind(said.kind),
-                Piece::Bytes(b" "),
-                Piece::Number(count),
+                Piece::Bytes(between),
+                Piece::Number(number),
                 Piece::Bytes(b"\n"),
             ],
         ),
-        Class::Unique => put_pieces(
+        Class::Unique | Class::Anonymous => put_pieces(
             out,
             &[
-                Piece::Bytes(b"unique "),
+                Piece::Bytes(lead),
                 Piece::Kind(said.kind),
-                Piece::Bytes(b" "),
-                Piece::Number(count),
-                Piece::Bytes(b"\n"),
-            ],
-        ),
-        Class::Anonymous => put_pieces(
-            out,
-            &[
-                Piece::Bytes(b"anonymous "),
-                Piece::Kind(said.kind),
-                Piece::Bytes(b" "),
-                Piece::Number(count),
+                Piece::Bytes(between),
+                Piece::Number(number),
                 Piece::Bytes(b"\n"),
             ],
         ),

@@ -3,6 +3,7 @@
 ghost use Rattle.std.specs.Prelude.{◌≡◌, ◌≢◌, ◌<◌, ◌≤◌, ◌^◌, ◌++◌, ℕ, List, length, IfSome, MatchOption};
 ghost use Rattle.seg_types.specs.Texts.{item_text, kind_text, name_text};
 ghost use Rattle.segment_lang.specs.Texts.{number_text};
+ghost use Rattle.segment_dump.specs.Asked.{Begins, CanName, IsLined, IsMeasured, NamesKind};
 ghost use Rattle.segment_dump.specs.Leads.{AreEntries, IsLead, IsMeasure, IsSmall, closed_text, entries_text, lead_text, measured};
 ghost use Rattle.segment_dump.specs.Reads.{Any, AreLines, Breaks, HasNoEnd, IsWord, Reads, Skips, ended, itself, lines_text, seen, seen_rest};
 
@@ -19,7 +20,8 @@ pub fn behind<'a>(text: &'a [u8], lead: &[u8]) -> Option<&'a [u8]>
 
 /// What is behind a line and its end.
 fn behind_line(text: &[u8]) -> Option<&[u8]>
-    ensures { Skips ended HasNoEnd text.now (seen_rest result) }
+    ensures skips { Skips ended HasNoEnd text.now (seen_rest result) }
+    ensures lined { IfSome result (λ r. Begins IsLined text.now 1 r.now) }
 {
     let mut rest = text;
     'bytes: while let [first, tail @ ..] = rest {
@@ -33,7 +35,8 @@ fn behind_line(text: &[u8]) -> Option<&[u8]>
 
 /// What is behind so many lines.
 pub fn behind_lines(text: &[u8], count: u64) -> Option<&[u8]>
-    ensures { Skips lines_text (AreLines count) text.now (seen_rest result) }
+    ensures skips { Skips lines_text (AreLines count) text.now (seen_rest result) }
+    ensures lined { IfSome result (λ r. Begins IsLined text.now count r.now) }
 {
     let mut rest = text;
     'lines: for _ in 0..count {
@@ -84,7 +87,8 @@ pub fn next_count(text: &[u8]) -> Option<(u64, &[u8])>
 
 /// The kind in front, and what is behind it.
 fn next_kind(text: &[u8]) -> Option<(Kind, &[u8])>
-    ensures { Reads kind_text Any Breaks itself text.now (seen result) }
+    ensures value { Reads kind_text Any Breaks itself text.now (seen result) }
+    ensures named { IfSome result (λ r. Begins NamesKind text.now r.0 r.1.now) }
 {
     let (word, rest) = next_word(text);
     let kind = kind_of_word(Word::Bare(word))?;
@@ -93,7 +97,8 @@ fn next_kind(text: &[u8]) -> Option<(Kind, &[u8])>
 
 /// What is behind the spelling of a byte of a text in quotes.
 fn behind_byte(text: &[u8]) -> Option<&[u8]>
-    ensures { Skips item_text Any text.now (seen_rest result) }
+    ensures skips { Skips item_text Any text.now (seen_rest result) }
+    ensures some { IfSome result (λ r. Begins CanName text.now 1 r.now) }
 {
     match text {
         [b'\\', b'x', _, _, rest @ ..] => Some(rest),
@@ -106,6 +111,7 @@ fn behind_byte(text: &[u8]) -> Option<&[u8]>
 /// How many bytes a text in quotes has, behind the quote that opens it, and what is behind the quote that closes it.
 fn quoted_len(text: &[u8]) -> Option<(u64, &[u8])>
     ensures value { Reads closed_text (λ bytes. IsSmall (length bytes)) Any length text.now (seen result) }
+    ensures long { IfSome result (λ r. Begins CanName text.now r.0 r.1.now) }
     ensures small { IfSome result (λ r. IsSmall r.0) }
 {
     let mut rest = text;
@@ -121,6 +127,7 @@ fn quoted_len(text: &[u8]) -> Option<(u64, &[u8])>
 /// How many bytes the name in front has, and what is behind it.
 fn name_len(text: &[u8]) -> Option<(u64, &[u8])>
     ensures value { Reads name_text (λ name. IsSmall (length name)) Breaks length text.now (seen result) }
+    ensures long { IfSome result (λ r. Begins CanName text.now r.0 r.1.now) }
     ensures small { IfSome result (λ r. IsSmall r.0) }
 {
     if let Some(rest) = behind(text, b"\"") {
@@ -137,6 +144,7 @@ fn name_len(text: &[u8]) -> Option<(u64, &[u8])>
 /// What is behind the class of an object and its name, and how many bytes that has.
 pub fn behind_lead(text: &[u8]) -> Option<(u64, &[u8])>
     ensures value { Reads lead_text IsLead Any (λ lead. length lead.1) text.now (seen result) }
+    ensures long { IfSome result (λ r. Begins CanName text.now r.0 r.1.now) }
     ensures small { IfSome result (λ r. IsSmall r.0) }
 {
     if let Some(rest) = behind(text, b"named ") {
@@ -152,6 +160,7 @@ pub fn behind_lead(text: &[u8]) -> Option<(u64, &[u8])>
 /// The kind of an object and how many elements it has, and what is behind the end of its line.
 pub fn next_measure(text: &[u8]) -> Option<((Kind, u64), &[u8])>
     ensures value { Reads measured IsMeasure Any itself text.now (seen result) }
+    ensures measured { IfSome result (λ r. Begins IsMeasured text.now r.0 r.1.now) }
     ensures small { IfSome result (λ r. IsSmall r.0.1) }
 {
     let (kind, rest) = next_kind(text)?;

@@ -2,6 +2,7 @@
 ghost use Rattle.std.specs.Prelude.{◌≡◌, ◌+◌, ◌^◌, ◌<◌, ◌≤◌};
 ghost use Rattle.seg_types.specs.Kinds.{size_of};
 ghost use Rattle.seg_map.specs.Map.{node_len};
+ghost use Rattle.segment_dump.specs.Asked.{AreAtMost};
 ghost use Rattle.segment_dump.specs.Need.{block_room, body_len, both, elements_room, front_room, object_room, only_room};
 
 use seg_types::{Kind, ScalarKind};
@@ -22,7 +23,8 @@ pub struct Needs {
 impl Needs {
     /// What these and those need together.
     pub fn and(self, other: Needs) -> Needs
-        ensures { self.room + other.room < 2 ^ 64 → result ≡ both self other }
+        ensures sum { self.room + other.room < 2 ^ 64 → result ≡ both self other }
+        ensures most { AreAtMost result (both self other) }
     {
         Needs {
             room: self.room.saturating_add(other.room),

@@ -1,22 +1,35 @@
-use Rattle.segment_dump.proofs.Common.{◌≡◌, ◌++◌, List, ℕ, length, sym, arith, ◌∙◌, false≢true, end_text}
+use Rattle.segment_dump.proofs.Common.{◌≡◌, ◌++◌, List, ℕ, length, sym, subst, arith, ◌∙◌, false≢true, end_text}
+use Rattle.segment_dump.specs.Asked.{AskTogether, AsksObject, Begins}
+use Rattle.segment_dump.proofs.Askings.{more-asks, none-asks}
 use Rattle.segment_dump.proofs.DumpCounts.{objects-cut, objects-end, objects-long, objects-more, objects-start}
 use Rattle.segment_dump.proofs.counting.count_objects.Goals as goal
 
 pub objects-init : goal.objects-init
-objects-init c = objects-start c.args.text.now c.only_room-needs.result c.only_room-needs.ensures
+objects-init c = record {
+  left = objects-start c.args.text.now c.only_room-needs.result c.only_room-needs.ensures;
+  asks = none-asks AsksObject c.args.text.now c.only_room-needs.result c.only_room-needs.ensures;
+}
 
-pub returns-then-is_end : goal.returns-then-is_end
-returns-then-is_end c = let at = c.if-is_end.ensures.yes in objects-end c.args.text.now c.objects.rest.now at.0 c.objects.needs c.objects.counter at.1 c.objects.invariant
+pub returns-then-is_end-clause-counts : goal.returns-then-is_end-clause-counts
+returns-then-is_end-clause-counts c = let at = c.if-is_end.ensures.yes in objects-end c.args.text.now c.objects.rest.now at.0 c.objects.needs c.objects.counter at.1 c.objects.invariant.left
 
-pub returns-in_default : goal.returns-in_default
-returns-in_default c =
+pub returns-in_default-clause-counts : goal.returns-in_default-clause-counts
+returns-in_default-clause-counts c =
     let never : (x : List ℕ) → c.objects.rest.now ≡ end_text ++ x → ⊥ = λ x e. false≢true (sym c.if-is_end.false ∙ c.is_end.ensures.always x e) in
-    objects-cut c.args.text.now c.objects.rest.now c.objects.needs c.objects.counter (length c.objects.rest.now) never c.objects.invariant c.in_default.ensures
+    objects-cut c.args.text.now c.objects.rest.now c.objects.needs c.objects.counter (length c.objects.rest.now) never c.objects.invariant.left c.in_default.ensures.value
 
 pub objects-preserved : goal.objects-preserved
 objects-preserved c =
     let never : (x : List ℕ) → c.objects.rest.now ≡ end_text ++ x → ⊥ = λ x e. false≢true (sym c.if-is_end.false ∙ c.is_end.ensures.always x e) in
-    objects-more c.args.text.now c.objects.rest.now c.objects.needs c.in-Some.more c.and-needs.result c.objects.counter c.in-Some.behind.now never c.objects.invariant c.in-Some.ensures c.and-needs.ensures
+    record {
+      left = objects-more c.args.text.now c.objects.rest.now c.objects.needs c.in-Some.more c.and-needs.result c.objects.counter c.in-Some.behind.now never c.objects.invariant.left c.in-Some.ensures.value c.and-needs.ensures.sum;
+      asks = more-asks AsksObject c.args.text.now c.objects.rest.now c.in-Some.behind.now c.objects.counter c.objects.needs c.in-Some.more c.and-needs.result c.objects.invariant.asks c.in-Some.ensures.asks c.and-needs.ensures.most;
+    }
 
-pub returns : goal.returns
-returns c = objects-long c.args.text.now c.objects.rest.now c.objects.needs c.objects.counter (length c.objects.rest.now) (omega (arith, c.objects-test.false)) c.objects.invariant
+pub returns-clause-counts : goal.returns-clause-counts
+returns-clause-counts c = objects-long c.args.text.now c.objects.rest.now c.objects.needs c.objects.counter (length c.objects.rest.now) (omega (arith, c.objects-test.false)) c.objects.invariant.left
+
+pub returns-then-is_end-clause-asks : goal.returns-then-is_end-clause-asks
+returns-then-is_end-clause-asks c =
+    let at = c.if-is_end.ensures.yes in
+    record { count = c.objects.counter; behind = at.0; begins = subst (λ (rest : List ℕ). Begins (AskTogether AsksObject c.objects.counter) c.args.text.now c.objects.needs rest) at.1 c.objects.invariant.asks }

@@ -1,4 +1,5 @@
 use Rattle.segment_dump.proofs.Common.{length, Some, None, sym, Any, text_lines}
+use Rattle.segment_dump.proofs.Askings.{text-by}
 use Rattle.segment_dump.proofs.Counts.{IsShort, text-none, text-some}
 use Rattle.segment_dump.proofs.Readers.{as-seen}
 use Rattle.segment_dump.proofs.counting.text_len.Goals as goal
@@ -11,9 +12,14 @@ returns-in_err-len-clause-value c =
 pub returns-in_err-behind_lines-clause-value : goal.returns-in_err-behind_lines-clause-value
 returns-in_err-behind_lines-clause-value c =
     as-seen text_lines IsShort Any length c.args.text.now None c.from_residual-in_err-behind_lines.result (sym c.from_residual-in_err-behind_lines.ensures)
-    (text-some c.args.text.now c.in_ok-behind.field-0.now c.in_ok-len.len c.in_ok-len.rest.now c.pieces_in.result None c.in_ok-behind.ensures c.in_ok-len.ensures.value c.pieces_in.ensures c.in_err-behind_lines.ensures)
+    (text-some c.args.text.now c.in_ok-behind.field-0.now c.in_ok-len.len c.in_ok-len.rest.now c.pieces_in.result None c.in_ok-behind.ensures c.in_ok-len.ensures.value c.pieces_in.ensures c.in_err-behind_lines.ensures.skips)
 
 pub returns-clause-value : goal.returns-clause-value
 returns-clause-value c =
     text-some c.args.text.now c.in_ok-behind.field-0.now c.in_ok-len.len c.in_ok-len.rest.now c.pieces_in.result (Some c.in_ok-behind_lines.field-0.now) c.in_ok-behind.ensures c.in_ok-len.ensures.value c.pieces_in.ensures
-    c.in_ok-behind_lines.ensures
+    c.in_ok-behind_lines.ensures.skips
+
+pub returns-clause-text : goal.returns-clause-text
+returns-clause-text c =
+    text-by c.args.text.now c.in_ok-behind.field-0.now c.in_ok-len.rest.now c.in_ok-behind_lines.field-0.now c.in_ok-len.len c.pieces_in.result c.in_ok-behind.ensures c.in_ok-len.ensures.spelled c.pieces_in.ensures
+    c.in_ok-behind_lines.ensures.lined

@@ -1,9 +1,10 @@
 use Rattle.segment_dump.proofs.Common.{length}
+use Rattle.segment_dump.proofs.Askings.{InFirst}
 use Rattle.segment_dump.proofs.Readers.{InLine}
 use Rattle.segment_dump.proofs.front_reading.behind_line.Given as goal
 
 abbrev pub invariant-bytes : goal.invariant-bytes
-invariant-bytes l = InLine l.text l.rest
+invariant-bytes l = record { skips : InLine l.text l.rest; first : InFirst l.text l.rest }
 
 abbrev pub decreases-bytes : goal.decreases-bytes
 decreases-bytes l = length l.rest

@@ -105,6 +105,7 @@ module _ {D : Type 0} (step : D → Event → D → Type 0) (old new : D) (path 
   abbrev pub OpensHeld : Result State FileError → Type 0
   OpensHeld result = IsFileInUse result ⊎ IsHeldOpening result
 
+module _ {D : Type 0} (step : D → Event → D → Type 0) (old new : D) (path : List ℕ) where
   -- something is there under the path, and nothing else was asked
   pub record IsThere {A : Type 0} (result : Result A FileError) : Type 0 where
     pub asked : After step old (Looked path There ∷ []) new

@@ -1,16 +1,16 @@
 //! Words, and what they spell. Whole lines are read, and answers printed, by the rows of `crates/rows/data`.
 use crate::checks::{holds, same};
 use seg_types::Key;
-use segment_lang::{Command, Literal, Text, Word, next_word, number_of, only_word, whole_of};
+use segment_lang::{Deed, Literal, Text, Word, next_word, number_of, only_word, whole_of};
 use std::mem::size_of;
 use std::process::Abort;
 
-// A command is moved as it is, so it is small.
+// A deed is moved as it is, so it is small.
 const _: () = prove!(size_of::<Key<'static>>() <= 24);
 
 const _: () = prove!(size_of::<Literal<'static>>() <= 24);
 
-const _: () = prove!(size_of::<Command<'static>>() <= 64);
+const _: () = prove!(size_of::<Deed<'static>>() <= 64);
 
 /// The whole number that a word spells.
 fn whole(word: &[u8]) -> Option<i128> {
@@ -71,5 +71,8 @@ fn a_text_grows(rt: HostRuntime) {
     let mut text = Text::new();
     holds(&rt, text.is_empty());
     text.push(b'x');
-    same(&rt, text.len(), 1);
+    text.extend(b"yz");
+    same(&rt, text.len(), 3);
+    text.clear();
+    holds(&rt, text.as_slice().is_empty());
 }

@@ -1,11 +1,13 @@
 -- The extents of a directory, which are proper at its size, are so at larger sizes, and at the least one that is not
 -- before their end.
-use Rattle.std.proofs.Common.{◌≡◌, subst, ℕ, ◌+◌, ◌-◌, ◌%◌, ◌≤◌, ◌⊎◌, inl, inr, ◌&&◌, List, [], ◌∷◌, arith, nat_le, ◌==◌, IsTrue}
+use Rattle.std.proofs.Common.{◌≡◌, ◌∙◌, subst, length, ℕ, ◌+◌, ◌-◌, ◌%◌, ◌≤◌, ◌⊎◌, inl, inr, ◌&&◌, List, [], ◌∷◌, arith, nat_le, ◌==◌, IsTrue}
 use Rattle.std.proofs.lemmas.Bool.{and_parts, and_from, or_left, or_right, eq-eqb, le-leb}
 use Rattle.block_tags.specs.Format.{is_legal_size}
 use Rattle.best_fit.specs.Extents.{Extent, end_of, is_proper, proper_from}
 use Rattle.best_fit.proofs.Laws.{IsBlock, IsFirst, IsFirst-proper_from, IsHole, IsLegal, is_hole-IsHole, legal_size, proper_from-IsFirst}
 use Rattle.segment_manager.specs.Directory.{Directory, live}
+use Rattle.segment_manager.specs.State.{IsSegment}
+use Rattle.segment_manager.proofs.Laws.{live-size}
 use Rattle.best_fit.specs.Ends.{last_end}
 use Rattle.grow_shrink.specs.Resized.{GrownIsDirectory, ShrunkIsDirectory, ShrunkIsLeast}
 
@@ -83,6 +85,14 @@ unfolding is_proper live
 proper d h =
     let parts = and_parts (is_legal_size d.size) (proper_from 128 (live d).extents (d.size - 16)) h in
     record { whole_size = legal_size d.size parts.0; list = parts.1 }
+
+-- the bytes that denote a directory are no more than those of the largest segment
+pub segment-most : (b : List ℕ) → IsSegment b → length b ≤ 1073741824
+segment-most b (d, h) =
+    let p = proper d h.denotes.directory.proper in
+    let high = p.whole_size.high in
+    let same = h.denotes.heap.size ∙ live-size d in
+    omega (arith, high, same)
 
 -- the directory at another size where its live set is proper
 at_size : (d : Directory) (size : ℕ) → IsTrue (is_legal_size size) → IsTrue (proper_from 128 (live d).extents (size - 16)) → IsTrue (is_proper (live (record d { size = size })))

@@ -75,6 +75,7 @@ pub fn grow_or_move(alloc: Global, segment: &mut Segment, extra: u64) -> Result<
 /// Returns the number of bytes of a segment, which denote a directory.
 pub fn size_of(segment: &Segment) -> u64
     ensures size { result ≡ length segment.now.cut.bytes }
+    ensures most { result ≤ 1073741824 }
     ensures denotes { IsSegment segment.now.cut.bytes }
 {
     segment.as_bytes().len() as u64

@@ -88,6 +88,11 @@ undecided_by : (short : Bool) → decided_by short true true true ≡ None
 undecided_by true = refl
 undecided_by false = refl
 
+-- fewer than 144 bytes decide none
+pub few-undecided : (format : ℕ) (b : List ℕ) → length b < 144 → decided format b ≡ None
+unfolding decided
+few-undecided format b few = rw (below (length b) 144 few) refl
+
 module _ (format : ℕ) (b : List ℕ) (said : ℕ) (s : Says format b said) where
   words : (has_magic b ≡ true) × (has_version format b ≡ true)
   words = and_parts (has_magic b) (has_version format b) (and_parts (has_magic b && has_version format b) (is_legal_size (size_word b)) s.front).0

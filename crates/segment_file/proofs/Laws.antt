@@ -1,20 +1,17 @@
 -- What holds of segments that are read from files, for other crates.
-use Rattle.std.proofs.Common.{◌≡◌, ◌<◌, ◌≤◌, ℕ, ◌+◌, ◌-◌, List, length, drop, max, Err, sym, ap, subst, ◌∙◌, arith}
+use Rattle.std.proofs.Common.{◌≡◌, ◌≤◌, ℕ, ◌+◌, ◌++◌, length, drop, max, Err, sym, ap, subst, arith}
 use Rattle.std.proofs.Math.Nat.{le-max_right}
 use Rattle.std.proofs.lemmas.List.{length-append, length-drop}
 use Rattle.raw_region.specs.Device.{Given}
-use Rattle.raw_region.specs.Format.{current}
-use Rattle.raw_region.specs.Memory.{SamePlace, cut_at}
 use Rattle.segment_manager.specs.declared.modes.Mode.{Mode}
-use Rattle.segment_manager.specs.State.{IsSegment, State, StandsFor}
+use Rattle.segment_manager.specs.State.{IsSegment, State}
 use Rattle.image_check.specs.declared.versions.Versions.{Versions}
 use Rattle.image_check.specs.declared.versions.Versions.TheVariants.{Current}
 use Rattle.image_check.specs.EarlyTests.{size_word}
 use Rattle.image_check.specs.Formats.{format_in}
-use Rattle.image_check.specs.Opening.{IsImage, IsTooSmallFor}
+use Rattle.image_check.specs.Opening.{IsTooSmallFor}
 use Rattle.grow_shrink.specs.declared.refusals.GrowError.{GrowError}
 use Rattle.grow_shrink.specs.declared.refusals.GrowError.TheVariants.{RegionTooSmall}
-use Rattle.grow_shrink.specs.LargerRegion.{region_len}
 use Rattle.grow_shrink.specs.Resized.{IsRefusedBy, growth_refusal, room_of}
 use Rattle.grow_shrink.proofs.ShortRegions.{short_of_room}
 use Rattle.segment_file.specs.Opening.{IsRead}
@@ -41,12 +38,11 @@ module _ (len extra : ℕ) (mode : Mode) (image : Given) (s : State) (r : IsRead
 
   room-is : length s.cut.bytes ≤ length r.region → room_of s.cut ≡ length r.region
   room-is fits =
-      let before = ap length r.opened.place.before in
-      let after = ap length r.opened.place.after ∙ length-drop (length image.bytes) r.region in
+      let before : length s.cut.before ≡ 0 = ap length r.opened.place.before in
+      let after : length s.cut.after ≡ length (drop (0 + length image.bytes) r.region) = ap length r.opened.place.after in
+      let left = length-drop (0 + length image.bytes) r.region in
       let same = ap length r.opened.bytes in
-      let first = length-append s.cut.before s.cut.bytes in
-      let whole = length-append (s.cut.before) (s.cut.bytes) in
-      omega (arith, before, after, same, fits, length-append s.cut.bytes s.cut.after)
+      omega (arith, before, after, left, same, fits, length-append (s.cut.before ++ s.cut.bytes) s.cut.after, length-append s.cut.before s.cut.bytes)
 
   pub grows-in-place : (error : GrowError) → IsRefusedBy s (Err error) (λ d. growth_refusal s.mode d.size extra (room_of s.cut)) → error ≡ RegionTooSmall → ⊥
   grows-in-place error refused is =

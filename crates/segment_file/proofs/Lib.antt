@@ -2,6 +2,7 @@ mod Kept
 mod Rooms
 mod Fronts
 mod Unopened
+mod Unfits
 mod ReadOn
 pub mod Laws
 mod Written

@@ -107,8 +107,41 @@ module _ (versions : Versions) (old new : Gave) (len more : ℕ) (grows : Grows 
       → IsWhyUnopened (format_in versions new.bytes) (file_region len more new.bytes) (given_since nothing_given new) (unfit_error unfit)
   unread-on unfit why = not-whole (format_in versions new.bytes) new (size_word old.bytes) says-on (file_region len more new.bytes) unfit fits-on why
 
--- ---- bytes that lie in memory
+  -- all of it was read
+  module _ (text : List ℕ) (w : IsWhole (size_word old.bytes) new text) where
+    pub given-text : given_since nothing_given new ≡ as_given text
+    given-text = rw (w.up_to.bytes_are, w.ended, w.up_to.sound) refl
 
--- a reader that gave all of a text gave what the text is
-pub given-text : (said : ℕ) (new : Gave) (text : List ℕ) → IsWhole said new text → given_since nothing_given new ≡ as_given text
-given-text said new text w = rw (w.up_to.bytes_are, w.ended, w.up_to.sound) refl
+    as-said : length text ≡ size_word old.bytes
+    as-said = w.long
+
+    -- there was no memory for its region
+    pub unroomed-on : IsWhyUnopened (format_in versions new.bytes) (file_region len more new.bytes) (given_since nothing_given new) (OutOfMemory (Bytes (refusal_of (region_len (length text + more)))))
+    unroomed-on =
+        let same = room-on in
+        let long = w.long in
+        let is = ap length w.up_to.bytes_are in
+        record {
+          yet = inl (record {
+            sound = rw w.up_to.sound refl;
+            undecided = undecided (format_in versions new.bytes) new.bytes (size_word old.bytes) says-on (omega (arith, long, is));
+          });
+          asked = region_len (length text + more);
+          within = let moved : region_len (length text + more) ≡ region_len (size_word old.bytes + more) = ap (λ (n : ℕ). region_len (n + more)) long in omega (arith, same, moved);
+          refused = refl;
+        }
+
+    -- or there is a region
+    module _ (region : List ℕ) (room : length region ≡ region_len (length text + more)) where
+      pub room-text : length region ≡ file_region len more text
+      room-text =
+          room ∙ (ap (λ (n : ℕ). region_len (n + more)) w.long ∙ (room-on ∙ ap (file_region len more) w.up_to.bytes_are))
+
+      pub text-fits : IsTooSmallFor (format_in versions text) (as_given text) 0 (length region) → ⊥
+      text-fits t =
+          let most = said-most (format_in versions old.bytes) old.bytes (size_word old.bytes) old-says in
+          let long = w.long in
+          let holds = region-holds (size_word old.bytes) (length text + more) most (omega (arith, long)) in
+          let says : size_word text ≡ size_word old.bytes = subst (λ (b : List ℕ). size_word b ≡ size_word old.bytes) w.up_to.bytes_are says-on.size in
+          let small = t.small in
+          omega (arith, holds, room, small, says)

@@ -1,6 +1,9 @@
 -- What a call of image_check answers of an image, and that its refusals are those of a file.
-use Rattle.std.proofs.Common.{◌≡◌, ◌⊎◌, ℕ, ◌+◌, inl, inr, List, length, Option, Some, None, Result, Ok, Err, refl, sym, ap, subst, ◌∙◌, arith}
-use Rattle.raw_region.specs.Device.{Given}
+use Rattle.std.specs.Prelude.{IfErr}
+use Rattle.std.proofs.Math.Nat.{le-max_left}
+use Rattle.std.proofs.Common.{◌≡◌, ◌⊎◌, ℕ, ◌+◌, inl, inr, List, [], length, max, Option, Some, None, Result, Ok, Err, refl, sym, ap, subst, ◌∙◌, arith}
+use Rattle.raw_region.specs.Device.{Gave, Given, Reads, given_since}
+use Rattle.raw_region.specs.Refusals.{refusal_of}
 use Rattle.raw_region.specs.Format.{current}
 use Rattle.raw_region.specs.Memory.{SamePlace, cut_at}
 use Rattle.raw_region.specs.declared.refused_memory.OutOfMemory.{OutOfMemory as NoMemory}
@@ -14,16 +17,19 @@ use Rattle.image_check.specs.declared.versions.Versions.{Versions}
 use Rattle.image_check.specs.declared.versions.Versions.TheVariants.{Current, All}
 use Rattle.image_check.specs.EarlyTests.{size_word}
 use Rattle.image_check.specs.Formats.{format_in, format_of}
-use Rattle.image_check.specs.Opening.{IsImage, IsTooSmallFor, IsWhyNot}
+use Rattle.image_check.specs.Opening.{IsImage, IsTooSmallFor, IsWhyNot, ReadsFrontAlone, cause_of, failed_reads}
 use Rattle.image_check.specs.OpeningAny.{IsRenewed}
 use Rattle.image_check.specs.OpeningBytes.{OpensBytes, as_given}
 use Rattle.image_check.proofs.Facts.{why-by_format, why-given}
 use Rattle.grow_shrink.specs.LargerRegion.{region_len}
 use Rattle.segment_file.specs.declared.file_errors.FileError.{FileError}
 use Rattle.segment_file.specs.declared.file_errors.FileError.TheVariants.{Image, OutOfMemory, ReadFault}
-use Rattle.image_check.specs.declared.errors.MemoryFault.TheVariants.{BlockMap}
-use Rattle.segment_file.specs.Opening.{IsCramped, IsNarrow, IsOpenedBy, IsRead, IsWhyUnopened, IsWide, IsWholeImage, IsWithoutMemory, OpensAt, file_error, file_region}
-use Rattle.segment_file.proofs.Rooms.{room-as-said, room-as-told}
+use Rattle.image_check.specs.declared.errors.MemoryFault.TheVariants.{BlockMap, Bytes}
+use Rattle.segment_disk.specs.Events.{nothing_given}
+use Rattle.segment_file.specs.ReadingOn.{IsFrontGiven}
+use Rattle.segment_file.specs.Opening.{IsCramped, IsNarrow, IsOpenedBy, IsRead, IsWhyUnopened, IsWide, IsWholeImage, IsWithoutMemory, OpensAt, OpensImage, file_error, file_region}
+use Rattle.segment_file.proofs.Fronts.{few-undecided}
+use Rattle.segment_file.proofs.Rooms.{region-grows, room-as-said, room-as-told}
 
 -- ---- by the format that it says
 
@@ -68,10 +74,61 @@ roomless-by format capacity image NoRoom w e = w
 roomless-by format capacity image (NoBlocks refusal) w e = absurd (some_none (OutOfMemory (BlockMap refusal)) e)
 roomless-by format capacity image NotRead w e = absurd (some_none ReadFault e)
 
+pub no-error : (cause : OpenError) → file_error cause ≡ None → cause ≡ NoRoom
+no-error (NoImage c) e = absurd (some_none (Image c) e)
+no-error NoRoom e = refl
+no-error (NoBlocks refusal) e = absurd (some_none (OutOfMemory (BlockMap refusal)) e)
+no-error NotRead e = absurd (some_none ReadFault e)
+
+-- ---- the front alone
+
+-- a call that found no room gave the front, and no more
+pub front-alone : (A : Type 0) (new : Gave) (cause : OpenError) → (let result : Result A OpenError = Err cause in Reads nothing_given new (failed_reads result))
+    → (let result : Result A OpenError = Err cause in ReadsFrontAlone nothing_given new result) → cause ≡ NoRoom → IsFrontGiven new
+front-alone A new (NoImage c) r a is = absurd (cc)
+front-alone A new NoRoom r a is = record { long = a refl; sound = r.counted }
+front-alone A new (NoBlocks refusal) r a is = absurd (cc)
+front-alone A new NotRead r a is = absurd (cc)
+
+pub alone-opened : (new : Gave) (result : Result State OpenRefused) → Reads nothing_given new (failed_reads (cause_of result)) → ReadsFrontAlone nothing_given new (cause_of result)
+    → IfErr result (λ refused. refused.cause ≡ NoRoom → IsFrontGiven new)
+alone-opened new (Ok s) r a = tt
+alone-opened new (Err refused) r a = front-alone State new refused.cause r a
+
 -- ---- its segment
 
 pub image-size : (format : ℕ) (b : List ℕ) → IsImage format b → size_word b ≡ length b
 image-size format b i = i.1.header.size_word ∙ (sym (i.1.heap.size ∙ live-size i.0))
+
+-- ---- an answer of a file
+
+module _ (versions : Versions) (more : ℕ) (mode : Mode) (len : ℕ) (image : Given) (region : List ℕ) where
+  abbrev Answer : Result State FileError → Type 0
+  Answer = OpensImage versions more mode len image
+
+  -- a refusal that is not for want of room
+  pub not-opened : (refused : OpenRefused) (error : FileError) → OpensAt versions image region mode (Err refused) → file_error refused.cause ≡ Some error → Answer (Err error)
+  not-opened refused error o e =
+      unopened-by (format_in versions image.bytes) (file_region len more image.bytes) (length region) image refused.cause error (why-at versions image region mode refused o) e
+
+  -- and one that is
+  pub no-place : (refused : OpenRefused) → OpensAt versions image region mode (Err refused) → file_error refused.cause ≡ None → IsTooSmallFor (format_in versions image.bytes) image 0 (length region)
+  no-place refused o e = roomless-by (format_in versions image.bytes) (length region) image refused.cause (why-at versions image region mode refused o) e
+
+  -- a segment in a region with room for what the image says
+  pub is-opened : (s : State) → length region ≡ file_region len more image.bytes → OpensAt versions image region mode (Ok s) → Answer (Ok s)
+  is-opened s room o = record { region = region; room = room; opened = opened-at versions image region mode s o }
+
+-- memory was refused before the image was read
+pub unread-image : (versions : Versions) (more : ℕ) (mode : Mode) (len : ℕ) (error : FileError) → error ≡ OutOfMemory (Bytes (refusal_of (region_len (len + more))))
+    → OpensImage versions more mode len (given_since nothing_given nothing_given) (Err error)
+unread-image versions more mode len error e =
+    subst (λ (f : FileError). OpensImage versions more mode len (given_since nothing_given nothing_given) (Err f)) (sym e) (record {
+      yet = inl (record { sound = refl; undecided = few-undecided (format_in versions []) [] (omega arith) });
+      asked = region_len (len + more);
+      within = region-grows (len + more) (max len (size_word []) + more) (let told = le-max_left len (size_word []) in omega (arith, told));
+      refused = refl;
+    })
 
 module _ (image : Given) (region : List ℕ) (mode : Mode) (s : State) where
   pub as-long : (versions : Versions) → IsOpenedBy versions image region mode s → length s.cut.bytes ≡ size_word image.bytes

@@ -1,5 +1,5 @@
 -- A segment with the path of its file: what the disk is asked, in order, and what becomes of the segment.
-use Rattle.std.specs.Prelude.{◌≡◌, ◌≢◌, ◌⊎◌, ℕ, false, List, [], ◌∷◌, length, IsTrue, string_bytes}
+use Rattle.std.specs.Prelude.{◌≡◌, ◌≢◌, ◌⊎◌, ℕ, true, false, List, [], ◌∷◌, length, IsTrue, string_bytes}
 use Rattle.std.specs.Prelude.{Some, None, Result, Ok, Err, IfErr, MatchResult}
 use Rattle.raw_region.specs.Refusals.{refusal_of}
 use Rattle.block_tags.specs.Format.{is_legal_size}
@@ -105,6 +105,7 @@ module _ {D : Type 0} (step : D → Event → D → Type 0) (old new : D) (path 
   abbrev pub OpensHeld : Result State FileError → Type 0
   OpensHeld result = IsFileInUse result ⊎ IsHeldOpening result
 
+module _ {D : Type 0} (step : D → Event → D → Type 0) (old new : D) (path : List ℕ) where
   -- something is there under the path, and nothing else was asked
   pub record IsThere {A : Type 0} (result : Result A FileError) : Type 0 where
     pub asked : After step old (Looked path There ∷ []) new

@@ -1,7 +1,7 @@
 use Rattle.std.proofs.Common.{◌-◌, ◌≤◌, length}
 use Rattle.raw_region.specs.Device.{Grows}
-use Rattle.segment_commands.specs.ReadingOn.{IsReadUpTo}
-use Rattle.segment_commands.proofs.reading_on.read_up_to.Given as goal
+use Rattle.segment_file.specs.ReadingOn.{IsReadUpTo}
+use Rattle.segment_file.proofs.reading_on.read_up_to.Given as goal
 
 abbrev pub invariant-pieces : goal.invariant-pieces
 invariant-pieces g l = record {

@@ -77,7 +77,7 @@ fn perform(rt: &HostRuntime, asked: &Invocation<'_>, is_verbose: bool) -> Result
     let status = tell(rt, fault);
     if is_of_file(fault) && is_verbose {
         if let Some((path, trouble)) = trouble_of(asked, &disk, &scripts) {
-            let _ = put_trouble(path, trouble, &mut Writing::new(rt.stderr()));
+            let _ = put_trouble(path, Some(trouble), &mut Writing::new(rt.stderr()));
         }
     }
     Ok(status)

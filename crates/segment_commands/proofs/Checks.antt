@@ -1,9 +1,10 @@
 -- What a check of several files found so far.
-use Rattle.std.proofs.Common.{◌≡◌, refl, sym, ap, subst, ◌∙◌, ℕ, Bool, List, [], ◌∷◌, ◌++◌, map, fold, max, append-nil, false, true, inl, inr, arith}
-use Rattle.std.specs.Prelude.{◌⊎◌, Option, Result, Ok, Err, MatchResult, flat_map}
+use Rattle.std.proofs.Common.{◌≡◌, ◌<◌, refl, sym, ap, subst, ◌∙◌, ℕ, suc, Bool, List, [], ◌∷◌, ◌++◌, map, fold, max, length, take, drop, get_or, append-nil, false, true, inl, inr, arith}
+use Rattle.std.specs.Prelude.{◌⊎◌, IsOk, Option, Result, Ok, Err, MatchResult, flat_map}
 use Rattle.std.specs.List.{FoldsTo}
 use Rattle.std.specs.Result.{IsErr}
-use Rattle.std.proofs.lemmas.List.{flat_map_more, map-append}
+use Rattle.std.proofs.lemmas.List.{flat_map_more, map-append, take-append-drop}
+use Rattle.std.proofs.Math.Seq.{take-suc}
 use Rattle.std.proofs.lemmas.List.Sums.{fold-append}
 use Rattle.raw_region.specs.Device.{Took, Writes}
 use Rattle.raw_region.proofs.Laws.{writes-cut, writes-then}
@@ -143,3 +144,18 @@ module _ {D O E : Type 0} (step : D → Event → D → Type 0) (history : O →
       unfit = puts err err' said (all_unfit_lines going.checked) going.unfit;
       answer = (refl, ([], sym (append-nil (map (λ (c : Checked). c.path) going.checked) ∙ going.named)), inr (all_told false flush));
     }
+
+-- ---- the paths of the files so far
+
+-- one that took its text, or took all so far, may fail once more where it might before
+pub room_left : {E : Type 0} (old new : Took) (said : Result (Unit {0}) E) (text : List ℕ) (n : ℕ) → Writes old new said text → old.failures < n → IsOk said → new.failures < n
+room_left old new (Ok u) text n w f h = (let counted = w.counted in omega (arith, counted, f))
+room_left old new (Err e) text n w f h = absurd (cc h)
+
+module _ {A : Type 0} (path_of : A → List ℕ) (files : List A) (i : ℕ) (d : A) (h : i < length files) where
+  pub paths-more : map path_of (take (suc i) files) ≡ map path_of (take i files) ++ path_of (get_or files i d) ∷ []
+  paths-more = ap (map path_of) (take-suc files i d h) ∙ map-append path_of (take i files) (get_or files i d ∷ [])
+
+  pub paths-rest : map path_of files ≡ (map path_of (take i files) ++ path_of (get_or files i d) ∷ []) ++ map path_of (drop (suc i) files)
+  paths-rest = ap (map path_of) (sym (take-append-drop (suc i) files)) ∙ (map-append path_of (take (suc i) files) (drop (suc i) files)
+      ∙ ap (λ (ps : List (List ℕ)). ps ++ map path_of (drop (suc i) files)) paths-more)

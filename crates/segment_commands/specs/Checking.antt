@@ -1,5 +1,5 @@
 -- What a check of several files finds, says and answers.
-use Rattle.std.specs.Prelude.{◌≡◌, ◌⊎◌, ℕ, Bool, true, false, List, [], ◌++◌, Option, Some, None, Result, Ok, Err, MatchResult, codes, flat_map, fold, map, max}
+use Rattle.std.specs.Prelude.{◌≡◌, ◌⊎◌, ℕ, Bool, true, false, List, [], ◌++◌, Option, Result, Ok, Err, MatchResult, codes, flat_map, fold, map, max}
 use Rattle.std.specs.List.{FoldsTo}
 use Rattle.raw_region.specs.Device.{Took, Writes}
 use Rattle.segment_cli.specs.Reports.{Puts, line, session_status, session_words}
@@ -8,7 +8,7 @@ use Rattle.segment_cli.specs.declared.faults.SessionFault.TheVariants.{WriteFaul
 use Rattle.segment_commands.specs.declared.command_faults.CommandFault.{CommandFault}
 use Rattle.segment_commands.specs.Faults.{Session}
 use Rattle.segment_commands.specs.Opening.{VerifiesFile}
-use Rattle.segment_commands.specs.Reports.{trouble_text}
+use Rattle.segment_commands.specs.Reports.{trouble_line}
 use Rattle.segment_commands.specs.Telling.{IsBrokenOff, IsTold}
 use Rattle.segment_disk.specs.declared.presence.Trouble.{Trouble}
 use Rattle.segment_disk.specs.Events.{Event}
@@ -28,13 +28,12 @@ fit_line false path (Ok u) = quoted_text path ++ (codes ": ok\n" ++ [])
 fit_line false path (Err fault) = []
 
 -- its lines on standard error
-abbrev pub trouble_line : List ℕ → Option Trouble → List ℕ
-trouble_line path None = []
-trouble_line path (Some trouble) = trouble_text path trouble
+abbrev pub reason_lines : List ℕ → SessionFault → Option Trouble → List ℕ
+reason_lines path fault trouble = (quoted_text path ++ (codes ": " ++ (line (session_words fault) ++ []))) ++ trouble_line path trouble
 
 abbrev pub unfit_lines : List ℕ → Result (Unit {0}) SessionFault → Option Trouble → List ℕ
 unfit_lines path (Ok u) trouble = []
-unfit_lines path (Err fault) trouble = (quoted_text path ++ (codes ": " ++ (line (session_words fault) ++ []))) ++ trouble_line path trouble
+unfit_lines path (Err fault) trouble = reason_lines path fault trouble
 
 -- its status
 abbrev pub status_in : Result (Unit {0}) SessionFault → ℕ

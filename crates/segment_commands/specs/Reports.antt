@@ -1,5 +1,5 @@
 -- What the program says of a fault, and the status that it ends with.
-use Rattle.std.specs.Prelude.{◌≡◌, ◌⊎◌, ◌∷◌, ◌+◌, ◌++◌, ⊤, ℕ, List, [], codes, decimal}
+use Rattle.std.specs.Prelude.{◌≡◌, ◌⊎◌, ◌∷◌, ◌+◌, ◌++◌, ⊤, ℕ, List, [], codes, decimal, Option, Some, None}
 use Rattle.segment_dump.specs.declared.faults.BadDump.{BadDump as Bad}
 use Rattle.segment_dump.specs.declared.faults.DumpFault.{DumpFault}
 use Rattle.segment_dump.specs.declared.faults.DumpFault.TheVariants as dump
@@ -51,6 +51,11 @@ trouble_words Taken = codes ": another file is there\n"
 
 abbrev pub trouble_text : List ℕ → Trouble → List ℕ
 trouble_text path trouble = codes "segment: " ++ (quoted_text path ++ (trouble_words trouble ++ []))
+
+-- the same of a trouble that may be none
+abbrev pub trouble_line : List ℕ → Option Trouble → List ℕ
+trouble_line path None = []
+trouble_line path (Some trouble) = trouble_text path trouble
 
 -- ---- its status
 

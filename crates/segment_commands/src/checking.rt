@@ -1,7 +1,7 @@
 //! The commands that tell whether files hold segments.
 ghost use Rattle.std.specs.Prelude.{◌≡◌, ◌^◌, ◌-◌, ◌<◌, IsErr, IsOk, MatchResult, map};
 ghost use Rattle.raw_region.specs.Device.{Writes};
-ghost use Rattle.segment_commands.specs.Checking.{ChecksAll, TellsFit, status_in, unfit_lines};
+ghost use Rattle.segment_commands.specs.Checking.{ChecksAll, TellsFit, reason_lines, status_in, unfit_lines};
 ghost use Rattle.segment_commands.specs.Commands.{IsCheck};
 
 use crate::command_faults::{CommandFault, WRITE_FAULT};
@@ -57,7 +57,28 @@ fn tell_fit<O: Output>(
 }
 
 /// Says on standard error, behind its path, why a file holds no segment, and in a line of its own what the disk said of
-/// it, if that is told. Nothing is said of a file that holds one, and behind a write that failed.
+/// it, if that is told.
+fn put_reason<S: Sink>(
+    path: &str,
+    fault: SessionFault,
+    trouble: Option<Trouble>,
+    err: &mut S,
+) -> Result<(), DeviceFault>
+    requires { (S.history err.old).failures < 2 ^ 64 - 1 }
+    ensures { Writes (S.history err.old) (S.history err.new) result (reason_lines path.now fault trouble) }
+{
+    put_pieces(
+        err,
+        &[
+            Piece::Text(path.as_bytes()),
+            Piece::Bytes(b": "),
+            Piece::Bytes(session_line(fault)),
+        ],
+    )?;
+    put_trouble(path, trouble, err)
+}
+
+/// The same of a file that may hold one: then, and behind a write that failed, nothing is said.
 fn put_unfit<S: Sink>(
     path: &str,
     found: Result<(), SessionFault>,
@@ -73,18 +94,7 @@ fn put_unfit<S: Sink>(
     let Err(fault) = found else {
         return Ok(());
     };
-    put_pieces(
-        err,
-        &[
-            Piece::Text(path.as_bytes()),
-            Piece::Bytes(b": "),
-            Piece::Bytes(session_line(fault)),
-        ],
-    )?;
-    match trouble {
-        Some(trouble) => put_trouble(path, trouble, err),
-        None => Ok(()),
-    }
+    put_reason(path, fault, trouble, err)
 }
 
 /// The status of a file that is checked.

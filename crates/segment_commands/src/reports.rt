@@ -2,7 +2,7 @@
 ghost use Rattle.std.specs.Prelude.{◌≡◌, ◌-◌, ◌^◌, ◌<◌, codes};
 ghost use Rattle.raw_region.specs.Device.{Writes};
 ghost use Rattle.segment_cli.specs.Reports.{Puts, line};
-ghost use Rattle.segment_commands.specs.Reports.{bad_dump_line, command_status, command_text, dump_words, no_space_line, trouble_text, trouble_words};
+ghost use Rattle.segment_commands.specs.Reports.{bad_dump_line, command_status, command_text, dump_words, no_space_line, trouble_line, trouble_words};
 
 use crate::command_faults::CommandFault;
 use raw_region::{DeviceFault, Sink, write_all};
@@ -126,16 +126,24 @@ fn trouble_words(trouble: Trouble) -> &'static [u8]
     }
 }
 
-/// Writes a line that says why the file of a path can't be read or written, behind the line of the fault. The path
-/// stands there as a text of the language, so that none of its bytes ends the line or means something to a terminal.
+/// Writes a line that says why the file of a path can't be read or written, behind the line of the fault, where that is
+/// known. The path stands there as a text of the language, so that none of its bytes ends the line or means something to
+/// a terminal.
 ///
 /// # Errors
 ///
 /// The writer failed; what it took is a part of the line, from the first byte on.
-pub fn put_trouble<S: Sink>(path: &str, trouble: Trouble, err: &mut S) -> Result<(), DeviceFault>
+pub fn put_trouble<S: Sink>(
+    path: &str,
+    trouble: Option<Trouble>,
+    err: &mut S,
+) -> Result<(), DeviceFault>
     requires { (S.history err.old).failures < 2 ^ 64 - 1 }
-    ensures { Writes (S.history err.old) (S.history err.new) result (trouble_text path.now trouble) }
+    ensures { Writes (S.history err.old) (S.history err.new) result (trouble_line path.now trouble) }
 {
+    let Some(trouble) = trouble else {
+        return Ok(());
+    };
     put_pieces(
         err,
         &[

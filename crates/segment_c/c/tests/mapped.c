@@ -398,12 +398,13 @@ static void forked(void) {
     DONE(zx_file_open(&file, path, WRITE, 0));
     DONE(zx_view(&file.segment, &key, &number));
     void *page = (void *)((uintptr_t)number.at / 4096 * 4096);
-    IS(msync(page, 4096, MS_ASYNC), 0);
+    unsigned char is_there;
+    IS(mincore(page, 4096, &is_there), 0);
     fflush(stdout);
     pid_t child = fork();
     if (child == 0) {
         /* no page is where the file was mapped */
-        if (msync(page, 4096, MS_ASYNC) == 0 || errno != ENOMEM) _exit(2);
+        if (mincore(page, 4096, &is_there) == 0 || errno != ENOMEM) _exit(2);
         int is = get(&file) == -ZX_CLOSED && set(&file, 9) == ZX_CLOSED && zx_file_save(&file) == ZX_CLOSED;
         is &= zx_file_flush(&file) == ZX_FILE_FORKED && zx_file_close(&file) == ZX_DONE;
         _exit(is ? 0 : 1);

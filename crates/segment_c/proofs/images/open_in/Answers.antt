@@ -14,4 +14,6 @@ returns-in-RegionTooSmall c =
     (omega arith, why_room c.args.image.now (length c.args.region) _ o.answers.why o.too_small c.in-RegionTooSmall.is)
 
 pub returns-in-OutOfMemory : goal.returns-in-OutOfMemory
-returns-in-OutOfMemory c = (omega arith, why_memory c.args.image.now (length c.args.region))
+returns-in-OutOfMemory c =
+    let code = c.no_memory.ensures in
+    (omega (arith, code), rw code (why_memory c.args.image.now (length c.args.region)))

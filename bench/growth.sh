@@ -4,11 +4,11 @@
 # Of each script it prints the instructions of a line, counted by valgrind's callgrind, without those of a script of
 # no lines; and seconds of the processor, user and system together, the least of three runs. Behind them, over segments
 # of 10,000 objects to ten times as many up to 10 to the power of DECADES (7), what each command of the program costs an
-# object, without what it costs for one object: instructions up to 100,000 objects, and nanoseconds of the processor, the
-# least of three runs. The last column is how many times the cost an object is that of the row before, by instructions
-# where both rows have them. Run it at the top of the repository, once `rt run` has built crates/segment/out/segment, or
-# with the program's path in PROGRAM; it writes into a folder of its own, which it removes. Words pick some of the
-# scripts and commands.
+# object, without what it costs for one object: instructions up to COUNTED objects (100,000), and nanoseconds of the
+# processor, the least of three runs. The last column is how many times the cost an object is that of the row before, by
+# instructions where both rows have them. Run it at the top of the repository, once `rt run` has built
+# crates/segment/out/segment, or with the program's path in PROGRAM; it writes into a folder of its own, which it
+# removes. Words pick some of the scripts and commands.
 set -euo pipefail
 cd "$(dirname "$0")/.."
 program=${PROGRAM:-$PWD/crates/segment/out/segment}
@@ -156,7 +156,7 @@ for command in $all; do
   for ((power = 4; power <= ${DECADES:-7}; power++)); do
     n=$((10 ** power)) count=
     prepared "$command" $n
-    if [ $n -le 100000 ]; then count=$((($(instructions "$command") - start_count) / n)); fi
+    if [ $n -le "${COUNTED:-100000}" ]; then count=$((($(instructions "$command") - start_count) / n)); fi
     time=$((($(nanoseconds "$command") - start_time) / n))
     awk -v c="$command" -v n=$n -v i="$count" -v t=$time -v j="$last_count" -v u="$last_time" 'BEGIN {
       times = j != "" && i != "" ? i / j : u > 0 ? t / u : 0

@@ -12,7 +12,7 @@ use Rattle.seg_types.specs.declared.refusals.Refusal.{Refusal}
 use Rattle.seg_types.specs.declared.refusals.Refusal.TheVariants.{NotFound, OutOfRange, WrongKind}
 use Rattle.seg_types.specs.Kinds.{same_kind, size_of}
 use Rattle.seg_types.specs.Names.{Key, ByHandle}
-use Rattle.seg_vector.specs.declared.places.Place.{Place}
+use Rattle.best_fit.specs.declared.places.Place.{Place}
 use Rattle.segment_manager.specs.declared.objects.targets.Object.{Object as Located}
 use Rattle.segment_manager.specs.Directory.{Object, kind_of}
 use Rattle.segment_manager.specs.Directory.{count_of, object_at}

@@ -22,7 +22,7 @@ returns-in_err-text g c =
 pub returns-in_err-region : goal.returns-in_err-region
 returns-in_err-region g c =
     let p = err_from_is_err_and c.from_residual-in_err-region.result c.from_residual-in_err-region.ensures.1 in
-    let len = c.len.ensures in
+    let len : c.len.result ≡ length c.in_ok-text.text.items = c.len.ensures ∙ c.in_ok-text.text.ok.0 in
     rw (p.1, p.2, c.in_err-region.ensures.refused, len) (record {
       why = unroomed-on Current (g.S.Source.history c.args.reader.now.inner) (g.S.Source.history c.read_on.new.reader.inner) c.args.len 0 c.read_on.ensures.grows c.requires.small
           c.in_ok-text.text.items c.in_ok-text.ensures.reads;
@@ -35,7 +35,7 @@ unreachable-requires g c =
     let new = g.S.Source.history c.read_on.new.reader.inner in
     let text = c.in_ok-text.text.items in
     let value = c.as_slice-image.ensures.value in
-    let len = c.len.ensures in
+    let len : c.len.result ≡ length c.in_ok-text.text.items = c.len.ensures ∙ c.in_ok-text.text.ok.0 in
     let room : length c.in_ok-region.region ≡ region_len (length text + 0) = rw len at c.in_ok-region.ensures.len in
     let x : ExaminesBytes current text c.in_ok-region.region 0 (Err c.in-Err.refused) = rw value at c.in-Err.ensures.examines in
     text-fits Current old new c.args.len 0 c.read_on.ensures.grows c.requires.small text c.in_ok-text.ensures.reads c.in_ok-region.region room

@@ -18,7 +18,7 @@ returns-in_err-text g c =
 pub returns-in_err-region : goal.returns-in_err-region
 returns-in_err-region g c =
     let p = err_from_is_err_and c.from_residual-in_err-region.result c.from_residual-in_err-region.ensures.1 in
-    let len = c.len.ensures in
+    let len : c.len.result ≡ length c.in_ok-text.text.items = c.len.ensures ∙ c.in_ok-text.text.ok.0 in
     rw (p.1, p.2, c.in_err-region.ensures.refused, len)
     (unroomed-on c.args.versions (g.S.Source.history c.args.reader.now.inner) (g.S.Source.history c.read_on.new.reader.inner) c.args.len c.args.more c.read_on.ensures.grows c.requires.small
     c.in_ok-text.text.items c.in_ok-text.ensures.reads)
@@ -30,7 +30,7 @@ returns-in-Ok g c =
     let text = c.in_ok-text.text.items in
     let whole = c.in_ok-text.ensures.reads in
     let value = c.as_slice.ensures.value in
-    let len = c.len.ensures in
+    let len : c.len.result ≡ length c.in_ok-text.text.items = c.len.ensures ∙ c.in_ok-text.text.ok.0 in
     let room : length c.in_ok-region.region ≡ region_len (length text + c.args.more) = rw len at c.in_ok-region.ensures.len in
     let o : OpensAt c.args.versions (as_given text) c.in_ok-region.region c.args.mode (Ok c.in-Ok.segment) = rw value at c.in-Ok.ensures in
     subst (λ (image : Given). OpensImage c.args.versions c.args.more c.args.mode c.args.len image (Ok c.in-Ok.segment))
@@ -55,7 +55,7 @@ unreachable-requires g c =
     let new = g.S.Source.history c.read_on.new.reader.inner in
     let text = c.in_ok-text.text.items in
     let value = c.as_slice.ensures.value in
-    let len = c.len.ensures in
+    let len : c.len.result ≡ length c.in_ok-text.text.items = c.len.ensures ∙ c.in_ok-text.text.ok.0 in
     let room : length c.in_ok-region.region ≡ region_len (length text + c.args.more) = rw len at c.in_ok-region.ensures.len in
     let o : OpensAt c.args.versions (as_given text) c.in_ok-region.region c.args.mode (Err c.in-Err.refused) = rw value at c.in-Err.ensures in
     text-fits c.args.versions old new c.args.len c.args.more c.read_on.ensures.grows c.requires.small text c.in_ok-text.ensures.reads c.in_ok-region.region room

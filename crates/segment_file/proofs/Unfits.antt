@@ -11,6 +11,7 @@ use Rattle.image_check.specs.declared.errors.OpenError.TheVariants.{RegionTooSma
 use Rattle.image_check.specs.Causes.{IsShown, error_for}
 use Rattle.image_check.specs.Classes.{class_of}
 use Rattle.image_check.specs.Opening.{IsRefusedAs, IsTooSmallFor, IsWhyNot}
+use Rattle.image_check.specs.OpeningBytes.{IsWhyNotOf, as_given}
 use Rattle.segment_file.specs.declared.unfit.Unfit.{Unfit}
 use Rattle.segment_file.specs.declared.unfit.Unfit.TheVariants.{Image, OutOfMemory, ReadFault}
 use Rattle.segment_file.specs.Opening.{IsWhyUnfit, unfit_for}
@@ -45,3 +46,6 @@ no-unfit (Judged v) e = absurd (unfit_none (Image v) e)
 no-unfit TooSmall e = refl
 no-unfit (NoMap refusal) e = absurd (unfit_none (OutOfMemory (BlockMap refusal)) e)
 no-unfit Unread e = absurd (unfit_none ReadFault e)
+
+pub text-roomless : (b : List ℕ) (capacity : ℕ) (cause : ExamineError) → IsWhyNotOf current b 0 capacity (error_for cause) → unfit_for cause ≡ None → IsTooSmallFor current (as_given b) 0 capacity
+text-roomless b capacity cause w e = subst (IsWhyNotOf current b 0 capacity) (no-unfit cause e) w

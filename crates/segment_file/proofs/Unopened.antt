@@ -6,7 +6,6 @@ use Rattle.raw_region.specs.Device.{Gave, Given, Reads, given_since}
 use Rattle.raw_region.specs.Refusals.{refusal_of}
 use Rattle.raw_region.specs.Format.{current}
 use Rattle.raw_region.specs.Memory.{SamePlace, cut_at}
-use Rattle.raw_region.specs.declared.refused_memory.OutOfMemory.{OutOfMemory as NoMemory}
 use Rattle.segment_manager.specs.declared.modes.Mode.{Mode}
 use Rattle.segment_manager.specs.State.{State}
 use Rattle.segment_manager.proofs.Laws.{live-size}
@@ -27,7 +26,7 @@ use Rattle.segment_file.specs.declared.file_errors.FileError.TheVariants.{Image,
 use Rattle.image_check.specs.declared.errors.MemoryFault.TheVariants.{BlockMap, Bytes}
 use Rattle.segment_disk.specs.Events.{nothing_given}
 use Rattle.segment_file.specs.ReadingOn.{IsFrontGiven}
-use Rattle.segment_file.specs.Opening.{IsCramped, IsNarrow, IsOpenedBy, IsRead, IsWhyUnopened, IsWide, IsWholeImage, IsWithoutMemory, OpensAt, OpensImage, file_error, file_region}
+use Rattle.segment_file.specs.Opening.{IsCramped, IsNarrow, IsOpenedBy, IsRead, IsWhyUnopened, IsWide, IsWholeImage, IsWidened, OpensAt, OpensImage, file_error, file_region}
 use Rattle.segment_file.proofs.Fronts.{few-undecided}
 use Rattle.segment_file.proofs.Rooms.{region-grows, room-as-said, room-as-told}
 
@@ -120,15 +119,14 @@ module _ (versions : Versions) (more : ℕ) (mode : Mode) (len : ℕ) (image : G
   is-opened s room o = record { region = region; room = room; opened = opened-at versions image region mode s o }
 
 -- memory was refused before the image was read
-pub unread-image : (versions : Versions) (more : ℕ) (mode : Mode) (len : ℕ) (error : FileError) → error ≡ OutOfMemory (Bytes (refusal_of (region_len (len + more))))
-    → OpensImage versions more mode len (given_since nothing_given nothing_given) (Err error)
-unread-image versions more mode len error e =
-    subst (λ (f : FileError). OpensImage versions more mode len (given_since nothing_given nothing_given) (Err f)) (sym e) (record {
-      yet = inl (record { sound = refl; undecided = few-undecided (format_in versions []) [] (omega arith) });
-      asked = region_len (len + more);
-      within = region-grows (len + more) (max len (size_word []) + more) (let told = le-max_left len (size_word []) in omega (arith, told));
-      refused = refl;
-    })
+pub unread-image : (versions : Versions) (more : ℕ) (mode : Mode) (len : ℕ)
+    → OpensImage versions more mode len (given_since nothing_given nothing_given) (Err (OutOfMemory (Bytes (refusal_of (region_len (len + more))))))
+unread-image versions more mode len = record {
+  yet = inl (record { sound = refl; undecided = few-undecided (format_in versions []) [] (omega arith) });
+  asked = region_len (len + more);
+  within = region-grows (len + more) (max len (size_word []) + more) (let told = le-max_left len (size_word []) in omega (arith, told));
+  refused = refl;
+}
 
 module _ (image : Given) (region : List ℕ) (mode : Mode) (s : State) where
   pub as-long : (versions : Versions) → IsOpenedBy versions image region mode s → length s.cut.bytes ≡ size_word image.bytes
@@ -160,7 +158,7 @@ module _ (image : Given) (region : List ℕ) (mode : Mode) (s : State) where
     }
 
   module _ (versions : Versions) (len more : ℕ) (room : length region ≡ region_len (len + more)) (o : IsOpenedBy versions image region mode s) where
-    pub widened : (s' : State) → IsNarrow len s s' ⊎ IsWide len more s s' → IsRead versions len more mode image s'
+    widened : (s' : State) → IsNarrow len s s' ⊎ IsWide len more s s' → IsRead versions len more mode image s'
     widened s' (inl n) = subst (IsRead versions len more mode image) (sym n.same)
         (record { region = region; room = room ∙ room-as-told len more image.bytes (let few = n.few in let long = as-long versions o in omega (arith, few, long)); opened = o })
     widened s' (inr w) =
@@ -171,9 +169,14 @@ module _ (image : Given) (region : List ℕ) (mode : Mode) (s : State) where
           opened = moved s' w.bytes w.mode w.region w.place versions o;
         }
 
-    pub cramped : (refusal : NoMemory) → IsCramped len more s refusal → IsWithoutMemory (format_in versions image.bytes) (file_region len more image.bytes) image refusal
-    cramped refusal c =
+    cramped : (why : FileError) → IsCramped len more s why → IsWhyUnopened (format_in versions image.bytes) (file_region len more image.bytes) image why
+    cramped why c =
         let long = as-long versions o in
         let same : region_len (length s.cut.bytes + more) ≡ file_region len more image.bytes =
         ap (λ (n : ℕ). region_len (n + more)) long ∙ room-as-said len more image.bytes (let many = c.many in omega (arith, many, long)) in
-        record { yet = inr (whole-image versions o); asked = region_len (length s.cut.bytes + more); within = omega (arith, same); refused = c.refused }
+        subst (IsWhyUnopened (format_in versions image.bytes) (file_region len more image.bytes) image) (sym c.refused)
+        (record { yet = inr (whole-image versions o); asked = region_len (length s.cut.bytes + more); within = omega (arith, same); refused = refl })
+
+    pub widened-answer : (result : Result State FileError) → IsWidened len more s result → OpensImage versions more mode len image result
+    widened-answer (Ok s') w = widened s' w
+    widened-answer (Err why) c = cramped why c

@@ -150,11 +150,11 @@ pub record IsWide (len more : ℕ) (old new : State) : Type 0 where
   pub place : SamePlace (cut_at region 0 (length old.cut.bytes)) new.cut
 
 -- there was no memory for that one
-pub record IsCramped (len more : ℕ) (old : State) (refusal : NoMemory) : Type 0 where
+pub record IsCramped (len more : ℕ) (old : State) (why : FileError) : Type 0 where
   pub many : len < length old.cut.bytes
-  pub refused : refusal ≡ refusal_of (region_len (length old.cut.bytes + more))
+  pub refused : why ≡ OutOfMemory (Bytes (refusal_of (region_len (length old.cut.bytes + more))))
 
-abbrev pub IsWidened : ℕ → ℕ → State → Result State NoMemory → Type 0
+abbrev pub IsWidened : ℕ → ℕ → State → Result State FileError → Type 0
 IsWidened len more old result = MatchResult result (λ new. IsNarrow len old new ⊎ IsWide len more old new) (IsCramped len more old)
 
 -- why an image is not opened, where that is not for want of room

@@ -82,7 +82,7 @@ fn unopened(cause: OpenError) -> Option<FileError>
 
 /// A segment with room for so many bytes more than it has, where it has more than `len`: its file grew while it was
 /// read, and its region was made for `len` bytes.
-fn with_room(alloc: Global, segment: Segment, len: u64, more: u64) -> Result<Segment, OutOfMemory>
+fn with_room(alloc: Global, segment: Segment, len: u64, more: u64) -> Result<Segment, FileError>
     ensures { IsWidened len more segment result }
 {
     let size = size_of(&segment);
@@ -133,7 +133,7 @@ fn open_image<S: Source>(
 {
     let region = file_region(alloc, len, more)?;
     match open_at(alloc, versions, mode, reader, region) {
-        Ok(segment) => Ok(with_room(alloc, segment, len, more)?),
+        Ok(segment) => with_room(alloc, segment, len, more),
         Err(refused) => match unopened(refused.cause) {
             Some(error) => Err(error),
             None => open_behind(alloc, versions, mode, reader, len, more),

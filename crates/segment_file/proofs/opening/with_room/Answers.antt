@@ -1,4 +1,4 @@
-use Rattle.std.proofs.Common.{arith}
+use Rattle.std.proofs.Common.{◌+◌, arith}
 use Rattle.segment_file.proofs.Rooms.{region-holds}
 use Rattle.segment_file.proofs.opening.with_room.Goals as goal
 

@@ -158,7 +158,9 @@ module _ {A : Type 0} (path_of : A → List ℕ) (files : List A) (i : ℕ) (d :
   paths_next = ap (map path_of) (take-suc files i d h) ∙ map-append path_of (take i files) (get_or files i d ∷ [])
 
   pub paths-more : map path_of (take (i + 1) files) ≡ map path_of (take i files) ++ path_of (get_or files i d) ∷ []
-  paths-more = ap (λ n. map path_of (take n files)) (omega arith) ∙ paths_next
+  paths-more =
+      let next : i + 1 ≡ suc i = omega arith in
+      ap (λ n. map path_of (take n files)) next ∙ paths_next
 
   pub paths-rest : map path_of files ≡ (map path_of (take i files) ++ path_of (get_or files i d) ∷ []) ++ map path_of (drop (suc i) files)
   paths-rest = ap (map path_of) (sym (take-append-drop (suc i) files)) ∙ (map-append path_of (take (suc i) files) (drop (suc i) files)

@@ -1,7 +1,6 @@
 -- One more file was checked: its lines went out, or the output failed.
 use Rattle.std.proofs.Common.{ap, map, ◌∙◌}
-use Rattle.raw_region.specs.Device.{Writes}
-use Rattle.segment_commands.specs.Checking.{unfit_lines, worse}
+use Rattle.segment_commands.specs.Checking.{worse}
 use Rattle.segment_commands.proofs.Checks.{going_lost, going_more, paths-more, paths-rest, unfit_heard}
 use Rattle.segment_commands.proofs.checking.check_all.Goals as goal
 

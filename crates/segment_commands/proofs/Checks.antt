@@ -1,5 +1,5 @@
 -- What a check of several files found so far.
-use Rattle.std.proofs.Common.{◌≡◌, ◌<◌, refl, sym, ap, subst, ◌∙◌, ℕ, suc, Bool, List, [], ◌∷◌, ◌++◌, map, fold, max, length, take, drop, get_or, append-nil, false, true, inl, inr, arith}
+use Rattle.std.proofs.Common.{◌≡◌, ◌<◌, ◌+◌, refl, sym, ap, subst, ◌∙◌, ℕ, suc, Bool, List, [], ◌∷◌, ◌++◌, map, fold, length, take, drop, get_or, append-nil, false, true, inl, inr, arith}
 use Rattle.std.specs.Prelude.{◌⊎◌, IsOk, Option, Result, Ok, Err, MatchResult, flat_map}
 use Rattle.std.specs.List.{FoldsTo}
 use Rattle.std.specs.Result.{IsErr}
@@ -12,7 +12,7 @@ use Rattle.segment_cli.specs.Reports.{Puts}
 use Rattle.segment_cli.specs.declared.faults.SessionFault.{SessionFault}
 use Rattle.segment_cli.specs.declared.faults.SessionFault.TheVariants.{WriteFault}
 use Rattle.segment_commands.specs.declared.command_faults.CommandFault.{CommandFault}
-use Rattle.segment_commands.specs.Checking.{Checked, ChecksAll, TellsFit, all_unfit_lines, fit_line, fit_lines, status_in, unfit_lines, worst_status}
+use Rattle.segment_commands.specs.Checking.{Checked, ChecksAll, TellsFit, all_unfit_lines, fit_line, fit_lines, status_in, unfit_lines, worse, worst_status}
 use Rattle.segment_commands.specs.Faults.{Session}
 use Rattle.segment_commands.specs.Opening.{VerifiesFile}
 use Rattle.segment_commands.specs.Telling.{IsBrokenOff, IsTold}
@@ -91,17 +91,18 @@ module _ {D O E : Type 0} (step : D → Event → D → Type 0) (history : O →
   module _ (disk' disk'' : D) (err' err'' : Took) (out' out'' : O) (said said' : Result (Unit {0}) E) (paths : List (List ℕ)) (worst : ℕ) (going : Going disk' err' out' said paths worst)
       (path : List ℕ) (found : Result (Unit {0}) SessionFault) (trouble : Option Trouble) (asked : VerifiesFile step disk' disk'' path found)
       (unfit : MatchResult said (λ u. Writes err' err'' said' (unfit_lines path found trouble)) (λ e. (err'' ≡ err') × IsErr said')) where
-    pub going_more : {F : Type 0} → Writes {A = Unit {0}} {E = F} (history out') (history out'') (Ok tt) (fit_line quiet path found) → Going disk'' err'' out'' said' (paths ++ path ∷ []) (max worst (status_in found))
-    going_more w =
+    pub going_more : {F : Type 0} → Writes {A = Unit {0}} {E = F} (history out') (history out'') (Ok tt) (fit_line quiet path found) → (paths' : List (List ℕ)) (worst' : ℕ)
+        → paths' ≡ paths ++ path ∷ [] → worst' ≡ worse worst (status_in found) → Going disk'' err'' out'' said' paths' worst'
+    going_more w paths' worst' p m =
         let done : Result (Unit {0}) (Unit {0}) = Ok tt in
         let c : Checked = record { path = path; found = found; trouble = trouble } in
         record {
           checked = going.checked ++ c ∷ [];
-          named = named-more going.checked paths c going.named;
+          named = named-more going.checked paths c going.named ∙ sym p;
           asked = asked-more step disk going.checked disk' c disk'' going.asked asked;
           unfit = unfit-more err err' err'' said said' going.checked c going.unfit unfit;
           fit = fit-more quiet (history out) (history out') (history out'') tt done going.checked c going.fit (record { ok = w.ok; err = tt; counted = w.counted });
-          worst_is = ap (λ n. max n (status_in found)) going.worst_is ∙ sym (fold-append (λ n (c : Checked). max n (status_in c.found)) 0 going.checked (c ∷ []));
+          worst_is = m ∙ (ap (λ n. worse n (status_in found)) going.worst_is ∙ sym (fold-append (λ n (c : Checked). worse n (status_in c.found)) 0 going.checked (c ∷ [])));
         }
 
     -- the line of the last one did not go out
@@ -153,9 +154,20 @@ room_left old new (Ok u) text n w f h = (let counted = w.counted in omega (arith
 room_left old new (Err e) text n w f h = absurd (cc h)
 
 module _ {A : Type 0} (path_of : A → List ℕ) (files : List A) (i : ℕ) (d : A) (h : i < length files) where
-  pub paths-more : map path_of (take (suc i) files) ≡ map path_of (take i files) ++ path_of (get_or files i d) ∷ []
-  paths-more = ap (map path_of) (take-suc files i d h) ∙ map-append path_of (take i files) (get_or files i d ∷ [])
+  paths_next : map path_of (take (suc i) files) ≡ map path_of (take i files) ++ path_of (get_or files i d) ∷ []
+  paths_next = ap (map path_of) (take-suc files i d h) ∙ map-append path_of (take i files) (get_or files i d ∷ [])
+
+  pub paths-more : map path_of (take (i + 1) files) ≡ map path_of (take i files) ++ path_of (get_or files i d) ∷ []
+  paths-more =
+      let next : i + 1 ≡ suc i = omega arith in
+      ap (λ n. map path_of (take n files)) next ∙ paths_next
 
   pub paths-rest : map path_of files ≡ (map path_of (take i files) ++ path_of (get_or files i d) ∷ []) ++ map path_of (drop (suc i) files)
   paths-rest = ap (map path_of) (sym (take-append-drop (suc i) files)) ∙ (map-append path_of (take (suc i) files) (drop (suc i) files)
-      ∙ ap (λ (ps : List (List ℕ)). ps ++ map path_of (drop (suc i) files)) paths-more)
+      ∙ ap (λ (ps : List (List ℕ)). ps ++ map path_of (drop (suc i) files)) paths_next)
+
+-- what a device did, where it is the same device
+pub unfit_heard : {E V : Type 0} (history : V → Took) (said : Result (Unit {0}) E) (A P : Type 0) (new old : V) → MatchResult said (λ u. A) (λ e. (new ≡ old) × P)
+    → MatchResult said (λ u. A) (λ e. (history new ≡ history old) × P)
+unfit_heard history (Ok u) A P new old m = m
+unfit_heard history (Err e) A P new old m = (ap history m.0, m.1)

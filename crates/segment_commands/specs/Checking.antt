@@ -1,6 +1,7 @@
 -- What a check of several files finds, says and answers.
-use Rattle.std.specs.Prelude.{◌≡◌, ◌⊎◌, ℕ, Bool, true, false, List, [], ◌++◌, Option, Result, Ok, Err, MatchResult, codes, flat_map, fold, map, max}
+use Rattle.std.specs.Prelude.{◌≡◌, ◌⊎◌, ℕ, Bool, true, false, List, [], ◌++◌, Option, Result, Ok, Err, MatchResult, codes, flat_map, fold, map}
 use Rattle.std.specs.List.{FoldsTo}
+use Rattle.std.specs.Ordering.{nat_cmp, ord_max}
 use Rattle.raw_region.specs.Device.{Took, Writes}
 use Rattle.segment_cli.specs.Reports.{Puts, line, session_status, session_words}
 use Rattle.segment_cli.specs.declared.faults.SessionFault.{SessionFault}
@@ -54,8 +55,12 @@ fit_lines quiet = flat_map (λ c. fit_line quiet c.path c.found)
 abbrev pub all_unfit_lines : List Checked → List ℕ
 all_unfit_lines = flat_map (λ c. unfit_lines c.path c.found c.trouble)
 
+-- the larger of two statuses
+abbrev pub worse : ℕ → ℕ → ℕ
+worse = ord_max nat_cmp
+
 abbrev pub worst_status : List Checked → ℕ
-worst_status = fold (λ worst c. max worst (status_in c.found)) 0
+worst_status = fold (λ worst c. worse worst (status_in c.found)) 0
 
 -- The files of these paths were checked one after another. Where the output took what was to be said, these are all of
 -- them, and the answer is the worst status; else they are the first ones, and the answer is that the output failed.

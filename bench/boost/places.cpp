@@ -58,6 +58,13 @@ std::string empty_file(std::uint64_t size) {
     return "an empty mapped file of " + std::to_string(size / MIB) + " MiB opened, set, closed";
 }
 
+/// A type of a program's own.
+struct point {
+    std::int64_t x, y, z;
+};
+
+const char *const PUSHES = "pushes into a vector, by handle";
+const char *const OWN_PUSHES = "the same of values of 24 bytes";
 const char *const FULL_FILE = "a mapped file of 32 MiB with 200,000 objects opened, set, closed";
 
 #ifdef OURS
@@ -178,25 +185,23 @@ void views() {
     zx_close(&s);
 }
 
-void pushes() {
+/// ELEMENTS calls that put something behind the last element of a vector.
+template <class Push> void pushes(const char *what, const zx_values &none, Push push) {
     double least = 1e18;
     for (int round = 0; round < ROUNDS; round++) {
         zx_segment s = ZX_CLOSED_HANDLE;
         std::uint64_t handle;
         const zx_key key = zx_name("v");
-        const zx_values none = zx_i64s(reinterpret_cast<const std::int64_t *>(&handle), 0);
-        done(zx_create(&s, 64 * MIB), "a segment");
+        done(zx_create(&s, 128 * MIB), "a segment");
         done(zx_construct_vector(&s, &key, &none, &handle), "a vector");
         const zx_key by_handle = zx_handle(handle);
         const double before = now();
-        for (int i = 0; i < ELEMENTS; i++) {
-            const zx_value value = zx_i64(i);
-            if (zx_push(&s, &by_handle, &value) != ZX_DONE) stop("a push");
-        }
+        for (int i = 0; i < ELEMENTS; i++)
+            if (push(&s, &by_handle, i) != ZX_DONE) stop(what);
         least = std::min(least, now() - before);
         zx_close(&s);
     }
-    print("ours", "pushes into a vector, by handle", ELEMENTS, least);
+    print("ours", what, ELEMENTS, least);
 }
 
 void run(const char *path, const char *checker) {
@@ -204,7 +209,16 @@ void run(const char *path, const char *checker) {
     rows<std::uint8_t>("u8", zx_u8s, zx_read_u8s);
     rows<std::int32_t>("i32", zx_i32s, zx_read_i32s);
     rows<std::int64_t>("i64", zx_i64s, zx_read_i64s);
-    pushes();
+    const std::int64_t zero = 0;
+    pushes(PUSHES, zx_i64s(&zero, 0), [](zx_segment *s, const zx_key *key, int i) {
+        const zx_value value = zx_i64(i);
+        return zx_push(s, key, &value);
+    });
+    pushes(OWN_PUSHES, zx_u8s(zx_no_bytes(), 0), [](zx_segment *s, const zx_key *key, int i) {
+        const point value = {i, 0, 0};
+        const zx_values bytes = zx_u8s(reinterpret_cast<const std::uint8_t *>(&value), sizeof value);
+        return zx_extend(s, key, &bytes);
+    });
     for (const std::uint64_t size : EMPTY_SIZES) {
         make_file(path, size, 0);
         times("ours", empty_file(size), 1, [&] { return open_set_close(path); });
@@ -217,7 +231,21 @@ void run(const char *path, const char *checker) {
 #else
 namespace ipc = boost::interprocess;
 using File = ipc::managed_mapped_file;
-using Vector = ipc::vector<std::int64_t, ipc::allocator<std::int64_t, File::segment_manager>>;
+
+/// ELEMENTS pushes into a vector of a type.
+template <class T> void pushes(const char *path, const char *what) {
+    using Vector = ipc::vector<T, ipc::allocator<T, File::segment_manager>>;
+    double least = 1e18;
+    for (int round = 0; round < ROUNDS; round++) {
+        std::remove(path);
+        File file(ipc::create_only, path, 128 * MIB);
+        Vector &vector = *file.construct<Vector>("v")(file.get_allocator<T>());
+        const double before = now();
+        for (int i = 0; i < ELEMENTS; i++) vector.push_back(T{i});
+        least = std::min(least, now() - before);
+    }
+    print("Boost", what, ELEMENTS, least);
+}
 
 bool open_set_close(const char *path) {
     File file(ipc::open_only, path);
@@ -239,16 +267,8 @@ void make_file(const char *path, std::uint64_t size, int objects) {
 }
 
 void run(const char *path, const char *) {
-    double least = 1e18;
-    for (int round = 0; round < ROUNDS; round++) {
-        std::remove(path);
-        File file(ipc::create_only, path, 64 * MIB);
-        Vector &vector = *file.construct<Vector>("v")(file.get_allocator<std::int64_t>());
-        const double before = now();
-        for (int i = 0; i < ELEMENTS; i++) vector.push_back(i);
-        least = std::min(least, now() - before);
-    }
-    print("Boost", "pushes into a vector, by handle", ELEMENTS, least);
+    pushes<std::int64_t>(path, PUSHES);
+    pushes<point>(path, OWN_PUSHES);
     for (const std::uint64_t size : EMPTY_SIZES) {
         make_file(path, size, 0);
         times("Boost", empty_file(size), 1, [&] { return open_set_close(path); });

@@ -59,7 +59,7 @@ pub use Rattle.best_fit.specs.Heap.{Allocates, IsAllocated, IsChanged, IsExtende
 pub use Rattle.best_fit.specs.Heap.{IsResized, IsShortened, IsZeroed, Keeps, LaysOut, SameBlock, as_extent, extent_at}
 pub use Rattle.best_fit.specs.Heap.{has_room, heap_touches, is_live_in, is_node_in, no_blocks, payload_at}
 unfoldable pub use Rattle.best_fit.specs.Heap.{live_of}
-pub use Rattle.best_fit.specs.Rebuilding.{AreBytes}
+pub use Rattle.raw_region.specs.Memory.{AreBytes}
 pub use Rattle.best_fit.specs.Resizes.{IsCut}
 pub use Rattle.best_fit.specs.Table.{same_role, serves}
 pub use Rattle.best_fit.specs.Tiling.{cut_to, free_behind, free_len, joined_before, joined_free_at, with_free_behind}

@@ -13,10 +13,6 @@ pub record IsNextGap (c : Cut) (xs : List Gap) (g : Gap) : Type 0 where
   pub gaps : gaps_in c ≡ xs ++ (g ∷ behind)
   pub tree : HasTree c xs
 
--- elements of type u8
-abbrev pub AreBytes : List ℕ → Type 0
-AreBytes b = (k : ℕ) → bytes_of b k < 256
-
 -- the byte lies in no gap
 abbrev pub IsBesideGap : ℕ → Gap → Type 0
 IsBesideGap k g = (k < g.offset) ⊎ (g.offset + g.len ≤ k)

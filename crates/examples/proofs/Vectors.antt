@@ -3,7 +3,7 @@ use Rattle.std.proofs.Common.{sym, subst, ℕ, Bool, List, [], ◌∷◌, ◌++�
 use Rattle.std.specs.Prelude.{Result, Ok, Err}
 use Rattle.raw_region.specs.Memory.{Cut}
 use Rattle.seg_types.specs.declared.refusals.Refusal.{Refusal}
-use Rattle.seg_vector.specs.declared.places.Place.{Place}
+use Rattle.best_fit.specs.declared.places.Place.{Place}
 use Rattle.seg_vector.specs.VectorCalls.{IsSomeVector, Pushes}
 
 pub after_push :

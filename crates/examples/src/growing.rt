@@ -3,7 +3,11 @@ use anyhow::Result;
 use zaluxhoni::{Disk, FileError, Name, Refusal, SegmentFile, named};
 
 /// Asks a segment for a hundred numbers, and makes it longer when they find no space.
-fn keep_numbers(rt: &HostRuntime, file: &mut SegmentFile, numbers: &Name) -> Result<()> {
+fn keep_numbers<H: Drop>(
+    rt: &HostRuntime,
+    file: &mut SegmentFile<H>,
+    numbers: &Name,
+) -> Result<()> {
     if file.segment.construct(numbers, 100, 0i64) == Err(Refusal::NoSpace) {
         file.grow(rt.alloc(), 1024)?;
         file.segment.construct(numbers, 100, 0i64)?;
@@ -12,14 +16,14 @@ fn keep_numbers(rt: &HostRuntime, file: &mut SegmentFile, numbers: &Name) -> Res
 }
 
 /// Gives up what is free at the end of a segment, and saves it to another file.
-fn keep_it_short(disk: &mut impl Disk, file: &mut SegmentFile) -> Result<u64, FileError> {
+fn keep_it_short<D: Disk>(disk: &mut D, file: &mut SegmentFile<D::Hold>) -> Result<u64, FileError> {
     file.shrink()?;
     file.save_as(disk, "grown.seg")?;
     Ok(file.segment.size())
 }
 
 /// Keeps a hundred numbers in a segment, which becomes as long as they are.
-fn grow(rt: &HostRuntime, disk: &mut impl Disk, file: &mut SegmentFile) -> Result<()> {
+fn grow<D: Disk>(rt: &HostRuntime, disk: &mut D, file: &mut SegmentFile<D::Hold>) -> Result<()> {
     keep_numbers(rt, file, &named("numbers")?)?;
     let size = keep_it_short(disk, file)?;
     println!(rt; "growing: {size} bytes hold a hundred numbers")?;

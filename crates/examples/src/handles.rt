@@ -1,6 +1,6 @@
 //! Handles that are kept in objects. Boost: `get_handle_from_address`, `get_address_from_handle`.
 use anyhow::Result;
-use zaluxhoni::{AnonymousInstance, Disk, Key, Mode, Name, Refusal, Segment, SegmentFile, named};
+use zaluxhoni::{AnonymousInstance, Disk, Key, Name, Refusal, Segment, SegmentFile, named};
 
 /// Makes an object without a name, and keeps its handle in one that has a name.
 fn link(segment: &mut Segment, first: &Name) -> Result<u64, Refusal> {
@@ -34,6 +34,6 @@ fn tell(rt: &HostRuntime, segment: &Segment, first: &Name) -> Result<()> {
 pub fn follow_a_handle(rt: &HostRuntime, disk: &mut impl Disk) -> Result<()> {
     let first = named("first")?;
     make_a_chain(rt, disk, &first)?;
-    let file = SegmentFile::open(rt.alloc(), disk, "chain.seg", Mode::ReadOnly)?;
+    let file = SegmentFile::open(rt.alloc(), disk, "chain.seg")?;
     tell(rt, &file.segment, &first)
 }

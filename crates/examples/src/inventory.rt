@@ -172,7 +172,7 @@ fn tell(rt: &HostRuntime, shop: &Segment) -> Result<()> {
 }
 
 /// Sells an apple of an inventory, which is filled where it is new, saves it, and tells what it has.
-fn trade(rt: &HostRuntime, disk: &mut impl Disk, file: &mut SegmentFile) -> Result<()> {
+fn trade<D: Disk>(rt: &HostRuntime, disk: &mut D, file: &mut SegmentFile<D::Hold>) -> Result<()> {
     if file.segment.num_named() == 0 {
         fill(rt.alloc(), &mut file.segment)?;
     }

@@ -1,12 +1,12 @@
 //! A file of an older format. Boost has one layout for each of its versions, and no way between them.
 use anyhow::Result;
-use zaluxhoni::{Disk, FileError, Mode, Segment, SegmentFile, named};
+use zaluxhoni::{Disk, FileError, Mode, Segment, check, migrate, named, read};
 
 /// Finds that a file has an older format, and writes it anew by the current one.
-fn migrate(rt: &HostRuntime, disk: &mut impl Disk) -> Result<()> {
-    if let Err(FileError::Image(class)) = SegmentFile::check(rt.alloc(), disk, "older.seg") {
+fn renew(rt: &HostRuntime, disk: &mut impl Disk) -> Result<()> {
+    if let Err(FileError::Image(class)) = check(rt.alloc(), disk, "older.seg") {
         println!(rt; "an older format: {class}")?;
-        SegmentFile::migrate(rt.alloc(), disk, "older.seg")?;
+        migrate(rt.alloc(), disk, "older.seg")?;
     }
     Ok(())
 }
@@ -20,7 +20,6 @@ fn tell(rt: &HostRuntime, segment: &Segment) -> Result<()> {
 
 /// Writes a file of an older format anew, and opens it.
 pub fn migrate_an_older_file(rt: &HostRuntime, disk: &mut impl Disk) -> Result<()> {
-    migrate(rt, disk)?;
-    let file = SegmentFile::open(rt.alloc(), disk, "older.seg", Mode::ReadOnly)?;
-    tell(rt, &file.segment)
+    renew(rt, disk)?;
+    tell(rt, &read(rt.alloc(), disk, "older.seg", Mode::ReadOnly)?)
 }

@@ -1,6 +1,6 @@
 //! A segment in another region. Boost: a mapping at another address, through `offset_ptr`.
 use anyhow::Result;
-use zaluxhoni::{Disk, Mode, RawRegion, Segment, SegmentFile, named};
+use zaluxhoni::{Disk, Mode, RawRegion, Segment, named, read};
 
 /// Moves a segment to byte 512 of a region of its own; its objects are where they were in it.
 fn moved(rt: &HostRuntime, segment: Segment) -> Result<Segment> {
@@ -19,6 +19,6 @@ fn tell(rt: &HostRuntime, segment: &Segment) -> Result<()> {
 
 /// Moves the segment of a file, and reads it where it lies then.
 pub fn move_a_segment(rt: &HostRuntime, disk: &mut impl Disk) -> Result<()> {
-    let file = SegmentFile::open(rt.alloc(), disk, "primes.seg", Mode::Write)?;
-    tell(rt, &moved(rt, file.segment)?)
+    let segment = read(rt.alloc(), disk, "primes.seg", Mode::Write)?;
+    tell(rt, &moved(rt, segment)?)
 }

@@ -13,7 +13,7 @@ fn keep_five(segment: &mut Segment, name: &Name) -> Result<(i64, usize), Refusal
 }
 
 /// Keeps such an array in a file, and tells of it.
-fn keep(rt: &HostRuntime, disk: &mut impl Disk, file: &mut SegmentFile) -> Result<()> {
+fn keep<D: Disk>(rt: &HostRuntime, disk: &mut D, file: &mut SegmentFile<D::Hold>) -> Result<()> {
     let (last, left) = keep_five(&mut file.segment, &named("primes")?)?;
     file.save(disk)?;
     println!(rt; "an array: its last number is {last}, and the iterator has {left} left")?;

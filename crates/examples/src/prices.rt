@@ -1,6 +1,6 @@
 //! A map that outlives the run. Boost: `open_only`, `find<map<int, long>>("prices")`.
 use anyhow::Result;
-use zaluxhoni::{Disk, Mode, Name, Refusal, Segment, SegmentFile, named};
+use zaluxhoni::{Disk, Mode, Name, Refusal, Segment, named, read};
 
 /// The prices of two articles.
 fn two_prices(shop: &Segment, prices: &Name) -> Result<[Option<i64>; 2], Refusal> {
@@ -16,6 +16,5 @@ fn tell(rt: &HostRuntime, shop: &Segment) -> Result<()> {
 
 /// Opens the shop of another run for reading, and asks for two prices.
 pub fn look_up_prices(rt: &HostRuntime, disk: &mut impl Disk) -> Result<()> {
-    let file = SegmentFile::open(rt.alloc(), disk, "shop.seg", Mode::ReadOnly)?;
-    tell(rt, &file.segment)
+    tell(rt, &read(rt.alloc(), disk, "shop.seg", Mode::ReadOnly)?)
 }

@@ -1,6 +1,6 @@
 //! A shop in a file, which the first run makes and each later one opens. Boost: `open_or_create`, `find_or_construct`.
 use anyhow::Result;
-use zaluxhoni::{Disk, Mode, Segment, SegmentFile, named};
+use zaluxhoni::{Disk, Mode, Segment, SegmentFile, named, read};
 
 /// Writes three prices into the map of a shop, and puts one more thing into its basket.
 fn fill(shop: &mut Segment) -> Result<()> {
@@ -24,14 +24,15 @@ fn keep_a_shop(rt: &HostRuntime, disk: &mut impl Disk) -> Result<()> {
     let mut file = SegmentFile::open_or_create(rt.alloc(), disk, "shop.seg", 4096)?;
     fill(&mut file.segment)?;
     file.save(disk)?;
+    file.close(disk);
     Ok(())
 }
 
 /// Keeps a shop in a file, and reads it again.
 pub fn visit_a_shop(rt: &HostRuntime, disk: &mut impl Disk) -> Result<()> {
     keep_a_shop(rt, disk)?;
-    let kept = SegmentFile::open(rt.alloc(), disk, "shop.seg", Mode::ReadOnly)?;
-    let count = count(&kept.segment)?;
+    let kept = read(rt.alloc(), disk, "shop.seg", Mode::ReadOnly)?;
+    let count = count(&kept)?;
     println!(rt; "open or create: the basket has {count}")?;
     Ok(())
 }

@@ -1,11 +1,11 @@
 //! A file that nobody vouches for. Boost trusts what it maps.
 use anyhow::Result;
-use zaluxhoni::{Disk, FileError, Mode, SegmentFile};
+use zaluxhoni::{Disk, FileError, Mode, read};
 
 /// Opens a file that somebody else wrote, and tells why it is no segment.
 pub fn open_a_stranger(rt: &HostRuntime, disk: &mut impl Disk) -> Result<()> {
-    match SegmentFile::open(rt.alloc(), disk, "stranger.seg", Mode::Write) {
-        Ok(file) => println!(rt; "a stranger: {} bytes", file.segment.size())?,
+    match read(rt.alloc(), disk, "stranger.seg", Mode::ReadOnly) {
+        Ok(segment) => println!(rt; "a stranger: {} bytes", segment.size())?,
         Err(FileError::Image(class)) => {
             let number = class.number();
             println!(rt; "a stranger: refused by class {number}, {class}")?;

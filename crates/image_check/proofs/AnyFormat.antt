@@ -5,11 +5,11 @@ use Rattle.std.proofs.lemmas.Bool.{and_from, cases_lt}
 use Rattle.std.proofs.lemmas.List.{append_assoc, length-append}
 use Rattle.std.proofs.lemmas.List.Folds.{list_all-append}
 use Rattle.raw_region.specs.Device.{Given}
-use Rattle.raw_region.specs.Memory.{zeros}
+use Rattle.raw_region.specs.Memory.{zeros, are_bytes}
 use Rattle.image_check.specs.declared.classes.ImageClass.{ImageClass}
 use Rattle.image_check.specs.declared.errors.OpenError.{OpenError}
 use Rattle.image_check.specs.declared.errors.OpenError.TheVariants.{Image, RegionTooSmall, OutOfMemory, ReadFault}
-use Rattle.image_check.specs.Classes.{DecidesClass, are_bytes, class_of}
+use Rattle.image_check.specs.Classes.{DecidesClass, class_of}
 use Rattle.image_check.specs.Deciding.{AllDecidedAny, decided}
 use Rattle.image_check.specs.Formats.{DecidesAny, class_of_any, format_of}
 use Rattle.image_check.specs.Opening.{IsWhyNot}
@@ -81,6 +81,24 @@ undecided-cases b c (inr l) n d = n (any-class b c (omega arith) d)
 refused-cases : {A : Type 0} (b : List ℕ) (c : ImageClass) → A ⊎ DecidesClass (format_of b) b c → A ⊎ DecidesAny b c
 refused-cases b c (inl a) = inl a
 refused-cases b c (inr d) = inr (decides-cases b c (cases_lt (length b) 144) d)
+
+-- and the other way round
+any-cases : (b : List ℕ) (c : ImageClass) → (length b < 144) ⊎ (144 ≤ length b) → DecidesAny b c → DecidesClass (format_of b) b c
+any-cases b c (inl s) d = absurd (few-any b c s d)
+any-cases b c (inr l) d = any-class b c (omega arith) d
+
+decided-cases : {A : Type 0} (b : List ℕ) (c : ImageClass) → A ⊎ DecidesAny b c → A ⊎ DecidesClass (format_of b) b c
+decided-cases b c (inl a) = inl a
+decided-cases b c (inr d) = inr (any-cases b c (cases_lt (length b) 144) d)
+
+pub why-by_format : (image : Given) (base capacity : ℕ) (cause : OpenError) → IsWhyNotAny image base capacity cause → IsWhyNot (format_of image.bytes) image base capacity cause
+why-by_format image base capacity (Image c) w = record { sound = w.sound; right = decided-cases image.bytes c w.right }
+why-by_format image base capacity RegionTooSmall w = w
+why-by_format image base capacity (OutOfMemory refusal) w = w
+why-by_format image base capacity ReadFault w = record {
+  failed = w.failed;
+  open_class = λ c d. w.open_class c (decides-cases image.bytes c (cases_lt (length image.bytes) 144) d);
+}
 
 -- by the format that was read
 pub why-any : (image : Given) (base capacity : ℕ) (cause : OpenError) → IsWhyNot (format_of image.bytes) image base capacity cause → IsWhyNotAny image base capacity cause

@@ -8,10 +8,9 @@ use mathlib.Core.Logic.{⊎_elim}
 use Rattle.std.specs.Int.{bytes_low_first}
 use Rattle.byteorder.specs.Endian.{little_number}
 use Rattle.byteorder.specs.Numbers.{little_from-cons}
-use Rattle.raw_region.specs.Memory.{Memory, bytes_of, read, word_at, half_word_at, AreZero}
+use Rattle.raw_region.specs.Memory.{Memory, bytes_of, read, word_at, half_word_at, AreZero, are_bytes}
 use Rattle.seg_types.proofs.Laws.{bytes-back, number-small}
 use Rattle.image_check.specs.EarlyTests.{is_zero}
-use Rattle.image_check.specs.Classes.{are_bytes}
 
 -- ---- memory whose bytes are below 256
 
@@ -123,13 +122,6 @@ AreZero-half_word_at m at z = AreZero-number_at m at 4 z
 pub half_word_at-AreZero : (m : Memory) (at : ℕ) → half_word_at m at ≡ 0 → AreZero m at (at + 4)
 unfolding half_word_at
 half_word_at-AreZero m at e = number_at-AreZero m at 4 e
-
--- ---- elements of type u8
-
--- each fits in eight bits, and so all are bytes
-pub fits-are_bytes : (b : List ℕ) → ((k : ℕ) → slice_index b k < 256) → IsTrue (are_bytes b)
-fits-are_bytes [] f = refl
-fits-are_bytes (x ∷ b) f = and_from (nat_lt x 256) (are_bytes b) (lt-ltb x 256 (f 0)) (fits-are_bytes b (λ k. f (suc k)))
 
 -- ---- two rows of bytes
 

@@ -3,7 +3,7 @@ use Rattle.std.proofs.Common.{◌≡◌, refl, sym, ap, subst, ◌∙◌, ℕ, �
 use Rattle.std.specs.Prelude.{IsTrue, IsOk, is_some, Option, Some, None, Result, Err}
 use Rattle.std.specs.List.{list_any}
 use Rattle.std.proofs.lemmas.Bool.{cases_Bool}
-use Rattle.raw_region.specs.Memory.{Cut, bytes_of}
+use Rattle.raw_region.specs.Memory.{Cut, bytes_of, are_bytes}
 use Rattle.block_tags.specs.declared.tile.Role.{Role}
 use Rattle.block_tags.specs.declared.tile.Tile.{Tile}
 use Rattle.block_tags.specs.Format.{is_legal_size}
@@ -14,7 +14,7 @@ use Rattle.image_check.specs.EarlyTests.{has_free_tree, has_reserved, is_tiled}
 use Rattle.image_check.specs.ObjectTests.{has_indexes, has_objects}
 use Rattle.image_check.specs.Fields.{is_shared, is_orphaned, has_containers}
 use Rattle.image_check.specs.Checking.{late_by, late_class}
-use Rattle.image_check.specs.Classes.{are_bytes, class_of}
+use Rattle.image_check.specs.Classes.{class_of}
 use Rattle.image_check.specs.Frame.{has_frame}
 use Rattle.image_check.specs.Meaning.{HasOneDirectory}
 use Rattle.image_check.specs.Opening.{IsImage}

@@ -4,14 +4,14 @@ use Rattle.std.specs.Prelude.{IsTrue, nat_lt, nat_le, Some, None, find}
 use Rattle.std.proofs.lemmas.Bool.{and_cases, and_parts, and_from, and_left, and_right, or_from, or_left, or_right, cond-true, cond-false, cases_Bool, cases_lt, not_from_true, not_from_false, le-ltb, lt-ltb, lt-leb, le-leb, leb-true, leb-false, ltb-true, ltb-false, eqb-true, or_cases, both_ways}
 use Rattle.std.proofs.lemmas.List.{get_or_append_left, length-replicate}
 use mathlib.Core.Logic.{◌⊎◌, inl, inr}
-use Rattle.raw_region.specs.Memory.{bytes_of, read, word_at, half_word_at, zeros}
+use Rattle.raw_region.specs.Memory.{bytes_of, read, word_at, half_word_at, zeros, are_bytes}
 use Rattle.byteorder.specs.Endian.{little_number}
 use Rattle.block_tags.specs.Format.{is_legal_size}
 use Rattle.segment_manager.specs.Denotes.{magic_number}
 use Rattle.image_check.specs.declared.classes.ImageClass.{ImageClass}
 use Rattle.image_check.specs.declared.classes.ImageClass.TheVariants.{Truncated, BadMagic, UnsupportedVersion, BadSize, BadReserved, BadTag, BadFreeTree, BadIndex, BadObject, SharedBlock, BadContainer, OrphanBlock}
 use Rattle.image_check.specs.EarlyTests.{size_word, has_magic, has_version, has_front, has_size}
-use Rattle.image_check.specs.Classes.{holds, classes, class_of, are_bytes, DecidesClass}
+use Rattle.image_check.specs.Classes.{holds, classes, class_of, DecidesClass}
 use Rattle.image_check.specs.Deciding.{decided, decided_by, AllDecided}
 
 -- ---- the first class that holds

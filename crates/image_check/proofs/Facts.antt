@@ -1,9 +1,10 @@
--- What holds of images, for other crates: the laws of `laws.rt`, and that elements of type `u8` are bytes.
-pub use Rattle.image_check.proofs.Bytes.{fits-are_bytes}
+-- What holds of images, for other crates: the laws of `laws.rt`.
+pub use Rattle.image_check.proofs.AnyFormat.{why-by_format}
 pub use Rattle.image_check.proofs.Deciding.{all_decided}
 pub use Rattle.image_check.proofs.Ends.{ends_at_most_once}
 pub use Rattle.image_check.proofs.Law.{one_directory}
 pub use Rattle.image_check.proofs.MeantMaps.{tests_mean_relations}
+pub use Rattle.image_check.proofs.OpenedAny.{why-given}
 -- And what is true of the tests of indexes and objects, whoever reads the bytes.
 pub use Rattle.image_check.proofs.EntriesNoted.{targets-split}
 pub use Rattle.image_check.proofs.HeadBytes.{element-spelled, named-right, padding-read}

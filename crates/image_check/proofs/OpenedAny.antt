@@ -1,5 +1,5 @@
 -- An image of any of the three formats that was read, and is opened or refused.
-use Rattle.std.proofs.Common.{◌≡◌, sym, ap, subst, ◌∙◌, ℕ, ◌≤◌, List, length, Err, Ok, arith}
+use Rattle.std.proofs.Common.{◌≡◌, refl, sym, ap, subst, ◌∙◌, inl, ℕ, ◌≤◌, List, length, Err, Ok, arith}
 use Rattle.std.proofs.lemmas.Bool.{eqb-true}
 use Rattle.raw_region.specs.Device.{Given}
 use Rattle.raw_region.specs.Memory.{Cut, SamePlace, whole}
@@ -7,15 +7,18 @@ use Rattle.segment_manager.specs.declared.modes.Mode.{Mode}
 use Rattle.segment_manager.specs.State.{IsSegment, State}
 use Rattle.image_check.specs.declared.errors.ExamineError.{ExamineError}
 use Rattle.image_check.specs.declared.errors.OpenError.{OpenError}
+use Rattle.image_check.specs.declared.errors.OpenError.TheVariants.{Image, RegionTooSmall, OutOfMemory, ReadFault}
 use Rattle.image_check.specs.declared.errors.OpenRefused.{OpenRefused}
 use Rattle.image_check.specs.Causes.{error_for}
 use Rattle.image_check.specs.Checking.{IsWhyRefused}
 use Rattle.image_check.specs.Formats.{format_of, version_word}
-use Rattle.image_check.specs.Opening.{IsImage, Opens}
+use Rattle.image_check.specs.Opening.{IsImage, IsWhyNot, Opens}
 use Rattle.image_check.specs.OpeningAny.{IsRenewed, OpensAny}
+use Rattle.image_check.specs.OpeningBytes.{IsNotPlaced, IsWhyNotOf, as_given}
 use Rattle.image_check.specs.Reading.{HasFront, IsImageRead, IsNotRead}
 use Rattle.image_check.proofs.AnyFormat.{why-any}
 use Rattle.image_check.proofs.Filled.{HasFront-IsRight}
+use Rattle.image_check.proofs.PlacedBytes.{back-as-was}
 use Rattle.image_check.proofs.ReadFormats.{format_of-few}
 use Rattle.image_check.proofs.Refused.{no-room, refused}
 
@@ -28,6 +31,22 @@ pub unread-any : (image : Given) (region : List ℕ) (base : ℕ) (mode : Mode) 
 unread-any image region base mode refused n = record {
   answers = record { why = why-any image base (length region) refused.cause n.stops.why; handed_back = n.handed_back };
   too_small = n.stops.too_small;
+}
+
+-- one that lies in memory, and was not put into the region
+pub why-given : (format : ℕ) (b : List ℕ) (base capacity : ℕ) (cause : OpenError) → IsWhyNotOf format b base capacity cause → IsWhyNot format (as_given b) base capacity cause
+why-given format b base capacity (Image c) why = record { sound = refl; right = inl (refl, why) }
+why-given format b base capacity RegionTooSmall why = why
+why-given format b base capacity (OutOfMemory refusal) why = why
+why-given format b base capacity ReadFault why = absurd why
+
+pub unplaced-any : (b region : List ℕ) (base : ℕ) (mode : Mode) (refused : OpenRefused) → IsNotPlaced (format_of b) b region base refused → OpensAny (as_given b) region base mode (Err refused)
+unplaced-any b region base mode refused n = record {
+  answers = record {
+    why = why-any (as_given b) base (length region) refused.cause (why-given (format_of b) b base (length region) refused.cause n.misfit.why);
+    handed_back = back-as-was (format_of b) b region base refused.region n.back;
+  };
+  too_small = n.misfit.too_small;
 }
 
 module _ (image : Given) (region : List ℕ) (base : ℕ) (w : Cut) (h : IsImageRead (format_of image.bytes) image region base w) (v : ℕ) (said : v ≡ version_word w.bytes) where

@@ -103,7 +103,7 @@ more-place format b size r =
     sym r.says ∙ sym (cond-true (is_legal_size (size_word b)) (size_word b) 16 (ap is_legal_size r.says ∙ r.legal))
 
 -- the region comes back as it was
-back-as-was : (format : ℕ) (b region : List ℕ) (base : ℕ) (back : List ℕ) → back ≡ region → IsHandedBack format (as_given b) region base back
+pub back-as-was : (format : ℕ) (b region : List ℕ) (base : ℕ) (back : List ℕ) → back ≡ region → IsHandedBack format (as_given b) region base back
 back-as-was format b region base back e = record {
   capacity = ap length e;
   before = ap (take base) e;

@@ -4,7 +4,8 @@ use Rattle.raw_region.specs.Format.{current}
 use Rattle.segment_manager.specs.Directory.{Directory}
 use Rattle.segment_manager.specs.State.{StandsFor}
 use Rattle.image_check.specs.Saving.{IsSaved}
-use Rattle.image_check.proofs.Facts.{fits-are_bytes, one_directory}
+use Rattle.raw_region.proofs.Bytes.{fits-are_bytes}
+use Rattle.image_check.proofs.Facts.{one_directory}
 
 -- bytes that denote a directory are an image that is accepted
 pub accepted_image : (b : List ℕ) → ((k : ℕ) → slice_index b k < 256) → (d : Directory) → StandsFor b d → IsSaved b d

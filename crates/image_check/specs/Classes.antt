@@ -1,7 +1,6 @@
 -- Why bytes stand for no directory: twelve classes, each a test of the whole list, and the class of the bytes.
-use Rattle.std.specs.Prelude.{◌≡◌, ℕ, Bool, not, ◌&&◌, Option, Some, List, [], ◌∷◌, ◌++◌, find, nat_lt, IsTrue}
-use Rattle.std.specs.List.{list_all}
-use Rattle.raw_region.specs.Memory.{Memory, bytes_of}
+use Rattle.std.specs.Prelude.{◌≡◌, ℕ, Bool, not, ◌&&◌, Option, Some, List, [], ◌∷◌, ◌++◌, find, IsTrue}
+use Rattle.raw_region.specs.Memory.{Memory, are_bytes, bytes_of}
 use Rattle.block_tags.specs.Tiles.{tiles_of}
 use Rattle.block_tags.specs.declared.tile.Tile.{Tile}
 use Rattle.image_check.specs.declared.classes.ImageClass.{ImageClass}
@@ -53,9 +52,6 @@ number_of BadObject = 9
 number_of SharedBlock = 10
 number_of BadContainer = 11
 number_of OrphanBlock = 12
-
-abbrev pub are_bytes : List ℕ → Bool
-are_bytes = list_all (λ x. nat_lt x 256)
 
 -- the bytes read so far decide the class: all inputs that begin with them have it
 abbrev pub DecidesClass : ℕ → List ℕ → ImageClass → Type 0

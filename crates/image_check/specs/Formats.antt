@@ -1,11 +1,11 @@
 -- Images of each of the three formats: which one the bytes say, and the class by it.
 use Rattle.std.specs.Prelude.{◌≡◌, ℕ, Bool, List, ◌++◌, ◌==◌, nat_le, Option, Some, IsTrue, if◌then◌else◌}
-use Rattle.raw_region.specs.Memory.{bytes_of, half_word_at}
+use Rattle.raw_region.specs.Memory.{bytes_of, half_word_at, are_bytes}
 use Rattle.raw_region.specs.Format.{current}
 use Rattle.image_check.specs.declared.classes.ImageClass.{ImageClass}
 use Rattle.image_check.specs.declared.versions.Versions.{Versions}
 use Rattle.image_check.specs.declared.versions.Versions.TheVariants.{Current, All}
-use Rattle.image_check.specs.Classes.{are_bytes, class_of}
+use Rattle.image_check.specs.Classes.{class_of}
 
 -- the version that the bytes say
 abbrev pub version_word : List ℕ → ℕ

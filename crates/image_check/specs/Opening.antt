@@ -1,5 +1,5 @@
 -- What opening an image may answer, from what its reader gave, where images of one format are read.
-use Rattle.std.specs.Prelude.{◌≡◌, ◌⊎◌, ◌<◌, ◌≤◌, ℕ, ◌+◌, ◌*◌, ◌/◌, true, false, ◌&&◌, List, [], length, take, drop, IsTrue, nat_lt, Bool, Some, Result, Ok, Err, MatchResult, if◌then◌else◌}
+use Rattle.std.specs.Prelude.{◌≡◌, ◌⊎◌, ◌<◌, ◌≤◌, ⊤, ℕ, ◌+◌, ◌*◌, ◌/◌, true, false, ◌&&◌, List, [], length, take, drop, IsTrue, nat_lt, Bool, Some, Result, Ok, Err, MatchResult, if◌then◌else◌}
 use Rattle.std.specs.List.{list_any}
 use Rattle.raw_region.specs.Memory.{SamePlace, cut_at, whole}
 use Rattle.block_tags.specs.Format.{is_legal_size}
@@ -107,6 +107,11 @@ cause_of (Err refused) = Err refused.cause
 abbrev pub is_too_small_answer : {S : Type 0} → Result S OpenError → Type 0
 is_too_small_answer (Ok s) = ⊥
 is_too_small_answer (Err cause) = cause ≡ RegionTooSmall
+
+-- a call that finds no room reads the first 24 bytes, and no more
+abbrev pub ReadsFrontAlone : {S : Type 0} → Gave → Gave → Result S OpenError → Type 0
+ReadsFrontAlone old new (Ok s) = ⊤
+ReadsFrontAlone old new (Err cause) = cause ≡ RegionTooSmall → length new.bytes ≡ length old.bytes + 24
 
 pub record Opens (format : ℕ) (image : Given) (region : List ℕ) (base : ℕ) (mode : Mode) (result : Result State OpenRefused) : Type 0 where
   pub answers : MatchResult result (IsOpened format image region base mode) (IsNotOpened format image region base)

@@ -3,7 +3,7 @@ ghost use Rattle.std.specs.Prelude.{◌≡◌, ◌≤◌, IfErr, IfOk, IsTrue, N
 ghost use Rattle.std.specs.Prelude.{false, length, true};
 ghost use Rattle.image_check.specs.Causes.{error_for};
 ghost use Rattle.image_check.specs.Checking.{ArePassed, IsImageNoted, IsWhyRefused};
-ghost use Rattle.image_check.specs.Classes.{are_bytes};
+ghost use Rattle.raw_region.specs.Memory.{are_bytes};
 ghost use Rattle.image_check.specs.Counting.{AreCounted};
 ghost use Rattle.image_check.specs.EarlyTests.{has_reserved as is_reserved};
 ghost use Rattle.image_check.specs.Frame.{has_frame};

@@ -4,7 +4,7 @@ ghost use Rattle.raw_region.specs.Device.{Reads, given_since};
 ghost use Rattle.raw_region.specs.Format.{current};
 ghost use Rattle.image_check.specs.Causes.{error_for, opened_in};
 ghost use Rattle.image_check.specs.Examining.{Examines};
-ghost use Rattle.image_check.specs.Opening.{AsksToTheEnd, IsRaisedFor, cause_of, failed_reads};
+ghost use Rattle.image_check.specs.Opening.{AsksToTheEnd, IsRaisedFor, ReadsFrontAlone, cause_of, failed_reads};
 ghost use Rattle.image_check.specs.Opening.{is_late, size_or_least};
 ghost use Rattle.image_check.specs.Passes.{CountsTiles};
 
@@ -37,6 +37,7 @@ pub fn examine<S: Source>(
     ensures examines { Examines current (given_since (S.history reader.old) (S.history reader.new)) region base result }
     ensures history { Reads (S.history reader.old) (S.history reader.new) (failed_reads (cause_of (opened_in result))) }
     ensures ends { AsksToTheEnd (S.history reader.old) (S.history reader.new) }
+    ensures alone { ReadsFrontAlone (S.history reader.old) (S.history reader.new) (cause_of (opened_in result)) }
     ensures steps { IsRaisedFor (size_or_least (given_since (S.history reader.old) (S.history reader.new)).bytes) steps.old steps.new }
     ensures tiles { OnOk result
         (CountsTiles (given_since (S.history reader.old) (S.history reader.new)).bytes steps.old steps.new) }

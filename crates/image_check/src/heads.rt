@@ -15,10 +15,7 @@ use crate::owners::is_same;
 use crate::spellings::are_spellings;
 use block_tags::Role;
 use seg_types::{Kind, LONGEST_NAME, MAX_ARRAY_LEN, ScalarKind, is_name};
-use segment_manager::layout::{NAMED_AT, UNIQUE_AT};
-
-/// The bytes of the value of a vector, a string or a map.
-const CONTAINER_LEN: u64 = 24;
+use segment_manager::layout::{CONTAINER_LEN, NAMED_AT, UNIQUE_AT};
 
 /// The class of the objects with a name.
 pub(crate) const NAMED: u64 = 1;

@@ -1,7 +1,7 @@
 //! The one way to the bytes of an image that is checked, and to its blocks in use: calls that count what they reach.
 //! Bytes that nobody counts are seen by this module and those in it alone.
 ghost use Rattle.std.specs.Prelude.{◌≡◌, ◌+◌, ◌*◌, ◌%◌, ◌≤◌, ◌↔◌, IfOk, IsTrue, List, MatchOption, false, is_err, length};
-ghost use Rattle.raw_region.specs.Memory.{AreZero, bytes_of, part, whole, word_at};
+ghost use Rattle.raw_region.specs.Memory.{AreZero, bytes_of, part, whole, word_at, are_bytes};
 ghost use Rattle.offset_link.specs.Link.{link_at};
 ghost use Rattle.offset_link.specs.Relinked.{is_bad};
 ghost use Rattle.block_tags.specs.Checks.{StopsAt};
@@ -10,7 +10,6 @@ ghost use Rattle.block_tags.specs.Lists.{first_in, next_in};
 ghost use Rattle.block_tags.specs.Tiles.{has_tags};
 ghost use Rattle.block_tags.specs.Windows.{HasTileAt, IsTiled, SaysTiles};
 ghost use Rattle.block_tags.specs.declared.tile.Tile.{Tile as ATile};
-ghost use Rattle.image_check.specs.Classes.{are_bytes};
 ghost use Rattle.image_check.specs.HeaderPlaces.{IsFirstFilled};
 
 mod blocks;
@@ -22,11 +21,11 @@ mod renewing;
 use crate::checking::Visits;
 use block_tags::{Checked, Tile, check_counted, first, next};
 pub(crate) use blocks::Blocks;
-pub(crate) use objects::{HALF, Object, Value};
+pub(crate) use objects::{Object, Value};
 use offset_link::{BadLink, checked, load};
 pub(crate) use pairs::check_pairs;
 pub(crate) use places::{Sought, check_places, find_place, has_good_links};
-use raw_region::{RawRegion, Window};
+use raw_region::{RawRegion, Window, hold_bytes};
 use std::marker::Model;
 
 /// The window of an image that is checked.
@@ -267,11 +266,6 @@ fn first_filled(bytes: &[u8], from: u64, to: u64) -> Option<u64>
     }
     None
 }
-
-/// Elements of type `u8` are below 256. Nothing is done.
-fn hold_bytes(bytes: &[u8])
-    ensures { IsTrue (are_bytes bytes.now) }
-{}
 
 /// A tile whose tags nobody has looked at. What they say is told by `read` alone, which counts it.
 #[derive(Drop)]

@@ -2,7 +2,7 @@
 ghost use Rattle.std.specs.Prelude.{◌≡◌, ◌+◌, ◌-◌, ◌%◌, ◌^◌, ◌<◌, IfErr, OnOk, length, true};
 ghost use Rattle.raw_region.specs.Device.{Reads, given_since};
 ghost use Rattle.raw_region.specs.Format.{current};
-ghost use Rattle.image_check.specs.Opening.{AsksToTheEnd, IsRaisedFor, Opens, cause_of, failed_reads};
+ghost use Rattle.image_check.specs.Opening.{AsksToTheEnd, IsRaisedFor, Opens, ReadsFrontAlone, cause_of, failed_reads};
 ghost use Rattle.image_check.specs.Opening.{is_late, size_or_least};
 ghost use Rattle.image_check.specs.Passes.{CountsBlocks, CountsTiles};
 
@@ -20,7 +20,7 @@ use std::alloc::Global;
 /// # Errors
 ///
 /// `RegionTooSmall` as soon as the magic, the version and a legal size are read and the region ends before base plus
-/// size. A class of the image where it denotes no directory, the first that holds, where it was read to its end or what
+/// size; no more is read then. A class of the image where it denotes no directory, the first that holds, where it was read to its end or what
 /// was read decides it. `ReadFault` where the reader failed before that; it is not asked again after an error, nor
 /// behind its end. `OutOfMemory` where memory for the check of the blocks was refused: only where no class before
 /// `BadIndex` holds and a tile is in use. The region comes back.
@@ -40,6 +40,7 @@ pub fn open<S: Source>(
     ensures opens { Opens current (given_since (S.history reader.old) (S.history reader.new)) region base mode result }
     ensures history { Reads (S.history reader.old) (S.history reader.new) (failed_reads (cause_of result)) }
     ensures ends { AsksToTheEnd (S.history reader.old) (S.history reader.new) }
+    ensures alone { ReadsFrontAlone (S.history reader.old) (S.history reader.new) (cause_of result) }
     ensures steps { IsRaisedFor (size_or_least (given_since (S.history reader.old) (S.history reader.new)).bytes) steps.old steps.new }
     ensures tiles { OnOk result
         (CountsTiles (given_since (S.history reader.old) (S.history reader.new)).bytes steps.old steps.new) }

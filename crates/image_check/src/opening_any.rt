@@ -1,7 +1,7 @@
 //! The opening of an image of any of the three formats.
 ghost use Rattle.std.specs.Prelude.{◌≡◌, ◌+◌, ◌-◌, ◌%◌, ◌^◌, ◌<◌, IfErr, OnOk, length, true};
 ghost use Rattle.raw_region.specs.Device.{Reads, given_since};
-ghost use Rattle.image_check.specs.Opening.{AsksToTheEnd, IsRaisedFor, cause_of, failed_reads, is_late, size_or_least};
+ghost use Rattle.image_check.specs.Opening.{AsksToTheEnd, IsRaisedFor, ReadsFrontAlone, cause_of, failed_reads, is_late, size_or_least};
 ghost use Rattle.image_check.specs.OpeningAny.{OpensAny};
 ghost use Rattle.image_check.specs.Passes.{CountsBlocks, CountsTiles};
 
@@ -37,6 +37,7 @@ pub fn open_any<S: Source>(
     ensures opens { OpensAny (given_since (S.history reader.old) (S.history reader.new)) region base mode result }
     ensures history { Reads (S.history reader.old) (S.history reader.new) (failed_reads (cause_of result)) }
     ensures ends { AsksToTheEnd (S.history reader.old) (S.history reader.new) }
+    ensures alone { ReadsFrontAlone (S.history reader.old) (S.history reader.new) (cause_of result) }
     ensures steps { IsRaisedFor (size_or_least (given_since (S.history reader.old) (S.history reader.new)).bytes) steps.old steps.new }
     ensures tiles { OnOk result
         (CountsTiles (given_since (S.history reader.old) (S.history reader.new)).bytes steps.old steps.new) }

@@ -1,12 +1,13 @@
 //! The reading of an image into its place in a region.
-ghost use Rattle.std.specs.Prelude.{◌≡◌, ◌+◌, ◌-◌, ◌%◌, ◌^◌, ◌<◌, ◌≤◌, List, ℕ, ◌++◌, true, false, length, take, drop, IfOk, OnOk, IfErr, MatchResult};
+ghost use Rattle.std.specs.Prelude.{◌≡◌, ◌≢◌, ◌+◌, ◌-◌, ◌%◌, ◌^◌, ◌<◌, ◌≤◌, List, ℕ, ◌++◌, true, false, length, take, drop, IfOk, OnOk, IfErr, MatchResult};
 ghost use Rattle.raw_region.specs.Answers.{AddsFront};
 ghost use Rattle.raw_region.specs.Device.{Reads, given_since};
 ghost use Rattle.raw_region.specs.Memory.{SamePlace, whole};
 ghost use Rattle.raw_region.specs.Regions.{with_bytes};
 ghost use Rattle.image_check.specs.Causes.{IsBehind, IsEnd, IsShown, error_for, error_in, opened_as, opened_in};
 ghost use Rattle.image_check.specs.Formats.{format_in};
-ghost use Rattle.image_check.specs.Opening.{AsksToTheEnd, cause_of, failed_reads};
+ghost use Rattle.image_check.specs.declared.errors.OpenError.TheVariants.{RegionTooSmall};
+ghost use Rattle.image_check.specs.Opening.{AsksToTheEnd, ReadsFrontAlone, cause_of, failed_reads};
 ghost use Rattle.image_check.specs.Reading.{GoesOn, HasFront, IsFrontRead, IsReadBy, IsNotReadBy, IsShort, IsShownBy, Stops, StopsBy};
 
 use crate::classes::ImageClass;
@@ -37,6 +38,7 @@ pub(crate) fn read_image<S: Source>(
     ensures shown { IfErr result (λ refused. IsShownBy versions (given_since (S.history reader.old) (S.history reader.new)) refused.cause) }
     ensures history { Reads (S.history reader.old) (S.history reader.new) (failed_reads (cause_of (opened_in result))) }
     ensures ends { AsksToTheEnd (S.history reader.old) (S.history reader.new) }
+    ensures alone { ReadsFrontAlone (S.history reader.old) (S.history reader.new) (cause_of (opened_in result)) }
 {
     let mut front = [0; FRONT];
     let size = match read_front(versions, reader, &mut front, &region, base) {
@@ -73,6 +75,7 @@ fn read_front<S: Source>(
     ensures shown { IfErr result (IsShownBy versions (given_since (S.history reader.old) (S.history reader.new))) }
     ensures history { Reads (S.history reader.old) (S.history reader.new) (failed_reads (error_in result)) }
     ensures ends { AsksToTheEnd (S.history reader.old) (S.history reader.new) }
+    ensures alone { ReadsFrontAlone (S.history reader.old) (S.history reader.new) (error_in result) }
     ensures more { OnOk result ((S.history reader.new).ended ≡ false) }
 {
     read_all(reader, front, 0)?;
@@ -105,6 +108,7 @@ fn read_rest<S: Source>(reader: &mut S, window: &mut Window) -> Result<(), Exami
     ensures len { length window.new.bytes ≡ length window.old.bytes }
     ensures history { Reads (S.history reader.old) (S.history reader.new) (failed_reads (error_in result)) }
     ensures ends { AsksToTheEnd (S.history reader.old) (S.history reader.new) }
+    ensures room { IfErr result (λ cause. error_for cause ≢ RegionTooSmall) }
 {
     let front = FRONT as u64;
     let size = window.size();

@@ -4,7 +4,7 @@ use Rattle.std.specs.Prelude.{Result, Ok, Err, insert}
 use Rattle.raw_region.specs.Memory.{Cut}
 use Rattle.best_fit.specs.Table.{no_table}
 use Rattle.seg_types.specs.declared.refusals.Refusal.{Refusal}
-use Rattle.seg_vector.specs.declared.places.Place.{Place}
+use Rattle.best_fit.specs.declared.places.Place.{Place}
 use Rattle.seg_vector.specs.VectorCalls.{InsertsInto, IsSomeVector, Pushes, Starts}
 
 pub after_start : {T : Type 0} → (size : ℕ) (v : T → Bool) (s : T → List ℕ) (a b : Cut) (p : Place) → Starts size v s a b p → IsSomeVector size v s b.bytes p

@@ -1,6 +1,5 @@
 //! Many links that move together, each of which keeps its target.
-ghost use Rattle.std.specs.Prelude.{◌≡◌, ◌↔◌, IsTrue, ◌+◌, ◌-◌, ◌*◌, ◌%◌, ◌≤◌, ◌<◌, ◌==◌, if◌then◌else◌, false, length};
-ghost use Rattle.std.specs.Prelude.{slice_index, ℕ};
+ghost use Rattle.std.specs.Prelude.{◌≡◌, ◌↔◌, IsTrue, ◌+◌, ◌-◌, ◌*◌, ◌%◌, ◌≤◌, ◌==◌, if◌then◌else◌, false, length};
 ghost use Rattle.raw_region.specs.Memory.{bytes_of, patched, word_at};
 ghost use Rattle.raw_region.specs.Regions.{with_bytes};
 ghost use Rattle.offset_link.specs.Link.{link_at, link, link_word};
@@ -9,7 +8,7 @@ ghost use Rattle.offset_link.specs.Relinked.{KeepTargets, NoneIsNull};
 ghost use Rattle.offset_link.specs.Moves.{moved_to, StaysInside};
 
 use crate::link::{NULL, load};
-use raw_region::{Window, set_word_in, word_in};
+use raw_region::{Window, hold_bytes, set_word_in, word_in};
 
 /// How far links move.
 #[derive(Clone, Copy, Debug)]
@@ -170,12 +169,6 @@ fn runs_up<const NON_NULL: bool>(bytes: &mut [u8], at: usize, n: usize, by: usiz
         put_right(bytes, at, at + by, 8 * n);
     }
 }
-
-/// The elements of a slice of type `u8` are below 256. Nothing is done.
-#[inline(always)]
-fn hold_bytes(bytes: &[u8])
-    ensures { (k : ℕ) → slice_index bytes.now k < 256 }
-{}
 
 /// The turns of all runs; those that are far look ahead.
 #[inline(always)]

@@ -1,9 +1,16 @@
 -- Bytes that memory has: one list behind another, their fronts and ends, and some of them written over.
 use Rattle.std.proofs.Common.{◌≡◌, refl, sym, ap, subst, ◌∙◌, inl, inr, ℕ, ◌+◌, ◌*◌, ◌≤◌, List, ◌∷◌, length, arith, ◌⊎◌}
-use Rattle.std.proofs.Common.{zero, suc, ◌++◌, length-append, ◌-◌, take, drop}
+use Rattle.std.proofs.Common.{zero, suc, ◌++◌, length-append, ◌-◌, take, drop, [], ◌<◌}
+use Rattle.std.specs.Prelude.{IsTrue, nat_lt}
+use Rattle.std.proofs.lemmas.Bool.{and_from, lt-ltb}
 use Rattle.std.proofs.lemmas.List.{length-take, length-drop, drop_at}
-use Rattle.raw_region.specs.Memory.{Memory, SameBut, Has, read, patched}
+use Rattle.raw_region.specs.Memory.{AreBytes, Memory, SameBut, Has, are_bytes, read, patched}
 use Rattle.raw_region.proofs.Words.{Same-read as read-same}
+
+-- what is a byte at each place is a list of bytes
+pub fits-are_bytes : (b : List ℕ) → AreBytes b → IsTrue (are_bytes b)
+fits-are_bytes [] f = refl
+fits-are_bytes (x ∷ b) f = and_from (nat_lt x 256) (are_bytes b) (lt-ltb x 256 (f 0)) (fits-are_bytes b (λ k. f (suc k)))
 
 -- products
 pub more-times : (each m n : ℕ) → m ≤ n → each * m ≤ each * n

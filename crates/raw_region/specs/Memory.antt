@@ -1,5 +1,7 @@
 -- Memory as contracts see it: the byte at each offset. A window and a list of bytes are both read in this way.
-use Rattle.std.specs.Prelude.{◌≡◌, ℕ, zero, suc, ◌+◌, ◌≤◌, ◌<◌, ◌⊎◌, List, [], ◌∷◌, ◌++◌, length, take, drop, slice_index, replicate}
+use Rattle.std.specs.Prelude.{◌≡◌, ℕ, zero, suc, ◌+◌, ◌≤◌, ◌<◌, ◌⊎◌, Bool, List, [], ◌∷◌, ◌++◌, length, take, drop, slice_index, replicate}
+use Rattle.std.specs.Prelude.{nat_lt}
+use Rattle.std.specs.List.{list_all}
 use Rattle.byteorder.specs.Endian.{little_number, little_bytes}
 
 -- the byte at each offset
@@ -9,6 +11,14 @@ Memory = ℕ → ℕ
 -- a list of bytes, which begins at offset 0
 abbrev pub bytes_of : List ℕ → Memory
 bytes_of b = slice_index b
+
+-- each number of a list is below 256
+abbrev pub are_bytes : List ℕ → Bool
+are_bytes = list_all (λ b. nat_lt b 256)
+
+-- the same, of each place
+abbrev pub AreBytes : List ℕ → Type 0
+AreBytes b = (k : ℕ) → bytes_of b k < 256
 
 -- the n bytes from an offset on
 abbrev pub read : Memory → ℕ → ℕ → List ℕ

@@ -1,6 +1,6 @@
-//! Words in a slice of bytes, the lowest byte first.
-ghost use Rattle.std.specs.Prelude.{◌≡◌, ◌+◌, ◌≤◌, length};
-ghost use Rattle.raw_region.specs.Memory.{bytes_of, word_at, word_bytes, patched};
+//! Words in a slice of bytes, the lowest byte first, and what the type of a slice says of its bytes.
+ghost use Rattle.std.specs.Prelude.{◌≡◌, ◌+◌, ◌≤◌, IsTrue, length};
+ghost use Rattle.raw_region.specs.Memory.{AreBytes, are_bytes, bytes_of, word_at, word_bytes, patched};
 
 use byteorder::{ByteOrder, LittleEndian};
 
@@ -21,3 +21,10 @@ pub fn set_word_in(bytes: &mut [u8], at: usize, value: u64)
 {
     LittleEndian::write_u64(&mut bytes[at..at + 8], value);
 }
+
+/// The elements of a slice of type `u8` are below 256. Nothing is done: a contract knows it of a parameter's type alone.
+#[inline(always)]
+pub fn hold_bytes(bytes: &[u8])
+    ensures each { AreBytes bytes.now }
+    ensures all { IsTrue (are_bytes bytes.now) }
+{}

@@ -12,12 +12,13 @@ pub use Rattle.offset_link.proofs.Laws.{Same-link, SameBut-link}
 pub use Rattle.offset_link.specs.{Relinked.AllLead, Relinked.KeepTargets, Link.link_at}
 pub use Rattle.raw_region.proofs.Laws.{Same-part, Same-word, SameBut-word, SamePlace-trans}
 pub use Rattle.raw_region.specs.{Memory.Cut, Memory.Memory, Memory.Same, Memory.bytes_of, Memory.read, Format.current}
+pub use Rattle.raw_region.specs.Memory.{AreBytes}
 pub use Rattle.seg_index.specs.Comparing.{HasEntry, comparisons_in, middle, order_at}
 pub use Rattle.seg_index.specs.Growth.{IsBlockFor, KeepsRest, beside_table, unlinked, without_link}
 pub use Rattle.seg_index.specs.declared.keys.Lookup.{TheVariants.Absent, TheVariants.Found, Lookup}
-pub use Rattle.seg_index.specs.{Held.IsIndexOf, Held.capacity_at, Held.place_of, Beginnings.AreBytes, Beginnings.front}
+pub use Rattle.seg_index.specs.{Held.IsIndexOf, Held.capacity_at, Held.place_of, Beginnings.front}
 pub use Rattle.seg_index.specs.{Index.AreEntries, Index.AreLinks, Index.grown_capacity, Keys.name_at, Keys.name_len_at}
-pub use Rattle.seg_index.specs.{Lookups.AreKeys, Lookups.IsPlaceIn, Lookups.order, declared.keys.Key.Key}
+pub use Rattle.seg_index.specs.{Lookups.AreKeys, Lookups.IsPlaceIn, Lookups.order, declared.keys.Entry.Entry}
 pub use Rattle.std.proofs.Common.{Bool, IsTrue, List, [], ap, ap₂, arith, bit_and, false, get_or, inl, inr, length, min}
 pub use Rattle.std.proofs.Common.{refl, subst, suc, sym, true, zero, ℕ, ◌%◌, ◌*◌, ◌+◌, ◌-◌, ◌/◌, ◌<◌, ◌==◌, ◌^◌, ◌∙◌}
 pub use Rattle.std.proofs.Common.{◌∷◌, ◌≡◌, ◌≢◌, ◌≤◌}

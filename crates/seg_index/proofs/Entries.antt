@@ -2,7 +2,7 @@
 use Rattle.seg_index.proofs.Common as common
 use common.{◌≡◌, refl, ◌+◌, List, arith, ◌==◌, Some, among, zero, None, holds, Table, Lookup, Found, Absent, order}
 use common.{subst, slice_get, cases_lt, unwrap_or, and_parts, same_role, room-less, IsIndexOf, IsPlaceIn, IndexRole, ℕ}
-use common.{◌≤◌, [], ◌∷◌, Cut, sym, ap, ◌∙◌, suc, ◌-◌, ◌*◌, ◌%◌, ◌<◌, inl, inr, Key, length, IsTrue, Option, Extent}
+use common.{◌≤◌, [], ◌∷◌, Cut, sym, ap, ◌∙◌, suc, ◌-◌, ◌*◌, ◌%◌, ◌<◌, inl, inr, Entry, length, IsTrue, Option, Extent}
 use common.{handle, IsHeap, get_or, insert, remove, Memory, nat_lt, others, serves, AllByRecursion, none-some}
 use common.{length-insert, length-remove, slice_get-get_or, comparisons_in, beside_table, same_Some, extent_at}
 use common.{has_room, live-rises, room_block, KeepTargets, cases_Bool, found-room, is_live_in, current, live_of}
@@ -320,7 +320,7 @@ less_at o hs i j g h s l e f =
     (same_Some h (get_or hs j 0) (sym f ∙ slice_get-get_or hs j 0 within)) ∙ Less-from_sorted o hs i j 0 s l within
 
 -- the object of an entry has room for a key of the sort of its index
-key_given : {c : Cut} {i : Index} (key : Key) (h : ℕ) → index_of key ≡ i → IsHeap current c.bytes → HasSortKey c i h
+key_given : {c : Cut} {i : Index} (key : Entry) (h : ℕ) → index_of key ≡ i → IsHeap current c.bytes → HasSortKey c i h
     → HasKey c key h
 key_given {c} {i} key h e heap k =
     let m = bytes_of c.bytes in let l = live_of c.bytes in let x = k.extent in let n = sort_key_end i m h in
@@ -331,7 +331,7 @@ key_given {c} {i} key h e heap k =
           (found-room l h n x k.found (leb-true (n + 16) x.len two.1));
     }
 
-pub keys_given : (c : Cut) (i : Index) (key : Key) (block count : ℕ) → (k : HasSortedIndex c i) → index_of key ≡ i
+pub keys_given : (c : Cut) (i : Index) (key : Entry) (block count : ℕ) → (k : HasSortedIndex c i) → index_of key ≡ i
     → Placed c (place_of i) k.table k.handles block → count ≡ word_at (bytes_of c.bytes) (place_of i + 8)
     → AreKeys c block count key
 keys_given c i key block count k sort p e =
@@ -346,7 +346,7 @@ keys_given c i key block count k sort p e =
           (at_links m block hs x g p.links (omega arith) gx) (at_links m block hs y h p.links (omega arith) hy));
     }
 
-pub place_found : (m : Memory) (key : Key) (hs : List ℕ) (block count : ℕ) (r : Lookup) → AreLinks m block hs
+pub place_found : (m : Memory) (key : Entry) (hs : List ℕ) (block count : ℕ) (r : Lookup) → AreLinks m block hs
     → count ≡ length hs → IsPlaceIn m key block count r → IsPlace m key hs r
 place_found m key hs block count (Found j) a long p = (
   get_or hs j 0,
@@ -359,14 +359,14 @@ place_found m key hs block count (Absent j) a long p = (
 )
 
 -- the comparisons over the links of the block are those over the handles
-pub comparisons_found : (m : Memory) (key : Key) (hs : List ℕ) (block count : ℕ) → AreLinks m block hs
+pub comparisons_found : (m : Memory) (key : Entry) (hs : List ℕ) (block count : ℕ) → AreLinks m block hs
     → count ≡ length hs → comparisons_in m key block count ≡ comparisons m key hs
 comparisons_found m key hs block count a long = ap (λ n. comparisons_in m key block n) long
     ∙ same_comparisons (length hs) (order_at m key block) (λ j. order m key (unwrap_or (slice_get hs j) 0)) 0
     (length hs) (λ j l. ap (λ (o : Option ℕ). order m key (unwrap_or o 0))
     (entry_here m block hs j a l ∙ sym (slice_get-get_or hs j 0 l)))
 
-pub comparisons_none : (m : Memory) (key : Key) (hs : List ℕ) → length hs ≡ 0 → comparisons m key hs ≡ 0
+pub comparisons_none : (m : Memory) (key : Entry) (hs : List ℕ) → length hs ≡ 0 → comparisons m key hs ≡ 0
 comparisons_none m key hs z =
     none_left (length hs) (λ i. order m key (unwrap_or (slice_get hs i) 0)) 0 (length hs) (omega arith)
 

@@ -6,7 +6,7 @@ use common.{Greater, Ordering, ordering_reverse, slice_cmp, nat_cmp, nat_list_cm
 use common.{and_parts, slice_get-get_or, current, Cut, Memory, bytes_of, Same-word, Role, IndexRole, link_at}
 use common.{Extent, LiveSet, handle, others, IsAllocated, IsReleased, LaysOut, Keeps, SameBlock}
 use common.{extent_at, live_of, Table, same_role, serves, found-room, found-less, IsBlockFor, KeepsRest, beside_table}
-use common.{unlinked, without_link, IsIndexOf, AreLinks, Key, name_at, name_len_at, released-live, nat_lt, order}
+use common.{unlinked, without_link, IsIndexOf, AreLinks, Entry, name_at, name_len_at, released-live, nat_lt, order}
 use common.{IsChanged, Absent, changed-keeps, has_room, read, ◌*◌, ◌%◌, Equal, Found, Lookup, cases_lt}
 use Rattle.std.specs.Cmp.{IsTotalOrder}
 use Rattle.seg_index.proofs.Entries.{all_at, all_found, first, insert_all, no_entries, placed}
@@ -15,7 +15,7 @@ use Rattle.seg_index.proofs.Staying.{found_still}
 use Rattle.seg_index.specs.declared.index.Index.{Index, TheVariants.Named, TheVariants.Unique}
 use Rattle.seg_index.specs.{Held.place_of, Keys.code_at, Sorted.AreSorted, Sorted.BelongsAt, Sorted.HasSortKey}
 use Rattle.seg_index.specs.Sorted.{CanAdd, IsKeyOf, KeepsSorted, index_of, sort_key_end, sort_order}
-use Rattle.seg_index.specs.{Lookups.IsPlace, declared.keys.Key.TheVariants.Code, declared.keys.Key.TheVariants.Name}
+use Rattle.seg_index.specs.{Lookups.IsPlace, declared.keys.Entry.TheVariants.Code, declared.keys.Entry.TheVariants.Name}
 use Rattle.block_tags.specs.{Tiles.role_bits, declared.tile.Role.TheVariants.Object as ObjectRole}
 use Rattle.best_fit.proofs.Laws.{SameBlock-trans, block_aligned, lay_out_one, room_block}
 use Rattle.seg_index.proofs.Changing.{same_live}
@@ -317,12 +317,12 @@ one-less {c} {i} {hs} {place} s l = record {
 }
 
 -- an object whose key was not found belongs where that was looked up
-order-by-key : (key : Key) (m m' : Memory) (g h : ℕ) → SameSortKey (index_of key) m m' g → IsKeyOf key m' h
+order-by-key : (key : Entry) (m m' : Memory) (g h : ℕ) → SameSortKey (index_of key) m m' g → IsKeyOf key m' h
     → sort_order (index_of key) m' g h ≡ order m key g
 order-by-key (Name s) m m' g h same is = ap₂ (λ xs ys. slice_cmp nat_cmp xs ys) same.1 is
 order-by-key (Code n) m m' g h same is = ap₂ (λ x y. nat_cmp x y) same is
 
-pub belongs-at : {a b : Cut} {i : Index} {hs : List ℕ} (key : Key) (place h : ℕ) → index_of key ≡ i → AreSorted a i hs
+pub belongs-at : {a b : Cut} {i : Index} {hs : List ℕ} (key : Entry) (place h : ℕ) → index_of key ≡ i → AreSorted a i hs
     → ((g : ℕ) → ObjectStays a b g) → HasSortKey b i h → IsKeyOf key (bytes_of b.bytes) h
     → IsPlace (bytes_of a.bytes) key hs (Absent place) → BelongsAt b i hs place h
 belongs-at {a} {b} {i} {hs} key place h sort s stays k is p =
@@ -347,13 +347,13 @@ clash {K} {R} o g h k l e f =
     let other : R k g ≡ Equal = o.antisymm k g ∙ ap ordering_reverse e in
     let no : Greater ≡ Equal = sym one ∙ same ∙ other in cc
 
-both-equal : (m : Memory) (key : Key) (g h : ℕ) → sort_order (index_of key) m g h ≡ Less → order m key g ≡ Equal
+both-equal : (m : Memory) (key : Entry) (g h : ℕ) → sort_order (index_of key) m g h ≡ Less → order m key g ≡ Equal
     → order m key h ≡ Equal → ⊥
 both-equal m (Name s) g h = clash nat_list_cmp_total (name_at m g) (name_at m h) s.now
 both-equal m (Code n) g h = clash nat_cmp_total (code_at m g) (code_at m h) n
 
 -- it is not found at an earlier entry, and not missed there
-module _ (m : Memory) (key : Key) (hs : List ℕ) (rises : IsStrictlySortedBy (sort_order (index_of key) m) hs) where
+module _ (m : Memory) (key : Entry) (hs : List ℕ) (rises : IsStrictlySortedBy (sort_order (index_of key) m) hs) where
   found-once : (i j : ℕ) → i < j → IsPlace m key hs (Found i) → IsPlace m key hs (Found j) → ⊥
   found-once i j l p q = both-equal m key p.0 q.0
       (less_at (sort_order (index_of key) m) hs i j p.0 q.0 rises l p.1 q.1) p.2 q.2
@@ -371,7 +371,7 @@ module _ (m : Memory) (key : Key) (hs : List ℕ) (rises : IsStrictlySortedBy (s
       let greater : order m key h ≡ Greater = (p.1 i h e).1 (omega arith) in
       let less : order m key h ≡ Less = (q.1 i h e).0 l in cc
 
-pub one-place : (m : Memory) (key : Key) (hs : List ℕ) (r s : Lookup)
+pub one-place : (m : Memory) (key : Entry) (hs : List ℕ) (r s : Lookup)
     → IsStrictlySortedBy (sort_order (index_of key) m) hs → IsPlace m key hs r → IsPlace m key hs s → r ≡ s
 one-place m key hs (Found i) (Found j) o p q = elim (cases_lt i j) [
   | inl l ↦ absurd (found-once m key hs o i j l p q)

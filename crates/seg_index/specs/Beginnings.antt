@@ -1,18 +1,14 @@
 -- How names begin, which tells most of them apart. It is no part of the format.
-use Rattle.std.specs.Prelude.{ℕ, ◌<◌, List, slice_index}
+use Rattle.std.specs.Prelude.{ℕ, List}
 use Rattle.byteorder.specs.Endian.{big_number}
-use Rattle.seg_index.specs.declared.keys.Key.{Key}
-use Rattle.seg_index.specs.declared.keys.Key.TheVariants.{Name, Code}
-
--- numbers that are bytes
-abbrev pub AreBytes : List ℕ → Type 0
-AreBytes xs = (k : ℕ) → slice_index xs k < 256
+use Rattle.seg_index.specs.declared.keys.Entry.{Entry}
+use Rattle.seg_index.specs.declared.keys.Entry.TheVariants.{Name, Code}
 
 -- the first eight bytes of a name as one number, the first of them the highest, and zeros behind a shorter name
 abbrev pub front : List ℕ → ℕ
 front name = big_number 8 name
 
 -- how the key begins that is looked up, where it is a name
-abbrev pub key_front : Key → ℕ
+abbrev pub key_front : Entry → ℕ
 key_front (Name s) = front s.now
 key_front (Code n) = 0

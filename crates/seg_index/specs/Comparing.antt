@@ -5,7 +5,7 @@ use Rattle.std.specs.declared.cmp.Ordering.TheVariants.{Less, Equal, Greater}
 use Rattle.raw_region.specs.Memory.{Cut, Memory, bytes_of}
 use Rattle.offset_link.specs.Link.{link_at}
 use Rattle.best_fit.specs.Heap.{has_room, live_of}
-use Rattle.seg_index.specs.{declared.keys.Key.Key, Lookups.HasKey, Lookups.Leads, Lookups.order}
+use Rattle.seg_index.specs.{declared.keys.Entry.Entry, Lookups.HasKey, Lookups.Leads, Lookups.order}
 
 -- the key that is compared where those from `low` on and below `high` are left
 abbrev pub middle : ℕ → ℕ → ℕ
@@ -27,20 +27,20 @@ comparisons_among (suc most) stands low high =
     ]
 
 -- the comparisons of a binary search for a key among the keys of the objects that these handles lead to
-abbrev pub comparisons : Memory → Key → List ℕ → ℕ
+abbrev pub comparisons : Memory → Entry → List ℕ → ℕ
 comparisons m key handles =
     comparisons_among (length handles) (λ i. order m key (unwrap_or (slice_get handles i) 0)) 0 (length handles)
 
 -- ---- the same over the links of a block
 
-abbrev pub order_at : Memory → Key → ℕ → ℕ → Ordering
+abbrev pub order_at : Memory → Entry → ℕ → ℕ → Ordering
 order_at m key block i = order m key (unwrap_or (link_at m (block + 8 * i)) 0)
 
-abbrev pub comparisons_in : Memory → Key → ℕ → ℕ → ℕ
+abbrev pub comparisons_in : Memory → Entry → ℕ → ℕ → ℕ
 comparisons_in m key block count = comparisons_among count (order_at m key block) 0 count
 
 -- an entry that leads to a key
-pub record HasEntry (c : Cut) (key : Key) (block i : ℕ) : Type 0 where
+pub record HasEntry (c : Cut) (key : Entry) (block i : ℕ) : Type 0 where
   pub room : IsTrue (has_room (live_of c.bytes) block (8 * i + 8))
   pub handle : ℕ
   pub leads : Leads (bytes_of c.bytes) block i handle

@@ -8,8 +8,8 @@ use Rattle.offset_link.specs.Link.{link_at}
 use Rattle.best_fit.specs.Heap.{IsAllocated, IsChanged, IsReleased, Keeps, LaysOut, has_room, live_of}
 use Rattle.best_fit.specs.Table.{Table}
 use Rattle.seg_index.specs.{declared.index.Index.Index, Growth.CanGrow, Growth.IsGrowth, Held.IsIndexOf, Held.place_of}
-use Rattle.seg_index.specs.{declared.keys.Key.TheVariants.Code, Comparing.comparisons, Comparing.comparisons_among}
-use Rattle.seg_index.specs.{declared.keys.Key.Key, declared.keys.Lookup.Lookup, Lookups.IsPlace}
+use Rattle.seg_index.specs.{declared.keys.Entry.TheVariants.Code, Comparing.comparisons, Comparing.comparisons_among}
+use Rattle.seg_index.specs.{declared.keys.Entry.Entry, declared.keys.Lookup.Lookup, Lookups.IsPlace}
 use Rattle.seg_index.specs.declared.keys.Lookup.TheVariants.{Absent}
 use Rattle.seg_index.specs.Sorted.{AreSorted, BelongsAt, HasSortKey, IsKeyOf, KeepsSorted, index_of}
 use Rattle.std.specs.List.{AllByRecursion}
@@ -45,14 +45,14 @@ pub record EntriesStaySorted : Type 0 where
 -- the law: an object whose key a look-up did not find belongs at the place that it answered
 abbrev pub AbsentKeysBelong : Type 0
 AbsentKeysBelong =
-    (c : Cut) (key : Key) (handles : List ℕ) (place h : ℕ) → AreSorted c (index_of key) handles
+    (c : Cut) (key : Entry) (handles : List ℕ) (place h : ℕ) → AreSorted c (index_of key) handles
     → IsPlace (bytes_of c.bytes) key handles (Absent place) → HasSortKey c (index_of key) h
     → IsKeyOf key (bytes_of c.bytes) h → BelongsAt c (index_of key) handles place h
 
 -- the law: of a sorted list one place alone is that of a key
 abbrev pub KeysHaveOnePlace : Type 0
 KeysHaveOnePlace =
-    (c : Cut) (key : Key) (handles : List ℕ) (r s : Lookup) → AreSorted c (index_of key) handles
+    (c : Cut) (key : Entry) (handles : List ℕ) (r s : Lookup) → AreSorted c (index_of key) handles
     → IsPlace (bytes_of c.bytes) key handles r → IsPlace (bytes_of c.bytes) key handles s → r ≡ s
 
 -- the law: what `prepare` answers is what `add` wants, and stays so where a block is taken, and where another is

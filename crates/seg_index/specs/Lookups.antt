@@ -6,24 +6,24 @@ use Rattle.std.specs.declared.cmp.Ordering.TheVariants.{Less, Equal, Greater}
 use Rattle.raw_region.specs.{Memory.Cut, Memory.Memory, Memory.bytes_of, Format.current}
 use Rattle.offset_link.specs.Link.{link_at}
 use Rattle.best_fit.specs.Heap.{IsHeap, has_room, live_of}
-use Rattle.seg_index.specs.declared.keys.Key.{Key}
-use Rattle.seg_index.specs.declared.keys.Key.TheVariants.{Name, Code}
+use Rattle.seg_index.specs.declared.keys.Entry.{Entry}
+use Rattle.seg_index.specs.declared.keys.Entry.TheVariants.{Name, Code}
 use Rattle.seg_index.specs.{declared.keys.Lookup.Lookup, Keys.name_at, Keys.code_at}
 use Rattle.seg_index.specs.Sorted.{index_of, sort_key_end, sort_order}
 use Rattle.seg_index.specs.declared.keys.Lookup.TheVariants.{Found, Absent}
 
 -- how the key of an object stands to a key
-abbrev pub order : Memory → Key → ℕ → Ordering
+abbrev pub order : Memory → Entry → ℕ → Ordering
 order m (Name s) h = slice_cmp nat_cmp (name_at m h) s.now
 order m (Code n) h = nat_cmp (code_at m h) n
 
 -- the block of a handle has room for its key
-pub record HasKey (c : Cut) (key : Key) (h : ℕ) : Type 0 where
+pub record HasKey (c : Cut) (key : Entry) (h : ℕ) : Type 0 where
   pub heap : IsHeap current c.bytes
   pub room : IsTrue (has_room (live_of c.bytes) h (sort_key_end (index_of key) (bytes_of c.bytes) h))
 
 -- the entry has the key; or none has it, for all keys before this entry are less, and all from it on greater
-abbrev pub IsPlace : Memory → Key → List ℕ → Lookup → Type 0
+abbrev pub IsPlace : Memory → Entry → List ℕ → Lookup → Type 0
 IsPlace m key handles (Found i) = (h : ℕ) × (slice_get handles i ≡ Some h) × (order m key h ≡ Equal)
 IsPlace m key handles (Absent i) =
     (i ≤ length handles)
@@ -37,14 +37,14 @@ abbrev pub Leads : Memory → ℕ → ℕ → ℕ → Type 0
 Leads m block i h = link_at m (block + 8 * i) ≡ Some h
 
 -- the first links of a block lead to keys, each of which stands before those behind it
-pub record AreKeys (c : Cut) (block count : ℕ) (key : Key) : Type 0 where
+pub record AreKeys (c : Cut) (block count : ℕ) (key : Entry) : Type 0 where
   pub room : IsTrue (has_room (live_of c.bytes) block (8 * count))
   pub target : (i : ℕ) → i < count → (h : ℕ) × Leads (bytes_of c.bytes) block i h
   pub keyed : (i h : ℕ) → i < count → Leads (bytes_of c.bytes) block i h → HasKey c key h
   pub rises : (i j g h : ℕ) → i < j → j < count → Leads (bytes_of c.bytes) block i g → Leads (bytes_of c.bytes) block j h
       → sort_order (index_of key) (bytes_of c.bytes) g h ≡ Less
 
-abbrev pub IsPlaceIn : Memory → Key → ℕ → ℕ → Lookup → Type 0
+abbrev pub IsPlaceIn : Memory → Entry → ℕ → ℕ → Lookup → Type 0
 IsPlaceIn m key block count (Found i) = (i < count) × ((h : ℕ) → Leads m block i h → order m key h ≡ Equal)
 IsPlaceIn m key block count (Absent i) =
     (i ≤ count)

@@ -7,13 +7,13 @@ use Rattle.std.specs.declared.cmp.Ordering.TheVariants.{Less, Greater}
 use Rattle.raw_region.specs.Memory.{Cut, Memory, bytes_of}
 use Rattle.block_tags.specs.declared.tile.Role.TheVariants.{Object as ObjectRole}
 use Rattle.best_fit.specs.{Extents.Extent, Heap.extent_at, Heap.live_of, Table.Table, Table.serves}
-use Rattle.seg_index.specs.{declared.index.Index.Index, declared.keys.Key.Key, Held.IsIndexOf, Held.place_of}
+use Rattle.seg_index.specs.{declared.index.Index.Index, declared.keys.Entry.Entry, Held.IsIndexOf, Held.place_of}
 use Rattle.seg_index.specs.declared.index.Index.TheVariants.{Named, Unique}
-use Rattle.seg_index.specs.declared.keys.Key.TheVariants.{Name, Code}
+use Rattle.seg_index.specs.declared.keys.Entry.TheVariants.{Name, Code}
 use Rattle.seg_index.specs.Keys.{code_at, name_at, name_len_at}
 
 -- the index that is sorted by such keys
-abbrev pub index_of : Key → Index
+abbrev pub index_of : Entry → Index
 index_of (Name s) = Named
 index_of (Code n) = Unique
 
@@ -34,7 +34,7 @@ pub record HasSortKey (c : Cut) (i : Index) (h : ℕ) : Type 0 where
   pub fits : IsTrue (serves extent ObjectRole (sort_key_end i (bytes_of c.bytes) h))
 
 -- this is the sort key of the object of a handle
-abbrev pub IsKeyOf : Key → Memory → ℕ → Type 0
+abbrev pub IsKeyOf : Entry → Memory → ℕ → Type 0
 IsKeyOf (Name s) m h = name_at m h ≡ s.now
 IsKeyOf (Code n) m h = code_at m h ≡ n
 

@@ -4,12 +4,13 @@ ghost use Rattle.std.specs.Prelude.{◌≡◌, ◌+◌, ◌*◌, ◌%◌, ◌^�
 ghost use Rattle.std.specs.{Cmp.Lexicographic.slice_cmp, Ordering.nat_cmp};
 ghost use Rattle.raw_region.specs.{Memory.bytes_of, Format.current};
 ghost use Rattle.best_fit.specs.Heap.{IsHeap, has_room, live_of};
-ghost use Rattle.seg_index.specs.Beginnings.{AreBytes, front as front_of_bytes, key_front};
+ghost use Rattle.seg_index.specs.Beginnings.{front as front_of_bytes, key_front};
 ghost use Rattle.seg_index.specs.{Comparing.HasEntry, Comparing.order_at, Keys.name_at, Keys.name_len_at};
 
-use crate::keys::Key;
+use crate::keys::Entry;
 use best_fit::Heap;
 use byteorder::{BigEndian, ByteOrder};
+use raw_region::hold_bytes;
 use std::cmp::Ordering;
 
 /// A number in the low half of a word.
@@ -19,7 +20,7 @@ const HALF: u64 = 4294967296;
 #[derive(Drop)]
 pub struct Comparisons<'a> {
     heap: &'a Heap,
-    key: Key<'a>,
+    key: Entry<'a>,
     /// How the key begins, where it is a name.
     front: u64,
     block: u64,
@@ -28,7 +29,7 @@ pub struct Comparisons<'a> {
 
 impl<'a> Comparisons<'a> {
     /// None yet.
-    pub fn new(heap: &'a Heap, key: Key<'a>, block: u64) -> Comparisons<'a>
+    pub fn new(heap: &'a Heap, key: Entry<'a>, block: u64) -> Comparisons<'a>
         ensures heap { result.heap.now ≡ heap.now }
         ensures key { result.key ≡ key.entry }
         ensures front { result.front ≡ key_front result.key }
@@ -62,8 +63,8 @@ impl<'a> Comparisons<'a> {
         self.count += 1;
         let handle = self.heap.link(self.block, 8 * i).unwrap_or(0);
         match self.key {
-            Key::Name(name) => order_of_name(self.heap, name, self.front, handle),
-            Key::Code(code) => (self.heap.word(handle, 0) % HALF).cmp(&u64::from(code)),
+            Entry::Name(name) => order_of_name(self.heap, name, self.front, handle),
+            Entry::Code(code) => (self.heap.word(handle, 0) % HALF).cmp(&u64::from(code)),
         }
     }
 }
@@ -95,10 +96,10 @@ fn order_of_name(heap: &Heap, name: &[u8], front: u64, handle: u64) -> Ordering
 const FRONT: usize = 8;
 
 /// The front of a name that is looked up. A code has none.
-fn front_of(key: Key<'_>) -> u64
+fn front_of(key: Entry<'_>) -> u64
     ensures { result ≡ key_front key.entry }
 {
-    let Key::Name(name) = key else { return 0 };
+    let Entry::Name(name) = key else { return 0 };
     if name.len() >= FRONT {
         return BigEndian::read_u64(name);
     }
@@ -124,9 +125,3 @@ fn front_at(heap: &Heap, handle: u64, len: u64) -> u64
     }
     word - (word & (u64::MAX >> (8 * len)))
 }
-
-/// Bytes are below 256. It does nothing.
-#[inline(always)]
-fn hold_bytes(bytes: &[u8])
-    ensures { AreBytes bytes.now }
-{}

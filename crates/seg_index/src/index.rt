@@ -8,7 +8,7 @@ ghost use Rattle.seg_index.specs.Held.{HasIndex, IsIndexOf, capacity_at, entry_c
 ghost use Rattle.seg_index.specs.Sorted.{HasSortedIndex, IsSortedIndex, index_of};
 
 use crate::comparing::Comparisons;
-use crate::keys::{Key, Lookup};
+use crate::keys::{Entry, Lookup};
 use crate::searching::search;
 use best_fit::Heap;
 use raw_region::Steps;
@@ -76,7 +76,7 @@ impl Index {
 
     /// Where a key stands among the keys of the objects that the entries lead to, by binary search: each step is a
     /// comparison of two keys.
-    pub fn lookup(self, heap: &Heap, key: Key<'_>, steps: &mut Steps) -> Lookup
+    pub fn lookup(self, heap: &Heap, key: Entry<'_>, steps: &mut Steps) -> Lookup
         requires index { HasSortedIndex heap.now self }
         requires sort { index_of key ≡ self }
         ensures place { (t : ATable) (handles : List ℕ) → IsIndexOf heap.now (place_of self) t handles

@@ -15,4 +15,4 @@ pub mod theorems;
 
 pub use growing::Growth;
 pub use index::Index;
-pub use keys::{Key, Lookup};
+pub use keys::{Entry, Lookup};

@@ -23,6 +23,7 @@ use Rattle.best_fit.proofs.Laws.{still_allocated-block, Differs, allocated-live,
 use Rattle.best_fit.proofs.Laws.{found-new, place-serves, rising-insert}
 use Rattle.best_fit.specs.Fit.{added}
 use Rattle.link_tree.proofs.Laws.{all_at}
+use Rattle.link_tree.specs.Tree.{root_of}
 use Rattle.std.proofs.lemmas.Option.{same_Some}
 
 module _ {a b c d : Cut} {at : ℕ} {root : Option ℕ} {count : ℕ} (first : IsChanged current a b at 8)
@@ -186,12 +187,14 @@ module _ {K V : Type 0} {kp : Plain K} {vp : Plain V} (kl : Laws kp) (vl : Laws 
       }
 
   -- an insertion begins where it did before the block was taken
-  pub can_put_in : {start : Option ℕ} → start ≡ entry_in kp c key s.map.tree.tree → CanPutIn kp vp d h at start node
-  can_put_in {start} e =
+  pub can_put_in : {root start : Option ℕ} → root ≡ link_at (bytes_of c.bytes) (h + at)
+      → start ≡ entry_in kp c key s.map.tree.tree → CanPutIn kp vp d h at root start node
+  can_put_in top e =
       let old = keys_in kp (nodes_of s.map.tree.tree) c in let new = keys_in kp (nodes_of map_there.map.tree.tree) d in
       let before = keys kl c s in let after = keys kl d map_there in
       record {
         there = record { pairs = ps; pair = new_pair; map = map_there; loose = loose; is = sym m.block.at };
+        leads = top ∙ s.map.tree.linked.root ∙ ap root_of (sym there_tree) ∙ sym map_there.map.tree.linked.root;
         begins = e ∙ entry_same (stands_before kp.order old
             false key) (stands_before kp.order new false key) s.map.tree.tree (λ n i. ap (stands kp.order false key)
             (keys_agree old new ps before after n (ap (is_in n) (sym s.map.tree.lists) ∙ i)))

@@ -12,7 +12,8 @@ use Rattle.seg_map.proofs.PairLists.{each, last_mapped, by_key, pair_by_key, Hav
 use Rattle.std.specs.Prelude.{option_and_then}
 use Rattle.link_tree.specs.{Searching.path_length, Ways.exit_of}
 use Rattle.seg_map.specs.Searches.{path_in, reading_steps, FindsExit, IsOpened, IsRead, LooksFor, LooksUp, item_at}
-use Rattle.seg_map.specs.{Searches.last_path, Searches.node_with, declared.places.Place.Place, PairNodes.both}
+use Rattle.best_fit.specs.declared.places.Place.{Place}
+use Rattle.seg_map.specs.{Searches.last_path, Searches.node_with, PairNodes.both}
 use Rattle.seg_map.specs.Places.{IsSomeMap, SearchSteps, item_of, value_of_pair, FindsItem}
 
 module _ {K V : Type 0} {kp : Plain K} {vp : Plain V} (laws : Laws kp) (c : Cut) {h at : ℕ} {ps : List (Pair K V)}

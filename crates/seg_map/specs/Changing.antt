@@ -39,8 +39,8 @@ pub record IsNew {K V : Type 0} (k : Plain K) (v : Plain V) (old new : Cut) (h a
   pub change : IsChanged current old new (h + at) 24
   pub map : let none : List (Pair K V) = [] in HoldsMap k v new.bytes h at none
 
--- the node of a pair of the map, and where its removal begins: none where that is at the root
-pub record CanGiveUp {K V : Type 0} (k : Plain K) (v : Plain V) (c : Cut) (h at : ℕ) (start : Option ℕ)
+-- the root of the map's tree, the node of a pair of it, and where its removal begins: none where that is at the root
+pub record CanGiveUp {K V : Type 0} (k : Plain K) (v : Plain V) (c : Cut) (h at : ℕ) (root start : Option ℕ)
     (node : ℕ) : Type 0 where
   pub pairs : List (Pair K V)
   pub key : K
@@ -48,6 +48,7 @@ pub record CanGiveUp {K V : Type 0} (k : Plain K) (v : Plain V) (c : Cut) (h at 
   pub map : HoldsMap k v c.bytes h at pairs
   pub found : pair_at k.order pairs key ≡ Some pair
   pub is : pair_node pair ≡ node
+  pub leads : root ≡ link_at (bytes_of c.bytes) (h + at)
   pub begins : start ≡ exit_in k c node map.map.tree.tree
 
 -- the map has these pairs now: no block comes or goes, and of all but these nodes no byte changes but the 24 of the map
@@ -132,10 +133,11 @@ pub record HasLooseNode {K V : Type 0} (k : Plain K) (v : Plain V) (b : List ℕ
   pub loose : IsLoose k v b h pairs pair
   pub is : pair_node pair ≡ node
 
--- the same, and where the insertion of the node begins: none where that is at the root
-pub record CanPutIn {K V : Type 0} (k : Plain K) (v : Plain V) (c : Cut) (h at : ℕ) (start : Option ℕ)
+-- the same, with the root of the tree, and where the insertion of the node begins: none where that is at the root
+pub record CanPutIn {K V : Type 0} (k : Plain K) (v : Plain V) (c : Cut) (h at : ℕ) (root start : Option ℕ)
     (node : ℕ) : Type 0 where
   pub there : HasLooseNode k v c.bytes h at node
+  pub leads : root ≡ link_at (bytes_of c.bytes) (h + at)
   pub begins : start ≡ entry_in k c there.pair.key there.map.map.tree.tree
 
 -- the pair is in the map

@@ -6,7 +6,7 @@ use Rattle.raw_region.specs.{Format.current, Memory.bytes_of}
 use Rattle.link_tree.specs.Tree.{bits}
 use Rattle.best_fit.specs.{Extents.LiveSet, Extents.handle, Heap.IsHeap, Heap.extent_at, Heap.has_room, Heap.live_of}
 use Rattle.seg_types.specs.declared.plain.Plain.{Ghosts as Plain}
-use Rattle.seg_map.specs.declared.places.Place.{Place}
+use Rattle.best_fit.specs.declared.places.Place.{Place}
 use Rattle.seg_map.specs.Map.{Pair, IsMapAt, is_pair, is_rising, pair_at}
 
 abbrev pub pair_node : {K V : Type 0} → Pair K V → ℕ

@@ -5,7 +5,7 @@ use Rattle.raw_region.specs.Memory.{Cut, Memory, bytes_of, read}
 use Rattle.link_tree.specs.{Searching.path_length, Tree.Tree, Tree.nodes_of, Ways.entry_of, Ways.exit_of}
 use Rattle.best_fit.specs.Heap.{has_room, live_of}
 use Rattle.seg_types.specs.{declared.plain.Plain.Ghosts as Plain, Plain.value_in}
-use Rattle.seg_map.specs.declared.places.Place.{Place}
+use Rattle.best_fit.specs.declared.places.Place.{Place}
 use Rattle.seg_map.specs.Linking.{IsKeyTree, keys_in}
 use Rattle.seg_map.specs.{Map.Pair, PairNodes.both, PairNodes.comes_before, PairNodes.stands_before}
 use Rattle.seg_map.specs.Places.{FindsKey, HoldsMap, SearchSteps, final_pair, first_pair, item_of, last_pair, pair_node}

@@ -1,6 +1,7 @@
 //! Pairs that are looked for.
 ghost use Rattle.std.specs.Prelude.{◌≡◌, ◌+◌, ◌≤◌, true, false, Option, Some, IfSome, IsTrue, option_and_then};
 ghost use Rattle.raw_region.specs.Memory.{bytes_of};
+ghost use Rattle.offset_link.specs.Link.{link_at};
 ghost use Rattle.link_tree.specs.Nodes.{leads};
 ghost use Rattle.best_fit.specs.Heap.{has_room, live_of};
 ghost use Rattle.seg_map.specs.Searches.{FindsEntry, FindsExit, IsOpened, LastTakes, LookBackTakes, LookUpTakes};
@@ -19,9 +20,11 @@ use raw_region::Steps;
 use seg_types::Plain;
 use std::marker::PhantomData;
 
-/// The node of a key, and where a change of the tree begins, which its search has found.
+/// The root of a map's tree, the node of a key, and where a change of the tree begins, which a search has found.
 #[derive(Clone, Copy)]
 pub struct Trace {
+    /// The root; none where there is no pair.
+    pub root: Option<u64>,
     /// The node; none where the key is not there.
     pub node: Option<u64>,
     /// Where the change begins; none where it begins at the root.
@@ -101,6 +104,7 @@ impl<K: Plain, V: Plain> SegMap<K, V> {
     /// The pairs of the map, for a search.
     fn open(self, heap: &Heap) -> Pairs<&Heap, K>
         requires { IsSomeMap K.Plain V.Plain heap.now.bytes self.place.handle self.place.at }
+        ensures root { result.root ≡ link_at (bytes_of heap.now.bytes) (self.place.handle + self.place.at) }
         ensures leads { leads (is_pair_node (16 + K.SIZE) result.own result.heap.now) result.root ≡ true }
         ensures tree { HasTree K.Plain result.own result.heap.now result.root }
         ensures opened { IsOpened K.Plain V.Plain result.heap.now heap.now self.place result.own result.root }
@@ -141,12 +145,14 @@ impl<K: Plain, V: Plain> SegMap<K, V> {
         requires map { IsSomeMap K.Plain V.Plain heap.now.bytes self.place.handle self.place.at }
         ensures found { LooksFor K.Plain V.Plain heap.now self.place key result.node steps.old steps.new }
         ensures value { IfSome result.node (λ node. K.is_value key ≡ true) }
+        ensures root { result.root ≡ link_at (bytes_of heap.now.bytes) (self.place.handle + self.place.at) }
         ensures entry { FindsEntry K.Plain V.Plain heap.now self.place key result.start }
     {
         let pairs = self.open(heap);
         let way = find_way_in(&pairs, pairs.root, &Sought { key, past: false });
         steps.add(way.steps);
         Trace {
+            root: pairs.root,
             node: with_key(heap, way.node, key, steps),
             start: way.entry,
         }
@@ -157,12 +163,14 @@ impl<K: Plain, V: Plain> SegMap<K, V> {
         requires map { IsSomeMap K.Plain V.Plain heap.now.bytes self.place.handle self.place.at }
         ensures found { LooksFor K.Plain V.Plain heap.now self.place key result.node steps.old steps.new }
         ensures value { IfSome result.node (λ node. K.is_value key ≡ true) }
+        ensures root { result.root ≡ link_at (bytes_of heap.now.bytes) (self.place.handle + self.place.at) }
         ensures exit { FindsExit K.Plain V.Plain heap.now self.place result.node result.start }
     {
         let pairs = self.open(heap);
         let way = find_way_out(&pairs, pairs.root, &Sought { key, past: false });
         steps.add(way.steps);
         Trace {
+            root: pairs.root,
             node: with_key(heap, way.node, key, steps),
             start: way.exit,
         }

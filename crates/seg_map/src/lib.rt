@@ -5,9 +5,8 @@ mod finding;
 mod linking;
 mod maps;
 mod nodes;
-mod places;
 mod putting;
 mod reading;
 
+pub use best_fit::Place;
 pub use maps::SegMap;
-pub use places::Place;

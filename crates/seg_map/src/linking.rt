@@ -4,10 +4,10 @@ ghost use Rattle.best_fit.specs.{Extents.is_proper, Heap.has_room, Heap.heap_tou
 ghost use Rattle.seg_map.specs.PairNodes.{own_nodes};
 ghost use Rattle.seg_map.specs.Changing.{CanGiveUp, CanPutIn, Drops, IsHeaded, PutsIn, TreeSteps};
 
+use crate::finding::Trace;
 use crate::maps::SegMap;
 use crate::nodes::{Own, Pairs};
-use crate::places::Place;
-use best_fit::Heap;
+use best_fit::{Heap, Place};
 use link_tree::{insert_at, remove_at};
 use raw_region::Steps;
 use seg_types::Plain;
@@ -35,17 +35,16 @@ impl<K: Plain, V: Plain> SegMap<K, V> {
     /// Takes a pair out of the map, from the root of the tree on or from where a search has found that it changes, and
     /// gives its block back.
     #[tactic(auto, using(crate::proofs::PairSteps::rooms, crate::proofs::Staying::trees))]
-    pub(crate) fn give_up(self, heap: &mut Heap, start: Option<u64>, node: u64, steps: &mut Steps)
-        requires { CanGiveUp K.Plain V.Plain heap.old self.place.handle self.place.at start node }
+    pub(crate) fn give_up(self, heap: &mut Heap, trace: &Trace, node: u64, steps: &mut Steps)
+        requires { CanGiveUp K.Plain V.Plain heap.old self.place.handle self.place.at trace.now.root trace.now.start node }
         ensures dropped { Drops K.Plain V.Plain heap.old heap.new self.place.handle self.place.at node }
         ensures counted { steps.old + 1 < steps.new }
         ensures steps { TreeSteps K.Plain V.Plain heap.old self.place.handle self.place.at
             (heap_touches (live_of heap.old.bytes)) steps.old steps.new }
     {
-        let root = heap.link(self.place.handle, self.place.at);
         let count = self.len(&*heap);
-        let mut pairs = lend::<K>(heap, root, None);
-        let changed = remove_at(&mut pairs, root, start, node);
+        let mut pairs = lend::<K>(heap, trace.root, None);
+        let changed = remove_at(&mut pairs, trace.root, trace.start, node);
         steps.add(changed.steps);
         write_head(heap, self.place, changed.root, count - 1);
         heap.deallocate(node, steps);
@@ -53,16 +52,15 @@ impl<K: Plain, V: Plain> SegMap<K, V> {
 
     /// Puts a pair into the map, whose node is made, from where the search for its key has found that the tree changes.
     #[tactic(auto, using(crate::proofs::PairSteps::rooms, crate::proofs::Staying::trees))]
-    pub(crate) fn put_in(self, heap: &mut Heap, start: Option<u64>, node: u64, steps: &mut Steps)
-        requires { CanPutIn K.Plain V.Plain heap.old self.place.handle self.place.at start node }
+    pub(crate) fn put_in(self, heap: &mut Heap, trace: &Trace, node: u64, steps: &mut Steps)
+        requires { CanPutIn K.Plain V.Plain heap.old self.place.handle self.place.at trace.now.root trace.now.start node }
         ensures planted { PutsIn K.Plain V.Plain heap.old heap.new self.place.handle self.place.at node }
         ensures counted { steps.old < steps.new }
         ensures steps { TreeSteps K.Plain V.Plain heap.old self.place.handle self.place.at 0 steps.old steps.new }
     {
-        let root = heap.link(self.place.handle, self.place.at);
         let count = self.len(&*heap);
-        let mut pairs = lend::<K>(heap, root, Some(node));
-        let changed = insert_at(&mut pairs, root, start, node);
+        let mut pairs = lend::<K>(heap, trace.root, Some(node));
+        let changed = insert_at(&mut pairs, trace.root, trace.start, node);
         steps.add(changed.steps);
         write_head(heap, self.place, changed.root, count + 1);
     }

@@ -4,11 +4,11 @@ ghost use Rattle.best_fit.specs.{Extents.is_proper, Heap.has_room, Heap.live_of}
 ghost use Rattle.seg_map.specs.Changing.{ChangeSteps, CountsPairs, Erases, IsNew, Puts, Releases};
 ghost use Rattle.seg_map.specs.{Places.IsSomeMap, Searches.LookUpTakes, Searches.LooksUpFirst};
 
+use crate::finding::Trace;
 use crate::linking::{COUNT, write_head};
-use crate::places::Place;
 use crate::putting::{make_node, write_value};
 use crate::reading::KEY;
-use best_fit::{Heap, NoSpace};
+use best_fit::{Heap, NoSpace, Place};
 use raw_region::Steps;
 use seg_types::Plain;
 use std::marker::PhantomData;
@@ -78,7 +78,7 @@ impl<K: Plain, V: Plain> SegMap<K, V> {
             return Ok(false);
         }
         let node = make_node::<K, V>(heap, key, value, steps)?;
-        self.put_in(heap, trace.start, node, steps);
+        self.put_in(heap, &trace, node, steps);
         Ok(true)
     }
 
@@ -96,7 +96,7 @@ impl<K: Plain, V: Plain> SegMap<K, V> {
         let Some(node) = trace.node else {
             return false;
         };
-        self.give_up(heap, trace.start, node, steps);
+        self.give_up(heap, &trace, node, steps);
         true
     }
 
@@ -107,7 +107,12 @@ impl<K: Plain, V: Plain> SegMap<K, V> {
     {
         // the pair at the root goes each time: the tree needs no walk then, and the map is one at each moment
         'pairs: while let Some(node) = heap.link(self.place.handle, self.place.at) {
-            self.give_up(heap, None, node, &mut Steps::new());
+            let trace = Trace {
+                root: Some(node),
+                node: Some(node),
+                start: None,
+            };
+            self.give_up(heap, &trace, node, &mut Steps::new());
         }
     }
 }

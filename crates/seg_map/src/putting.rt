@@ -8,12 +8,7 @@ use crate::reading::KEY;
 use best_fit::{Heap, NoSpace, RIGHT};
 use block_tags::Role;
 use raw_region::Steps;
-use seg_types::Plain;
-
-/// Spellings of so many bytes go by way of a short buffer, and others by way of one for the longest.
-const SHORT: usize = 16;
-
-const LONGEST: usize = 4096;
+use seg_types::{MAX_SPELLING_LEN, Plain, SHORT_SPELLING_LEN};
 
 /// Writes a value at `at` in the block of a handle.
 pub fn write_value<T: Plain>(heap: &mut Heap, handle: u64, at: u64, value: T)
@@ -22,10 +17,10 @@ pub fn write_value<T: Plain>(heap: &mut Heap, handle: u64, at: u64, value: T)
     ensures change { IsChanged current heap.old heap.new (handle + at) T.SIZE }
     ensures content { Has (bytes_of heap.new.bytes) (handle + at) (T.spelling value) }
 {
-    if T::SIZE as usize <= SHORT {
-        write_by::<T, SHORT>(heap, handle, at, value);
+    if T::SIZE as usize <= SHORT_SPELLING_LEN {
+        write_by::<T, SHORT_SPELLING_LEN>(heap, handle, at, value);
     } else {
-        write_by::<T, LONGEST>(heap, handle, at, value);
+        write_by::<T, MAX_SPELLING_LEN>(heap, handle, at, value);
     }
 }
 

@@ -2,6 +2,12 @@
 ghost use Rattle.std.specs.Prelude.{◌≡◌, ℕ, ◌≤◌, Bool, true, false, List, Option, Some, length};
 ghost use Rattle.seg_types.specs.Plain.{Reads};
 
+/// The most bytes of a spelling.
+pub const MAX_SPELLING_LEN: usize = 4096;
+
+/// The most bytes of a spelling that goes by way of a short buffer: one for the longest is cleared at each use.
+pub const SHORT_SPELLING_LEN: usize = 16;
+
 /// A type whose values are spelled by a fixed number of bytes, each in one way, and stand in a strict total order.
 ///
 /// The five scalar types have it, and a caller can give it to a type of his own. What is promised of spellings and of

@@ -29,6 +29,13 @@ pub fn scalar_is_number<T: Scalar>(from: &[u8]) -> Option<T>
     T::read(from)
 }
 
+/// A value is one, which no call says where it is refused. An order knows it of what it compares.
+pub fn holds_value<T: Plain>(value: T)
+    ensures { T.is_value value ≡ true }
+{
+    let _ = value.precedes(value);
+}
+
 /// Whether neither value stands before the other, which is so of a value and itself alone.
 pub fn unordered_are_same<T: Plain>(one: T, other: T) -> bool
     ensures { IsTrue result ↔ (one ≡ other) }

@@ -42,7 +42,8 @@ pub use Rattle.seg_vector.specs.Vector.{IsStorage, AreTextLinks, IsOwnedText, Ow
 pub use Rattle.seg_vector.specs.VectorCalls.{IsVector, IsVectorGrown, IsVectorNow, IsWithoutSpace}
 pub use Rattle.seg_vector.specs.TextCalls.{IsTextNow, IsText, IsTextGrown}
 pub use Rattle.seg_vector.specs.{TextParts.TakesStorage, TextParts.IsTextPlaced, TextsCalls.one_more, Vector.AreInArray}
-pub use Rattle.seg_vector.specs.{TextsCalls.IsWithoutFit, Vector.capacity_for_text, declared.places.Place.Place}
+pub use Rattle.best_fit.specs.declared.places.Place.{Place}
+pub use Rattle.seg_vector.specs.{TextsCalls.IsWithoutFit, Vector.capacity_for_text}
 pub use Rattle.std.proofs.Common.{None, List, [], ◌∷◌, length, arith, ◌⊎◌, ◌++◌, append-nil, ◌%◌, min, ◌==◌, zero, suc}
 pub use Rattle.std.proofs.Common.{append_assoc, length-append, drop, map, slice_index_or, Bor, if◌then◌else◌, false, Ok}
 pub use Rattle.std.proofs.Common.{◌≡◌, ◌≢◌, refl, sym, ap, subst, ◌∙◌, inl, inr, ℕ, ◌+◌, ◌*◌, ◌<◌, ◌≤◌, Option, Some}

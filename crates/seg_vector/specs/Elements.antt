@@ -7,7 +7,7 @@ use Rattle.best_fit.specs.Table.{Table, cut_table, no_table}
 use Rattle.seg_vector.specs.{declared.elements.Spot.Spot, Standing.Stands, Standing.capacity_at, Standing.len_at}
 use Rattle.seg_vector.specs.{Standing.place_at}
 use Rattle.seg_vector.specs.declared.elements.Spot.TheVariants.{End, Over, Before}
-use Rattle.seg_vector.specs.declared.places.Place.{Place}
+use Rattle.best_fit.specs.declared.places.Place.{Place}
 
 -- the container has other elements in the places that there were; of all other blocks no byte changes but its own 24,
 -- and of gaps none

@@ -7,7 +7,7 @@ use Rattle.best_fit.specs.{Exchange.IsExchanged, Extents.Extent, Extents.LiveSet
 use Rattle.best_fit.specs.Heap.{IsHeap, KeepsGaps, extent_at, has_room, live_of}
 use Rattle.best_fit.specs.Table.{Table, is_table}
 use Rattle.seg_types.specs.{declared.refusals.Refusal.Refusal, declared.refusals.Refusal.TheVariants.NoSpace}
-use Rattle.seg_vector.specs.declared.places.Place.{Place}
+use Rattle.best_fit.specs.declared.places.Place.{Place}
 use Rattle.seg_vector.specs.Vector.{IsContainerAt, capacity_for_one, grown_table}
 
 -- where the three words stand

@@ -5,7 +5,8 @@ use Rattle.raw_region.specs.{Memory.Cut, Format.current}
 use Rattle.best_fit.specs.{Exchange.IsExchanged, Heap.KeepsGaps, Heap.live_of}
 use Rattle.best_fit.specs.Table.{Table, cut_table, no_table}
 use Rattle.seg_types.specs.declared.refusals.Refusal.{Refusal}
-use Rattle.seg_vector.specs.{declared.places.Place.Place, Vector.capacity_for_text, Vector.grown_table}
+use Rattle.best_fit.specs.declared.places.Place.{Place}
+use Rattle.seg_vector.specs.{Vector.capacity_for_text, Vector.grown_table}
 use Rattle.seg_vector.specs.{Standing.Stands, Standing.place_at, VectorCalls.IsOutside, VectorCalls.IsWithoutSpace}
 
 -- the text at a place has these bytes

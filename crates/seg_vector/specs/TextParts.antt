@@ -9,7 +9,8 @@ use Rattle.best_fit.specs.{Extents.Extent, Extents.handle, Table.Table, Table.is
 use Rattle.best_fit.specs.Heap.{IsAllocated, IsChanged, IsHeap, KeepsGaps, SameBlock, extent_at, has_room, live_of}
 use Rattle.block_tags.specs.declared.tile.Role.TheVariants.{Storage}
 use Rattle.seg_types.specs.{declared.refusals.Refusal.Refusal, declared.refusals.Refusal.TheVariants.NoSpace}
-use Rattle.seg_vector.specs.{declared.places.Place.Place, Standing.place_at}
+use Rattle.best_fit.specs.declared.places.Place.{Place}
+use Rattle.seg_vector.specs.{Standing.place_at}
 use Rattle.seg_vector.specs.Vector.{AreTextLinks, IsOwnedText, OwnedText, capacity_for_one, grown_table}
 use Rattle.seg_vector.specs.TextsCalls.{AreOthers, IsStillAtFirst, IsWithoutFit, IsTextPutIn, IsTexts, IsTextsNow}
 use Rattle.seg_vector.specs.TextsCalls.{one_more, placed_text, text_blocks}

@@ -13,7 +13,8 @@ use Rattle.best_fit.specs.{Fit.place, Fit.resized}
 use Rattle.best_fit.specs.Heap.{IsHeap, KeepsGaps, extent_at, has_room, live_of}
 use Rattle.best_fit.specs.Table.{Table, cut_table, is_table, no_table, serves}
 use Rattle.seg_types.specs.{declared.refusals.Refusal.Refusal, declared.refusals.Refusal.TheVariants.NoSpace}
-use Rattle.seg_vector.specs.{declared.places.Place.Place, Standing.IsOwnBlock, Standing.place_at, VectorCalls.IsOutside}
+use Rattle.best_fit.specs.declared.places.Place.{Place}
+use Rattle.seg_vector.specs.{Standing.IsOwnBlock, Standing.place_at, VectorCalls.IsOutside}
 use Rattle.seg_vector.specs.Vector.{IsOwnedText, IsTextsAt, OwnedText, capacity_for_one, grown_table}
 
 -- the blocks of texts

@@ -13,6 +13,11 @@ use Rattle.seg_types.specs.{declared.kinds.ScalarKind.ScalarKind, Kinds.spelling
 abbrev pub capacity_for_one : ℕ → ℕ → ℕ
 capacity_for_one len capacity = if nat_lt len capacity then capacity else max 4 (2 * capacity)
 
+-- the capacity that a vector of so many elements has for others behind them
+abbrev pub capacity_for_more : ℕ → ℕ → ℕ → ℕ
+capacity_for_more len more capacity =
+    if nat_le (len + more) capacity then capacity else max (max 4 (2 * capacity)) (len + more)
+
 -- the capacity that a text has for len bytes
 abbrev pub capacity_for_text : ℕ → ℕ → ℕ
 capacity_for_text len capacity = if nat_le len capacity then capacity else max (max 16 (2 * capacity)) len

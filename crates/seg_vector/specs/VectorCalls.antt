@@ -1,13 +1,13 @@
 -- A vector at a place, of any type whose values are spelled by `size` bytes, and what its calls answer and do.
 use Rattle.std.specs.Prelude.{◌≡◌, ℕ, ◌+◌, ◌-◌, ◌<◌, ◌≤◌, ◌⊎◌, Bool, IsTrue, Some, Result, Ok, MatchResult, List, []}
-use Rattle.std.specs.Prelude.{◌∷◌, ◌++◌, length, take, insert, remove, slice_get, slice_set, flat_map, option_to_list}
+use Rattle.std.specs.Prelude.{◌∷◌, ◌++◌, drop, length, take, insert, remove, slice_get, slice_set, flat_map, option_to_list}
 use Rattle.std.specs.List.{list_all}
 use Rattle.raw_region.specs.{Memory.Cut, Format.current}
 use Rattle.best_fit.specs.{Exchange.IsExchanged, Heap.KeepsGaps, Heap.live_of}
 use Rattle.best_fit.specs.Table.{Table, cut_table, no_table}
 use Rattle.seg_types.specs.{declared.refusals.Refusal.Refusal, declared.refusals.Refusal.TheVariants.OutOfRange}
-use Rattle.seg_vector.specs.declared.places.Place.{Place}
-use Rattle.seg_vector.specs.{Standing.Stands, Standing.place_at, Vector.capacity_for_one, Vector.grown_table}
+use Rattle.best_fit.specs.declared.places.Place.{Place}
+use Rattle.seg_vector.specs.{Standing.Stands, Standing.place_at, Vector.capacity_for_more, Vector.capacity_for_one, Vector.grown_table}
 pub use Rattle.seg_vector.specs.Standing.{IsWithoutSpace}
 
 -- the vector at a place has these elements
@@ -72,6 +72,19 @@ Sets {T} size is_value spelling old new p i x result =
     → MatchResult result (λ u. (i < length xs) × IsVectorNow size is_value spelling old new p t (slice_set xs i x) t)
     (IsOutside old new (length xs) i)
 
+-- a list with others in the places from one on
+abbrev pub replaced : {T : Type 0} → List T → ℕ → List T → List T
+replaced old first new = take first old ++ (new ++ drop (first + length new) old)
+
+-- all of them are there to be written over, or none is
+abbrev pub SetsAll : {T : Type 0} → ℕ → (T → Bool) → (T → List ℕ) → Cut → Cut → Place → ℕ → List T
+    → Result (Unit {0}) Refusal → Type 0
+SetsAll {T} size is_value spelling old new p first ys result =
+    (xs : List T) (t : Table) → IsVector size is_value spelling old.bytes p xs t
+    → MatchResult result (λ u. (first + length ys ≤ length xs)
+    × IsVectorNow size is_value spelling old new p t (replaced xs first ys) t)
+    (IsOutside old new (length xs + 1) (first + length ys))
+
 abbrev pub Pops : {T : Type 0} → ℕ → (T → Bool) → (T → List ℕ) → Cut → Cut → Place → Result T Refusal → Type 0
 Pops {T} size is_value spelling old new p result =
     (xs : List T) (t : Table) → IsVector size is_value spelling old.bytes p xs t
@@ -128,6 +141,15 @@ Assigns {T} size is_value spelling old new p ys result =
     (xs : List T) (t : Table) → IsVector size is_value spelling old.bytes p xs t
     → MatchResult result (λ u. IsVectorGrown size is_value spelling old new p t (length ys) ys)
     (IsWithoutSpace old new size (length ys) t)
+
+-- values put behind the last one, where there are places for all of them or more can be had
+abbrev pub ExtendsBy : {T : Type 0} → ℕ → (T → Bool) → (T → List ℕ) → Cut → Cut → Place → List T
+    → Result (Unit {0}) Refusal → Type 0
+ExtendsBy {T} size is_value spelling old new p ys result =
+    (xs : List T) (t : Table) → IsVector size is_value spelling old.bytes p xs t
+    → let n = capacity_for_more (length xs) (length ys) t.capacity in
+    MatchResult result (λ u. IsVectorGrown size is_value spelling old new p t n (xs ++ ys))
+    (IsWithoutSpace old new size n t)
 
 abbrev pub Shrinks : {T : Type 0} → ℕ → (T → Bool) → (T → List ℕ) → Cut → Cut → Place → Type 0
 Shrinks {T} size is_value spelling old new p =

@@ -1,11 +1,14 @@
 //! The elements of a container at a place: read, written over, left out, and put in where there is a place.
-ghost use Rattle.std.specs.Prelude.{◌≡◌, ◌+◌, ◌*◌, ◌<◌, ◌≤◌, length, true};
-ghost use Rattle.seg_vector.specs.Elements.{Erases, Extends, HasSpot, PutsAt, ReadsAll, ReadsOne, Truncates};
+ghost use Rattle.std.specs.{Prelude.◌≡◌, Prelude.◌+◌, Prelude.◌*◌, Prelude.◌<◌, Prelude.◌≤◌, Prelude.IsTrue};
+ghost use Rattle.std.specs.{Prelude.flat_map, Prelude.length, Prelude.true, List.list_all};
+ghost use Rattle.raw_region.specs.{Format.current, Memory.Has, Memory.bytes_of, Memory.patched};
+ghost use Rattle.best_fit.specs.Heap.{IsChanged, IsHeap, has_room, live_of};
+ghost use Rattle.seg_vector.specs.Elements.{Erases, Extends, HasSpot, Overwrites, PutsAt, ReadsAll, ReadsOne, Truncates};
 ghost use Rattle.seg_vector.specs.Standing.{IsStanding, capacity_at, len_at};
 
-use crate::places::{LEN, Place, len_of, link_of};
-use best_fit::Heap;
-use seg_types::Plain;
+use crate::places::{LEN, len_of, link_of};
+use best_fit::{Heap, Place};
+use seg_types::{MAX_SPELLING_LEN, Plain, SHORT_SPELLING_LEN};
 
 /// The bytes of all elements, of `each` bytes each.
 pub fn elements(heap: &Heap, place: Place, each: u64) -> &[u8]
@@ -108,11 +111,6 @@ pub fn put_at(heap: &mut Heap, place: Place, each: u64, spot: Spot, bytes: &[u8]
     }
 }
 
-/// Spellings of so many bytes go by way of a short buffer, and others by way of one for the longest.
-const SHORT: usize = 16;
-
-const LONGEST: usize = 4096;
-
 /// Puts a value at a spot.
 pub fn put_value<T: Plain>(heap: &mut Heap, place: Place, spot: Spot, value: T)
     requires stands { IsStanding heap.old.bytes place T.SIZE }
@@ -120,10 +118,10 @@ pub fn put_value<T: Plain>(heap: &mut Heap, place: Place, spot: Spot, value: T)
     ensures value { T.is_value value ≡ true }
     ensures put { PutsAt heap.old heap.new place T.SIZE spot (T.spelling value) }
 {
-    if T::SIZE as usize <= SHORT {
-        put_by::<T, SHORT>(heap, place, spot, value);
+    if T::SIZE as usize <= SHORT_SPELLING_LEN {
+        put_by::<T, SHORT_SPELLING_LEN>(heap, place, spot, value);
     } else {
-        put_by::<T, LONGEST>(heap, place, spot, value);
+        put_by::<T, MAX_SPELLING_LEN>(heap, place, spot, value);
     }
 }
 
@@ -140,4 +138,49 @@ fn put_by<T: Plain, const N: usize>(heap: &mut Heap, place: Place, spot: Spot, v
     let bytes = &mut buffer[..T::SIZE as usize];
     value.write(bytes);
     put_at(heap, place, T::SIZE, spot, bytes);
+}
+
+/// Spells a value into a row, from a place on.
+fn put_spelling<T: Plain>(row: &mut [u8], from: usize, value: T)
+    requires { from + T.SIZE ≤ length row.old }
+    ensures value { T.is_value value ≡ true }
+    ensures row { row.new ≡ patched row.old from (T.spelling value) }
+{
+    value.write(&mut row[from..from + T::SIZE as usize]);
+}
+
+/// Spells values into a row, one after another, from a place on.
+fn put_spellings<T: Plain>(row: &mut [u8], from: usize, values: &[T])
+    requires { from + T.SIZE * length values.now ≤ length row.old }
+    ensures values { IsTrue (list_all T.is_value values.now) }
+    ensures row { row.new ≡ patched row.old from (flat_map T.spelling values.now) }
+{
+    let each = T::SIZE as usize;
+    'values: for i in 0..values.len() {
+        put_spelling(row, from + each * i, values[i]);
+    }
+}
+
+/// Spells values into the block of a handle, one after another, from `at` on.
+pub fn spell<T: Plain>(heap: &mut Heap, handle: u64, at: u64, values: &[T])
+    requires heap { IsHeap current heap.old.bytes }
+    requires room { IsTrue (has_room (live_of heap.old.bytes) handle (at + T.SIZE * length values.now)) }
+    ensures values { IsTrue (list_all T.is_value values.now) }
+    ensures change { IsChanged current heap.old heap.new (handle + at) (T.SIZE * length values.now) }
+    ensures content { Has (bytes_of heap.new.bytes) (handle + at) (flat_map T.spelling values.now) }
+{
+    put_spellings(heap.block_mut(handle), at as usize, values);
+}
+
+/// Writes over the elements from `first` on with the spellings of values.
+pub fn put_over<T: Plain>(heap: &mut Heap, place: Place, first: u64, values: &[T])
+    requires stands { IsStanding heap.old.bytes place T.SIZE }
+    requires inside { first + length values.now ≤ len_at heap.old.bytes place }
+    requires some { 1 ≤ length values.now }
+    ensures values { IsTrue (list_all T.is_value values.now) }
+    ensures over { Overwrites heap.old heap.new place T.SIZE first (flat_map T.spelling values.now) }
+{
+    if let Some(storage) = link_of(heap, place) {
+        spell(heap, storage, T::SIZE * first, values);
+    }
 }

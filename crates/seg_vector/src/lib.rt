@@ -11,8 +11,8 @@ mod text_arrays;
 mod texts;
 mod vectors;
 
-pub use elements::truncate;
-pub use places::Place;
+pub use best_fit::Place;
+pub use elements::{spell, truncate};
 pub use sizing::{fit, give_back, reserve};
 pub use strings::SegString;
 pub use texts::SegTexts;

@@ -5,16 +5,7 @@ ghost use Rattle.offset_link.specs.Link.{link_at};
 ghost use Rattle.best_fit.specs.Heap.{IsHeap, has_room, live_of};
 ghost use Rattle.seg_vector.specs.Standing.{capacity_at, len_at, place_at};
 
-use best_fit::Heap;
-
-/// A place in the block of a handle: `at` bytes behind the handle.
-#[derive(Clone, Copy, Debug)]
-pub struct Place {
-    /// The block's handle.
-    pub handle: u64,
-    /// The offset in the block.
-    pub at: u64,
-}
+use best_fit::{Heap, Place};
 
 /// Where the length and the capacity of a container stand behind its link.
 pub const LEN: u64 = 8;

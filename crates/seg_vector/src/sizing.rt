@@ -2,12 +2,13 @@
 ghost use Rattle.std.specs.Prelude.{◌≡◌, ℕ, ◌+◌, ◌*◌, ◌%◌, ◌<◌, ◌≤◌, IsTrue, []};
 ghost use Rattle.raw_region.specs.Format.{current};
 ghost use Rattle.best_fit.specs.{Heap.IsChanged, Heap.IsHeap, Heap.has_room, Heap.live_of, Table.no_table};
-ghost use Rattle.seg_vector.specs.{Elements.Fits, Elements.GivesBack, Vector.capacity_for_one as places_for_one};
+ghost use Rattle.seg_vector.specs.{Elements.Fits, Elements.GivesBack, Vector.capacity_for_more as places_for_more};
+ghost use Rattle.seg_vector.specs.{Vector.capacity_for_one as places_for_one};
 ghost use Rattle.seg_vector.specs.Standing.{Grows, GrowsForOne, IsStanding, Stands, len_at, place_at};
 ghost use Rattle.seg_vector.specs.TextParts.{IsPointed};
 
-use crate::places::{CAPACITY, LEN, Place, capacity_of, len_of, link_of};
-use best_fit::{Heap, NoSpace};
+use crate::places::{CAPACITY, LEN, capacity_of, len_of, link_of};
+use best_fit::{Heap, NoSpace, Place};
 use block_tags::MAX_SEGMENT_LEN;
 use raw_region::Steps;
 use seg_types::Refusal;
@@ -106,6 +107,19 @@ pub fn capacity_for_one(len: u64, capacity: u64) -> u64
         capacity
     } else {
         (2 * capacity).max(4)
+    }
+}
+
+/// The capacity that a container has for so many elements more.
+pub fn capacity_for_more(len: u64, more: u64, capacity: u64) -> u64
+    requires needed { len + more < 18446744073709551616 }
+    requires twice { 2 * capacity < 18446744073709551616 }
+    ensures { result ≡ places_for_more len more capacity }
+{
+    if len + more <= capacity {
+        capacity
+    } else {
+        (2 * capacity).max(4).max(len + more)
     }
 }
 

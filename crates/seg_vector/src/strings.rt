@@ -8,9 +8,9 @@ ghost use Rattle.seg_vector.specs.TextCalls.{GetsByte, IsSomeText, ReadsText, Re
 ghost use Rattle.seg_vector.specs.TextCalls.{ReservesNoBytes, SetsByte, ShrinksText, StartsText};
 
 use crate::elements::{Spot, elements, extend, put_at, truncate};
-use crate::places::{Place, capacity_of, len_of};
+use crate::places::{capacity_of, len_of};
 use crate::sizing::{self, fit, give_back, start};
-use best_fit::Heap;
+use best_fit::{Heap, Place};
 use block_tags::MAX_SEGMENT_LEN;
 use seg_types::Refusal;
 

@@ -11,9 +11,9 @@ ghost use Rattle.seg_vector.specs.TextParts.{IsToBeGivenUp, PutsIn};
 ghost use Rattle.seg_vector.specs.TextsCalls.{IsSomeTexts};
 
 use crate::owning::{place_text, take};
-use crate::places::{ELEMENT, LEN, Place, len_of, link_of};
+use crate::places::{ELEMENT, LEN, len_of, link_of};
 use crate::sizing::point_to;
-use best_fit::Heap;
+use best_fit::{Heap, Place};
 use raw_region::Steps;
 use seg_types::Refusal;
 

@@ -8,12 +8,12 @@ ghost use Rattle.seg_vector.specs.TextsCalls.{ReservesNoTexts, ReservesTexts, Se
 ghost use Rattle.seg_vector.specs.{TextsCalls.StaysAtFirst, TextsCalls.new_array, Standing.place_at};
 
 use crate::owning::{lay_out, place_text, release_text, release_texts};
-use crate::places::{ELEMENT, LEN, Place, capacity_of, len_of, link_of};
+use crate::places::{ELEMENT, LEN, capacity_of, len_of, link_of};
 use crate::sizing::{capacity_for_one, fit, give_back, point_to, start};
 use crate::text_arrays::{
     adopt, ask_array, carry_down, insert_growing, insert_within, put_element,
 };
-use best_fit::Heap;
+use best_fit::{Heap, Place};
 use block_tags::MAX_SEGMENT_LEN;
 use seg_types::Refusal;
 

@@ -3,14 +3,15 @@ ghost use Rattle.std.specs.Prelude.{◌≡◌, ◌+◌, ◌%◌, ◌≤◌, ◌+
 ghost use Rattle.raw_region.specs.Format.{current};
 ghost use Rattle.best_fit.specs.{Heap.IsChanged, Heap.IsHeap, Heap.has_room, Heap.live_of, Table.Table as ATable};
 ghost use Rattle.seg_vector.specs.Standing.{place_at};
-ghost use Rattle.seg_vector.specs.VectorCalls.{Assigns, Clears, Counts, CountsPlaces, ErasesFrom, Gets, InsertsInto};
-ghost use Rattle.seg_vector.specs.VectorCalls.{IsSomeVector, IsVector, Pops, Pushes, PutsAll, Releases, Reserves};
-ghost use Rattle.seg_vector.specs.VectorCalls.{ReservesNothing, Sets, Shrinks, Starts};
+ghost use Rattle.seg_vector.specs.VectorCalls.{Assigns, Clears, Counts, CountsPlaces, ErasesFrom, ExtendsBy, Gets};
+ghost use Rattle.seg_vector.specs.VectorCalls.{InsertsInto, IsSomeVector, IsVector, Pops, Pushes, PutsAll, Releases};
+ghost use Rattle.seg_vector.specs.VectorCalls.{Reserves, ReservesNothing, Sets, SetsAll, Shrinks, Starts};
 
-use crate::elements::{Spot, element, erase_element, put_value, truncate};
-use crate::places::{Place, capacity_of, len_of};
-use crate::sizing::{self, fit, give_back, grow_for_one, start};
-use best_fit::Heap;
+use crate::elements::{Spot, element, erase_element, put_over, put_value, truncate};
+use crate::places::{capacity_of, len_of};
+use crate::sizing::{self, capacity_for_more, fit, give_back, grow_for_one, start};
+use best_fit::{Heap, Place};
+use block_tags::MAX_SEGMENT_LEN;
 use seg_types::{Plain, Refusal};
 use std::marker::PhantomData;
 
@@ -98,6 +99,27 @@ impl<T: Plain> SegVec<T> {
         Ok(())
     }
 
+    /// Writes over the values with `first` others before them and from there on, as many as there are of the new ones.
+    ///
+    /// # Errors
+    ///
+    /// `OutOfRange` where there are not so many. Nothing changes.
+    pub fn overwrite(self, heap: &mut Heap, first: u64, values: &[T]) -> Result<(), Refusal>
+        requires { IsSomeVector T.SIZE T.is_value T.spelling heap.old.bytes self.place }
+        ensures { SetsAll T.SIZE T.is_value T.spelling heap.old heap.new self.place first values.now result }
+        ensures none { length values.now ≡ 0 → heap.new ≡ heap.old }
+    {
+        let len = self.len(heap);
+        let more = values.len() as u64;
+        if first > len || more > len - first {
+            return Err(Refusal::OutOfRange);
+        }
+        if more > 0 {
+            put_over(heap, self.place, first, values);
+        }
+        Ok(())
+    }
+
     /// Takes the last value out. The places stay.
     ///
     /// # Errors
@@ -161,6 +183,26 @@ impl<T: Plain> SegVec<T> {
         }
         grow_for_one(heap, self.place, T::SIZE, len)?;
         put_value(heap, self.place, Spot::Before(index), value);
+        Ok(())
+    }
+
+    /// Puts values behind the last one, one after another. Where there are not places for all of them, there are twice
+    /// as many as before, and at least 4, and as many as are needed.
+    ///
+    /// # Errors
+    ///
+    /// `NoSpace` where there are fewer places and the storage cannot be regrown. Nothing changes.
+    pub fn extend(self, heap: &mut Heap, values: &[T]) -> Result<(), Refusal>
+        requires { IsSomeVector T.SIZE T.is_value T.spelling heap.old.bytes self.place }
+        ensures { ExtendsBy T.SIZE T.is_value T.spelling heap.old heap.new self.place values.now result }
+    {
+        let more = values.len() as u64;
+        if more > MAX_SEGMENT_LEN {
+            return Err(Refusal::NoSpace);
+        }
+        let wanted = capacity_for_more(self.len(heap), more, self.capacity(heap));
+        sizing::reserve(heap, self.place, T::SIZE, wanted)?;
+        put_all(heap, self.place, values);
         Ok(())
     }
 

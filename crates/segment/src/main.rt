@@ -12,15 +12,14 @@ use requests::{NoMemory, asked, borrowed, buffered, words};
 use segment_answers::{Lined, Numbered};
 use segment_cli::{ProgramFault, SessionFault};
 use segment_commands::{
-    CommandFault, WRITE_FAULT, check, create, draw, draw_page, dump, dump_capacities, dump_json,
-    explain, grow, lint, load, load_over, migrate, names, print, print_language, report,
-    report_file, report_no_memory, shrink, stat,
+    CommandFault, check, check_all, create, explain, grow, lint, load, load_over, migrate, names,
+    print, print_language, put_trouble, report, report_no_memory, shrink, tell_segment,
 };
-use segment_disk::{Disk, HostDisk, Opened, Outlet, Output, Trouble};
+use segment_disk::{Disk, HostDisk, Opened, Outlet, Trouble};
 use segment_invocation::{
-    Invocation, Keeping, ModeName, Running, Saving, Script, VERSION, is_verbose, script_text,
+    Change, Invocation, Keeping, ModeName, Running, Saving, Script, VERSION, is_verbose,
+    script_text,
 };
-use segment_lang::{Piece, put_pieces};
 use segment_scripts::{Until, command_rows};
 use std::io::{self, IsTerminal, Read, Write};
 use std::process::ExitCode;
@@ -67,7 +66,7 @@ fn obey(rt: &HostRuntime) -> Result<u8, NoMemory> {
 /// system did not open or make the file, as far as it said so.
 fn perform(rt: &HostRuntime, asked: &Invocation<'_>, is_verbose: bool) -> Result<u8, NoMemory> {
     let buffer = buffered(rt.alloc(), io::writer(rt))?;
-    let mut disk = HostDisk::patient(rt, seconds_of(asked));
+    let mut disk = HostDisk::patient(rt, keeping_of(asked).wait);
     let mut scripts = HostDisk::new(rt);
     let out = Outlet::new(buffer);
     let is_verbose = is_verbose || rt.stderr().is_terminal();
@@ -78,54 +77,10 @@ fn perform(rt: &HostRuntime, asked: &Invocation<'_>, is_verbose: bool) -> Result
     let status = tell(rt, fault);
     if is_of_file(fault) && is_verbose {
         if let Some((path, trouble)) = trouble_of(asked, &disk, &scripts) {
-            report_file(path, trouble, &mut Writing::new(rt.stderr()));
+            let _ = put_trouble(path, trouble, &mut Writing::new(rt.stderr()));
         }
     }
     Ok(status)
-}
-
-/// Checks files one after another, and answers the worst status. Each line that is said of one begins with its path,
-/// which stands there as a text of the language.
-fn check_all<W: Write>(
-    rt: &HostRuntime,
-    disk: &mut HostDisk<'_, HostRuntime>,
-    files: &[&str],
-    is_quiet: bool,
-    is_verbose: bool,
-    out: &mut Outlet<W>,
-) -> Result<u8, CommandFault>
-    requires { out.old.history ≡ nothing_taken }
-{
-    let mut worst = 0;
-    'files: for file in files {
-        let front = Piece::Text(file.as_bytes());
-        match check(rt.alloc(), disk, file, &mut Outlet::new(io::sink())) {
-            Ok(()) if is_quiet => {}
-            Ok(()) => {
-                let line = [front, Piece::Bytes(b": ok\n")];
-                let Ok(()) = put_pieces(out, &line) else {
-                    return Err(WRITE_FAULT);
-                };
-            }
-            Err(fault) => {
-                let Ok(()) = out.flush() else {
-                    return Err(WRITE_FAULT);
-                };
-                let _ = put_pieces(
-                    &mut Writing::new(rt.stderr()),
-                    &[front, Piece::Bytes(b": ")],
-                );
-                worst = worst.max(tell(rt, fault));
-                if let (true, Some(trouble)) = (is_verbose, disk.trouble()) {
-                    report_file(file, trouble, &mut Writing::new(rt.stderr()));
-                }
-            }
-        }
-    }
-    match out.flush() {
-        Ok(()) => Ok(worst),
-        Err(_) => Err(WRITE_FAULT),
-    }
 }
 
 /// What the system said of the script that was to be opened, or else of the file, and its path.
@@ -140,15 +95,19 @@ fn trouble_of<'a>(
     }
 }
 
-/// For how many seconds the right to write a file is waited for.
-fn seconds_of(asked: &Invocation<'_>) -> u64 {
+/// How the file that the command line names is taken and saved.
+fn keeping_of(asked: &Invocation<'_>) -> Keeping {
     match asked {
-        Invocation::RunWith(_, _, _, how) => how.keeping.wait,
-        Invocation::GrowWith(_, _, keeping)
-        | Invocation::ShrinkWith(_, keeping)
-        | Invocation::MigrateWith(_, keeping)
-        | Invocation::Load(_, _, keeping) => keeping.wait,
-        _ => 0,
+        Invocation::ChangeWith(_, _, keeping) | Invocation::Load(_, _, keeping) => *keeping,
+        _ => running_of(asked).keeping,
+    }
+}
+
+/// What a run is asked for beside its file, mode and size.
+fn running_of<'a>(asked: &'a Invocation<'a>) -> &'a Running<'a> {
+    match asked {
+        Invocation::RunWith(_, _, _, how) => how,
+        _ => &Running::PLAIN,
     }
 }
 
@@ -167,56 +126,40 @@ fn command<W: Write + Drop>(
     let mut out = out;
     let answer = match asked {
         Invocation::Create(file, size) => create(alloc, disk, file, *size),
-        Invocation::Run(file, mode, size) => {
+        Invocation::Run(file, mode, size) | Invocation::RunWith(file, mode, size, _) => {
             let run = Run {
                 file,
                 mode: *mode,
                 size: *size,
+                how: running_of(asked),
             };
-            answer(rt, disk, scripts, run, &Running::PLAIN, out)?;
-            return Ok(0);
-        }
-        Invocation::RunWith(file, mode, size, how) => {
-            let run = Run {
-                file,
-                mode: *mode,
-                size: *size,
-            };
-            answer(rt, disk, scripts, run, how, out)?;
+            answer(rt, disk, scripts, run, out)?;
             return Ok(0);
         }
         Invocation::Check(file) => check(alloc, disk, file, &mut out),
         Invocation::CheckAll(files, is_quiet) => {
-            return check_all(rt, disk, files.as_slice(), *is_quiet, is_verbose, &mut out);
-        }
-        Invocation::Grow(file, bytes) => grow(alloc, disk, file, *bytes, Saving::InPlace, &mut out),
-        Invocation::GrowWith(file, bytes, keeping) => {
-            grow(alloc, disk, file, *bytes, keeping.saving, &mut out)
-        }
-        Invocation::Shrink(file) => shrink(alloc, disk, file, Saving::InPlace, &mut out),
-        Invocation::ShrinkWith(file, keeping) => {
-            shrink(alloc, disk, file, keeping.saving, &mut out)
-        }
-        Invocation::Migrate(file) => migrate(alloc, disk, file, Saving::InPlace, &mut out),
-        Invocation::MigrateWith(file, keeping) => {
-            migrate(alloc, disk, file, keeping.saving, &mut out)
+            let trouble_of = |disk: &HostDisk<'_, HostRuntime>| {
+                if is_verbose { disk.trouble() } else { None }
+            };
+            let mut err = Writing::new(rt.stderr());
+            let files = files.as_slice();
+            return check_all(
+                alloc, disk, files, *is_quiet, trouble_of, &mut out, &mut err,
+            );
         }
         Invocation::Explain(file) => explain(alloc, disk, file, &mut out),
-        Invocation::Stat(file) => stat(alloc, disk, file, &mut out),
-        Invocation::Draw(file) => draw(alloc, disk, file, &mut out),
-        Invocation::DrawPage(file) => draw_page(alloc, disk, file, &mut out),
-        Invocation::Dump(file) => dump(alloc, disk, file, &mut out),
-        Invocation::DumpCapacities(file) => dump_capacities(alloc, disk, file, &mut out),
-        Invocation::DumpJson(file) => dump_json(alloc, disk, file, &mut out),
+        Invocation::Grow(file, bytes) => grow(alloc, disk, file, *bytes, Saving::InPlace, &mut out),
+        Invocation::Shrink(file) => shrink(alloc, disk, file, Saving::InPlace, &mut out),
+        Invocation::Migrate(file) => migrate(alloc, disk, file, Saving::InPlace, &mut out),
+        Invocation::ChangeWith(file, change, Keeping { saving, .. }) => match change {
+            Change::Grow(bytes) => grow(alloc, disk, file, *bytes, *saving, &mut out),
+            Change::Shrink => shrink(alloc, disk, file, *saving, &mut out),
+            Change::Migrate => migrate(alloc, disk, file, *saving, &mut out),
+        },
+        Invocation::Tell(file, what) => tell_segment(alloc, disk, file, &mut out, *what),
         Invocation::Names(file, prefix, most) => {
-            names(
-                alloc,
-                disk,
-                file,
-                prefix,
-                most.unwrap_or(u64::MAX),
-                &mut out,
-            )
+            let most = most.unwrap_or(u64::MAX);
+            names(alloc, disk, file, prefix, most, &mut out)
         }
         Invocation::Load(file, size, keeping) => {
             let mut text = Reading::new(rt.reader());
@@ -241,41 +184,53 @@ fn ends_quietly(asked: &Invocation<'_>) -> bool {
     matches!(
         asked,
         Invocation::Explain(_)
-            | Invocation::Stat(_)
-            | Invocation::Draw(_)
-            | Invocation::DrawPage(_)
-            | Invocation::Dump(_)
-            | Invocation::DumpCapacities(_)
-            | Invocation::DumpJson(_)
+            | Invocation::Tell(_, _)
             | Invocation::Names(_, _, _)
             | Invocation::Lint
             | Invocation::Language
     )
 }
 
-/// The run that is asked for, as far as no option of its own says more.
+/// The run that is asked for.
 #[derive(Clone, Copy)]
 struct Run<'a> {
     file: &'a str,
     mode: ModeName,
     size: Option<u64>,
+    how: &'a Running<'a>,
 }
 
-/// Runs the script that is asked for, and gives its answers to an output.
+/// Runs the script that is asked for, and gives its answers to an output that makes of them what is wanted.
 fn answer<O: Lined + Drop>(
     rt: &HostRuntime,
     disk: &mut HostDisk<'_, HostRuntime>,
     scripts: &mut HostDisk<'_, HostRuntime>,
     run: Run<'_>,
-    how: &Running<'_>,
     out: O,
 ) -> Result<(), CommandFault>
     requires { O.history out ≡ nothing_taken }
 {
-    match &how.script {
+    if run.how.answering.numbered {
+        return answer_to(rt, disk, scripts, run, &mut Numbered::new(out));
+    }
+    let mut plain = out;
+    answer_to(rt, disk, scripts, run, &mut plain)
+}
+
+/// The same to an output as it is.
+fn answer_to<O: Lined>(
+    rt: &HostRuntime,
+    disk: &mut HostDisk<'_, HostRuntime>,
+    scripts: &mut HostDisk<'_, HostRuntime>,
+    run: Run<'_>,
+    out: &mut O,
+) -> Result<(), CommandFault>
+    requires { O.history out.old ≡ nothing_taken }
+{
+    match &run.how.script {
         Script::Input => {
             let mut script = Reading::new(Prompted::new(rt, rt.reader()));
-            answer_script(rt, disk, run, how, &mut script, out)
+            run_script(rt, disk, run, &mut script, out)
         }
         Script::File(path) => {
             let Ok(opened) = scripts.open(path) else {
@@ -283,48 +238,32 @@ fn answer<O: Lined + Drop>(
             };
             let Opened { reader, len: _ } = opened;
             let mut script = reader;
-            answer_script(rt, disk, run, how, &mut script, out)
+            run_script(rt, disk, run, &mut script, out)
         }
         Script::Lines(lines) => {
             let text = script_text(rt.alloc(), lines.as_slice())?;
-            let mut script = Reading::new(text.as_slice());
-            answer_script(rt, disk, run, how, &mut script, out)
+            run_script(rt, disk, run, &mut Reading::new(text.as_slice()), out)
         }
     }
 }
 
-/// Runs a script, and gives its answers to an output that makes of them what is wanted.
-fn answer_script<S: Source, O: Lined + Drop>(
+/// Runs a script, to its end or to the first line that is refused.
+fn run_script<S: Source, O: Lined>(
     rt: &HostRuntime,
     disk: &mut HostDisk<'_, HostRuntime>,
     run: Run<'_>,
-    how: &Running<'_>,
-    script: &mut S,
-    out: O,
-) -> Result<(), CommandFault>
-    requires script { (S.history script.old).failures ≡ 0 }
-    requires out { O.history out ≡ nothing_taken }
-{
-    if how.answering.numbered {
-        return answer_to(rt, disk, run, how, script, &mut Numbered::new(out));
-    }
-    let mut plain = out;
-    answer_to(rt, disk, run, how, script, &mut plain)
-}
-
-/// The same to an output as it is, to the end of the script or to the first line that is refused.
-fn answer_to<S: Source, O: Lined>(
-    rt: &HostRuntime,
-    disk: &mut HostDisk<'_, HostRuntime>,
-    run: Run<'_>,
-    how: &Running<'_>,
     script: &mut S,
     out: &mut O,
 ) -> Result<(), CommandFault>
     requires script { (S.history script.old).failures ≡ 0 }
     requires out { O.history out.old ≡ nothing_taken }
 {
-    let alloc = rt.alloc();
+    let Run {
+        file,
+        mode,
+        size,
+        how,
+    } = run;
     let saving = how.keeping.saving;
     let until = if how.answering.strict {
         Until::Refusal
@@ -332,7 +271,15 @@ fn answer_to<S: Source, O: Lined>(
         Until::End
     };
     segment_commands::run(
-        alloc, disk, run.file, run.mode, run.size, saving, until, script, out,
+        rt.alloc(),
+        disk,
+        file,
+        mode,
+        size,
+        saving,
+        until,
+        script,
+        out,
     )
 }
 
@@ -368,10 +315,15 @@ impl<'a, R: Read> ReadOnce for Prompted<'a, R> {
 /// The file with the script that the command line names, if there is one.
 fn script_of<'a>(asked: &Invocation<'a>) -> Option<&'a str> {
     match asked {
-        Invocation::RunWith(_, _, _, how) => match how.script {
-            Script::File(path) => Some(path),
-            Script::Input | Script::Lines(_) => None,
-        },
+        Invocation::RunWith(
+            _,
+            _,
+            _,
+            Running {
+                script: Script::File(path),
+                ..
+            },
+        ) => Some(*path),
         _ => None,
     }
 }
@@ -385,17 +337,10 @@ fn file_of<'a>(asked: &Invocation<'a>) -> Option<&'a str> {
         | Invocation::Check(file)
         | Invocation::Explain(file)
         | Invocation::Grow(file, _)
-        | Invocation::GrowWith(file, _, _)
         | Invocation::Shrink(file)
-        | Invocation::ShrinkWith(file, _)
         | Invocation::Migrate(file)
-        | Invocation::MigrateWith(file, _)
-        | Invocation::Stat(file)
-        | Invocation::Draw(file)
-        | Invocation::DrawPage(file)
-        | Invocation::Dump(file)
-        | Invocation::DumpCapacities(file)
-        | Invocation::DumpJson(file)
+        | Invocation::ChangeWith(file, _, _)
+        | Invocation::Tell(file, _)
         | Invocation::Names(file, _, _)
         | Invocation::Load(file, _, _) => Some(*file),
         Invocation::CheckAll(_, _)

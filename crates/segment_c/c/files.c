@@ -98,6 +98,7 @@ static void in_child(void) {
     for (struct zx_held_file *each = all_held; each; each = each->next) {
         close_all(each);
         if (!each->mapped) continue;
+        munmap(each->at, each->len);
         each->mapped->at = NULL;
         each->mapped->changes++;
     }
@@ -455,7 +456,6 @@ static zx_code read_segment(zx_file *file, int from, uint32_t how) {
 /* Attaches the mapping, whose image has `size` bytes. */
 static zx_code attach(zx_file *file, struct zx_held_file *held, uint64_t size, uint32_t how) {
     zx_memory memory = { held->at, held->len };
-    madvise(held->at, held->len, MADV_DONTFORK);
     zx_code code = zx_attach(&file->segment, &memory, size, how);
     return explained(file, code, held->at, size);
 }
@@ -479,6 +479,39 @@ static uint64_t size_said(const uint8_t *image) {
     return size;
 }
 
+/* Where files of one length are mapped again and again: between two pages that stay. With what lies beside a mapping the
+   system keeps its tables for both ends of it; to make and free them would cost as much as all else that an opening asks
+   of it. */
+static struct {
+    uint8_t *at;  /* null if there are no such pages */
+    uint64_t len; /* of the file that was mapped last, in whole pages */
+} place;
+
+/* Takes the two pages away, and puts them where a second file of one length is mapped. */
+static void move_place(size_t page, uint64_t len) {
+    if (place.at) {
+        munmap(place.at - page, page);
+        munmap(place.at + place.len, page);
+        place.at = NULL;
+    }
+    bool is_second = place.len == len;
+    place.len = len;
+    if (!is_second) return;
+    uint8_t *at = mmap(NULL, len + 2 * page, PROT_NONE, MAP_PRIVATE | MAP_ANONYMOUS | MAP_NORESERVE, -1, 0);
+    if (at != MAP_FAILED && munmap(at + page, len) == 0) place.at = at + page;
+}
+
+/* Where a file of a length may be mapped, if nothing else is there by then; null if that does not matter. */
+static void *place_for(uint64_t len) {
+    size_t page = (size_t)sysconf(_SC_PAGESIZE);
+    len = (len + page - 1) / page * page;
+    pthread_mutex_lock(&guard);
+    if (!place.at || place.len != len) move_place(page, len);
+    void *at = place.at;
+    pthread_mutex_unlock(&guard);
+    return at;
+}
+
 static zx_code map_anew(zx_file *file, struct zx_held_file *held, uint32_t how);
 
 /* Maps the file, and opens its segment where it stands. */
@@ -488,7 +521,7 @@ static zx_code map(zx_file *file, struct zx_held_file *held, const struct stat *
     if (len == 0 || len % 16 != 0) return read_segment(file, held->file, how);
     if (how == ZX_WRITE && !allot(held->file, found, len)) return fault(file);
     int protection = how == ZX_READ ? PROT_READ : PROT_READ | PROT_WRITE;
-    void *at = mmap(NULL, len, protection, how == ZX_WRITE ? MAP_SHARED : MAP_PRIVATE, held->file, 0);
+    void *at = mmap(place_for(len), len, protection, how == ZX_WRITE ? MAP_SHARED : MAP_PRIVATE, held->file, 0);
     if (at == MAP_FAILED) return fault(file);
     held->at = at;
     held->len = len;
@@ -522,6 +555,10 @@ static void unmap(zx_file *file, struct zx_held_file *held) {
                    (size != held->len || held->is_uncut);
     zx_close(&file->segment);
     if (held->owner != getpid()) return;
+    // a child that is forked from here on has another mapping there, maybe
+    pthread_mutex_lock(&guard);
+    held->mapped = NULL;
+    pthread_mutex_unlock(&guard);
     munmap(held->at, held->len);
     if (is_long && !cut(held->file, size)) cut(held->file, size);
 }
@@ -543,6 +580,7 @@ static zx_code remap(zx_file *file, struct zx_held_file *held, uint64_t size, ui
         return code;
     }
     zx_detach(&file->segment, &memory);
+    pthread_mutex_lock(&guard);
     void *at = mremap(held->at, held->len, wanted, MREMAP_MAYMOVE);
     bool is_done = at != MAP_FAILED;
     int error = errno;
@@ -550,6 +588,7 @@ static zx_code remap(zx_file *file, struct zx_held_file *held, uint64_t size, ui
         held->at = at;
         held->len = wanted;
     }
+    pthread_mutex_unlock(&guard);
     zx_code code = attach(file, held, size, ZX_WRITE);
     if (code == ZX_DONE && !is_done) code = faulty(file, ZX_FILE_FAULT, error);
     if ((code != ZX_DONE || wanted == size) && !cut_mapped(held, size) && code == ZX_DONE) code = fault(file);

@@ -6,12 +6,24 @@
 
 #define PYTHON extern __attribute__((weak))
 
-/* How CPython is told of a function (PyMethodDef). */
+/* How CPython is told of a method (PyMethodDef), of a part of a class (PyType_Slot) and of a class (PyType_Spec). */
 struct method {
     const char *name;
     void *(*call)(void *self, void *const *passed, intptr_t count);
     int flags;
     const char *words;
+};
+
+struct slot {
+    int number;
+    void *part;
+};
+
+struct class {
+    const char *name;
+    int size, item_size;
+    unsigned flags;
+    struct slot *slots;
 };
 
 PYTHON char PyLong_Type[], PyBool_Type[], _Py_NoneStruct[], _Py_TrueStruct[];
@@ -25,10 +37,9 @@ PYTHON unsigned long long PyLong_AsUnsignedLongLong(void *object);
 PYTHON void *PyList_GetItem(void *list, intptr_t index);
 PYTHON void *PyErr_Occurred(void);
 PYTHON void PyErr_Clear(void);
-PYTHON void *PyErr_NoMemory(void);
-PYTHON void *PyCapsule_New(void *at, const char *name, void (*end)(void *capsule));
-PYTHON void *PyCapsule_GetPointer(void *capsule, const char *name);
-PYTHON void *PyCFunction_NewEx(struct method *method, void *self, void *module);
+PYTHON void *PyObject_CallMethod(void *object, const char *name, const char *form, ...);
+PYTHON void *PyType_FromSpec(struct class *class);
+PYTHON void *PyType_GetSlot(void *type, int number);
 
 /* ---- numbers and truths */
 
@@ -112,26 +123,19 @@ bool zx_python_row(void *list, uint32_t kind, void *row, size_t count) {
     return is_row;
 }
 
-/* ---- functions */
+/* ---- places */
 
-static const char IS_PLACE[] = "zaluxhoni.place";
-
-/* What a function is over. */
+/* An object of the class. */
 struct place {
-    zx_segment *segment;
+    void *count, *type; /* as each object begins */
+    zx_segment *segment; /* null before zx_python_place */
     uint64_t thread;
     zx_key key;
     uint32_t kind;
     void *owner;
 };
 
-static void end(void *capsule) {
-    struct place *place = PyCapsule_GetPointer(capsule, IS_PLACE);
-    Py_DecRef(place->owner);
-    free(place);
-}
-
-static void *shared(char *object) {
+static void *shared(void *object) {
     Py_IncRef(object);
     return object;
 }
@@ -163,28 +167,54 @@ static void *at_index(const struct place *place, void *const *passed, bool is_pu
 }
 
 static void *at(void *self, void *const *passed, intptr_t count) {
-    const struct place *place = PyCapsule_GetPointer(self, IS_PLACE);
-    if (!place) return NULL;
-    bool is_here = !place->thread || place->thread == zx_thread();
-    if (!is_here || count < 1 || count > 2) return shared(_Py_NoneStruct);
-    bool is_map = place->kind >= ZX_MAP(0, 0) && place->kind < ZX_STRINGS;
+    const struct place *place = self;
+    if (!place->segment) {
+        void *none = PyObject_CallMethod(self, "_start", NULL);
+        if (!none) return NULL;
+        Py_DecRef(none);
+    }
+    bool is_here = place->segment && (!place->thread || place->thread == zx_thread());
+    if (!is_here || place->kind >= ZX_STRINGS || count < 1 || count > 2) return shared(_Py_NoneStruct);
+    bool is_map = place->kind >= ZX_MAP(0, 0);
     return (is_map ? at_key : at_index)(place, passed, count == 2);
 }
 
-void *zx_python_at(zx_segment *segment, const zx_key *key, uint32_t kind, uint64_t thread, void *owner) {
-    // METH_FASTCALL
-    static struct method method = { "at", at, 0x80, "A value at a key or an index; or puts one there." };
-    if (!is_there()) return NULL;
-    struct place *place = malloc(sizeof *place);
-    if (!place) return PyErr_NoMemory();
-    *place = (struct place){ segment, thread, *key, kind, owner };
-    void *capsule = PyCapsule_New(place, IS_PLACE, end);
-    if (!capsule) {
-        free(place);
-        return NULL;
-    }
-    Py_IncRef(owner);
-    void *function = PyCFunction_NewEx(&method, capsule, NULL);
-    Py_DecRef(capsule);
-    return function;
+static void *item(void *self, void *key) {
+    void *value = at(self, &key, 1);
+    if (value != _Py_NoneStruct) return value;
+    Py_DecRef(value);
+    return PyObject_CallMethod(self, "_item", "(O)", key);
+}
+
+enum { FASTCALL = 0x80, MP_SUBSCRIPT = 5, TP_DEALLOC = 52, TP_METHODS = 64, TP_FREE = 74, BASETYPE = 1 << 10,
+       HAVE_VERSION_TAG = 1 << 18 };
+
+static void end(void *self) {
+    const struct place *place = self;
+    void *type = place->type;
+    void (*release)(void *) = (void (*)(void *))PyType_GetSlot(type, TP_FREE);
+    if (place->owner) Py_DecRef(place->owner);
+    release(self);
+    Py_DecRef(type);
+}
+
+void *zx_python_class(void) {
+    static struct method methods[] = { { "_at", at, FASTCALL, "A value at a key or an index; or puts one there." },
+                                       { NULL, NULL, 0, NULL } };
+    static struct slot slots[] = { { MP_SUBSCRIPT, (void *)item }, { TP_DEALLOC, (void *)end }, { TP_METHODS, methods },
+                                   { 0, NULL } };
+    static struct class class = { "zaluxhoni._library.Place", sizeof(struct place), 0, BASETYPE | HAVE_VERSION_TAG,
+                                  slots };
+    return is_there() ? PyType_FromSpec(&class) : NULL;
+}
+
+bool zx_python_place(void *object, zx_segment *segment, const zx_key *key, uint32_t kind, uint64_t thread, void *owner) {
+    struct place *place = object;
+    if (!is_there() || place->segment) return false;
+    place->thread = thread;
+    place->key = *key;
+    place->kind = kind;
+    place->owner = shared(owner);
+    place->segment = segment;
+    return true;
 }

@@ -13,31 +13,6 @@ static int64_t word_in(const zx_value *value) {
 
 /* ---- rows */
 
-static size_t count_of(const zx_values *values) {
-    return values->truth_count + values->byte_count + values->i32_count + values->i64_count + values->u64_count;
-}
-
-static zx_value element_of(const zx_values *values, size_t at) {
-    switch (values->kind) {
-    case ZX_BOOL: return zx_bool(values->truths[at]);
-    case ZX_U8: return zx_u8(values->bytes[at]);
-    case ZX_I32: return zx_i32(values->i32s[at]);
-    case ZX_I64: return zx_i64(values->i64s[at]);
-    default: return zx_u64(values->u64s[at]);
-    }
-}
-
-zx_code zx_push_row(zx_segment *segment, const zx_key *key, uint64_t first, const zx_values *values) {
-    uint64_t len, places;
-    if (values->kind < ZX_BOOL || values->kind > ZX_U64) return values->kind ? ZX_BAD_KIND : ZX_NULL_SLICE;
-    zx_code code = zx_measure(segment, key, &len, &places);
-    for (; !code && len - first < count_of(values); len++) {
-        zx_value value = element_of(values, len - first);
-        code = zx_push(segment, key, &value);
-    }
-    return code;
-}
-
 zx_code zx_read_pairs(zx_segment *segment, const zx_key *key, const zx_value *after, int64_t *keys, int64_t *values,
                       size_t count, size_t *read) {
     zx_value last, at, value;

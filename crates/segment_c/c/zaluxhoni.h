@@ -389,10 +389,11 @@ static inline zx_code zx_tell(zx_segment *segment, const zx_key *key, zx_info *i
 
 zx_code zx_get(zx_segment *segment, const zx_key *key, uint64_t index, zx_value *value);
 zx_code zx_set(zx_segment *segment, const zx_key *key, uint64_t index, const zx_value *value);
-/* Of vectors alone. */
+/* Of vectors alone. zx_extend puts values behind the last element: all of them or none. */
 zx_code zx_push(zx_segment *segment, const zx_key *key, const zx_value *value);
 zx_code zx_pop(zx_segment *segment, const zx_key *key, zx_value *value);
 zx_code zx_insert(zx_segment *segment, const zx_key *key, uint64_t index, const zx_value *value);
+zx_code zx_extend(zx_segment *segment, const zx_key *key, const zx_values *values);
 zx_code zx_assign(zx_segment *segment, const zx_key *key, const zx_values *values);
 /* Of vectors, and of vectors of strings. */
 zx_code zx_erase(zx_segment *segment, const zx_key *key, uint64_t index);

@@ -1739,7 +1739,8 @@ template <class T> class vector : public detail::row<const_vector<T>, detail::va
     void push_back(value_of<T> value) const {
         const T of = value;
         if constexpr (is_scalar<T>) {
-            push(stored<T>::value(of));
+            const zx_value passed = stored<T>::value(of);
+            this->spot().change(zx_push, &passed);
         } else {
             append_range(slice<T>(&of, 1));
         }
@@ -1776,20 +1777,10 @@ template <class T> class vector : public detail::row<const_vector<T>, detail::va
         all.insert(all.begin() + static_cast<std::ptrdiff_t>(index), values.begin(), values.end());
         assign(all);
     }
-    /// Puts values behind the last one, all of them or none.
+    /// Puts values behind the last one, all of them or none, by one call.
     void append_range(slice<T> values) const {
-        const measures now = this->measured();
-        const std::uint64_t needed = now.len + detail::product(values.size(), stored<T>::width);
-        if (needed > now.places) this->spot().change(zx_reserve, std::max(needed, 2 * now.places));
-        // there are places for all: where the first is taken, none is refused
-        for (const T &each : values) {
-            if constexpr (is_scalar<T>) {
-                push(stored<T>::value(each));
-            } else {
-                const std::uint8_t *const bytes = reinterpret_cast<const std::uint8_t *>(&each);
-                for (std::size_t i = 0; i < sizeof(T); i++) push(zx_u8(bytes[i]));
-            }
-        }
+        const zx_values passed = stored<T>::values(values.data(), values.size());
+        this->spot().change(zx_extend, &passed);
     }
     /// Takes the value of an index out; those from `first` on and before `last`.
     void erase(std::uint64_t index) const {
@@ -1824,9 +1815,6 @@ template <class T> class vector : public detail::row<const_vector<T>, detail::va
     }
     void shrink_to_fit() const { this->spot().ask(zx_trim); }
     void clear() const { this->spot().ask(zx_clear); }
-
-  private:
-    void push(const zx_value &value) const { this->spot().change(zx_push, &value); }
 };
 
 /// A string, for reading: bytes, which are no text of any kind for the library.

@@ -1,5 +1,5 @@
-/* Rows: many texts, pairs, names or elements by one call, and calls for one small number. They are C over the calls of
-   zaluxhoni.h: tested, not proved. Python goes through them, since a call of C is dear there; they save C its loops.
+/* Rows: many texts, pairs or names by one call. They are C over the calls of zaluxhoni.h: tested, not proved. Python goes
+   through them, since a call of C is dear there; they save C its loops.
 
    Each takes what its parameters say as the calls of zaluxhoni.h do, and returns their codes. A call that is refused
    may have done the front of its row; the same call goes on from there. */
@@ -11,10 +11,6 @@
 #ifdef __cplusplus
 extern "C" {
 #endif
-
-/* Puts the values behind the `first` elements of a vector of their kind, which has just these, or more of the values
-   already. ZX_NULL_SLICE, ZX_BAD_KIND; and as zx_push. */
-zx_code zx_push_row(zx_segment *segment, const zx_key *key, uint64_t first, const zx_values *values);
 
 /* Reads pairs of a map in the order of their keys, at most `count`: from the least key on, or those above `after` if
    that is not null. Keys and values are 64 bits each, those of ZX_U64 as they stand. `read` says how many there are:
@@ -32,8 +28,8 @@ zx_code zx_clear_map(zx_segment *segment, const zx_key *key);
    no room for the first one; and as zx_read_text. */
 zx_code zx_read_texts(zx_segment *segment, const zx_key *key, uint64_t first, uint8_t *texts, size_t room,
                       uint64_t *ends, size_t count, size_t *read);
-/* Puts texts behind the `first` ones of a vector of strings, as zx_push_row does. ZX_NULL_SLICE; and as
-   zx_push_text. */
+/* Puts texts behind the `first` ones of a vector of strings, which has just these, or more of the texts already.
+   ZX_NULL_SLICE; and as zx_push_text. */
 zx_code zx_push_texts(zx_segment *segment, const zx_key *key, uint64_t first, const zx_text *texts, size_t count);
 
 /* Reads what the objects with names say of themselves, from the index `first` on, at most `count` and as many as there
@@ -48,13 +44,17 @@ zx_code zx_read_names(zx_segment *segment, uint64_t first, zx_info *infos, zx_va
 /* A number for this thread that no other one has, also after its end: 1 or more. */
 uint64_t zx_thread(void);
 
-/* A function `at` of Python's over an object of the segment, which keeps `owner`, as long as segment and name are there;
-   null in a process without CPython. `kind` is the kind that the object has, and `thread` what zx_thread says on the
-   one that may call it, or 0 for any. at(place) gives the value of a map at a key, or the element at an index;
-   at(place, value) puts a value there and gives True; at(-1, value) puts one behind the last element of a vector. They
-   take an int, or a bool for a truth; where the call of zaluxhoni.h would be refused, and on another thread, they give
-   None, and nothing has changed. */
-void *zx_python_at(zx_segment *segment, const zx_key *key, uint32_t kind, uint64_t thread, void *owner);
+/* A class of Python's for others to derive from, whose objects stand for objects of a segment; null in a process without
+   CPython. Of such an object, object._at(place) gives the value of a map at a key, or the element at an index;
+   object._at(place, value) puts a value there and gives True; object._at(-1, value) puts one behind the last element of
+   a vector. They take an int, or a bool for a truth; where the call of zaluxhoni.h would be refused, and on another
+   thread, they give None, and nothing has changed. object[place] is the same as object._at(place), and
+   object._item(place) where that is None. The first of them calls object._start(), for it to call zx_python_place. */
+void *zx_python_class(void);
+/* Says which object of which segment such an object stands for, once: it keeps `owner`, as long as segment and name are
+   there. `kind` is the kind that the object has, and `thread` what zx_thread says on the one that may ask, or 0 for
+   any. False where it was said before, and in a process without CPython. */
+bool zx_python_place(void *object, zx_segment *segment, const zx_key *key, uint32_t kind, uint64_t thread, void *owner);
 
 /* Puts the first `count` values of a list of Python's side by side into a row of a kind of scalars, and says whether
    each was of the kind: an int, or a bool for a truth. False in a process without CPython. */

@@ -1,6 +1,7 @@
 //! The codes that C is answered: those of refusals are their numbers in the language.
-ghost use Rattle.std.specs.Prelude.{◌≡◌, ◌≤◌, IsTrue};
+ghost use Rattle.std.specs.Prelude.{◌≡◌, ◌≤◌, IsTrue, MatchResult};
 ghost use Rattle.std.specs.declared.option.Option.TheVariants.{Some as Held};
+ghost use Rattle.raw_region.specs.Memory.{whole};
 ghost use Rattle.seg_types.specs.Refusals.{refusal_number};
 ghost use Rattle.segment_c.specs.Codes.{answer_for, is_answer};
 ghost use Rattle.segment_c.specs.Marked.{raised};
@@ -12,8 +13,11 @@ ghost use Rattle.segment_manager.specs.State.{done_answer, handle_answer, scalar
 
 use crate::handle::{Handle, put, put_changed};
 use crate::values::Value;
+use image_check::MemoryFault;
+use raw_region::RawRegion;
 use seg_types::{Refusal, ScalarValue};
 use segment_manager::Segment;
+use std::alloc::Global;
 
 /// Done.
 pub const DONE: u32 = 0;
@@ -47,8 +51,8 @@ pub const BAD_MODE: u32 = 23;
 pub const SHORT_BUFFER: u32 = 24;
 /// A slice is null.
 pub const NULL_SLICE: u32 = 25;
-/// No memory.
-pub const NO_MEMORY: u32 = 26;
+/// No memory. [`no_memory`] tells it of a request that was refused, and [`boxed_or_region`] of its own.
+const NO_MEMORY: u32 = 26;
 /// The region has too little room.
 pub const SHORT_REGION: u32 = 27;
 /// A segment does not grow by so many bytes.
@@ -57,6 +61,33 @@ pub const BAD_GROWTH: u32 = 28;
 pub const TOO_LARGE: u32 = 29;
 /// The bytes are no image: to this the number of its class is added.
 pub const BAD_IMAGE: u32 = 100;
+
+/// The code of a request for memory that was refused.
+pub fn no_memory(_refused: MemoryFault) -> u32
+    ensures { result ≡ 26 }
+{
+    NO_MEMORY
+}
+
+/// A segment in a box, or the code of no memory for one, and its region.
+pub fn boxed_or_region(alloc: Global, segment: Segment) -> Result<Box<Segment>, (u32, RawRegion)>
+    ensures { MatchResult result (λ s. s.value ≡ segment) (λ refused. (refused.0 ≡ 26) × (refused.1 ≡ whole segment.cut)) }
+{
+    match Box::new(alloc, segment) {
+        Ok(segment) => Ok(segment),
+        Err(refused) => Err((NO_MEMORY, refused.value.into_region())),
+    }
+}
+
+/// A segment in a box, or the code of no memory for one.
+pub fn boxed_or_not(alloc: Global, segment: Segment) -> Result<Box<Segment>, u32>
+    ensures { MatchResult result (λ s. s.value ≡ segment) (λ code. code ≡ 26) }
+{
+    match boxed_or_region(alloc, segment) {
+        Ok(segment) => Ok(segment),
+        Err((code, _)) => Err(code),
+    }
+}
 
 /// The code of a result, of which what is there goes out.
 macro_rules! code_for {
@@ -158,23 +189,6 @@ pub fn element(
     ensures marks { h.new.marks ≡ h.old.marks }
 {
     put(DONE, h, segment);
-    code_for!(element, it => *value = Value::of(it))
-}
-
-/// The same of an element that was taken out.
-pub fn element_taken(
-    element: Result<ScalarValue, Refusal>,
-    value: &mut Value,
-    h: &mut Handle,
-    segment: Box<Segment>,
-) -> u32
-    ensures answers { answer_for result (element_in value.new) ≡ scalar_answer element }
-    ensures answer { IsTrue (is_answer result) }
-    ensures kept { 1 ≤ result → value.new ≡ value.old }
-    ensures put { h.new.segment.value ≡ Held segment.value }
-    ensures marks { h.new.marks ≡ raised h.old.marks }
-{
-    put_changed(DONE, h, segment);
     code_for!(element, it => *value = Value::of(it))
 }
 

@@ -18,7 +18,7 @@ ghost use Rattle.segment_values.specs.Changes.{command_at};
 
 use crate::calls::{enter, enter_with, passed};
 use crate::changes::{Change, make_change};
-use crate::codes::{done, element, element_taken};
+use crate::codes::{done, element};
 use crate::handle::Handle;
 use crate::keys::ObjectKey;
 use crate::values::Value;
@@ -156,7 +156,8 @@ pub extern "C" fn zx_pop(
     ensures marks { IsMarked result h.old.marks h.new.marks }
 {
     let (which, mut segment) = passed!(enter(alloc, h, key));
-    element_taken(pop(&mut segment, &which), value, h, segment)
+    h.marks.raise();
+    element(pop(&mut segment, &which), value, h, segment)
 }
 
 /// The same of a segment.

@@ -20,13 +20,16 @@ ghost use Rattle.segment_manager.specs.State.{IsReply, IsSegment, State};
 ghost use Rattle.segment_manager.specs.declared.modes.Mode.TheVariants.{Write};
 
 use crate::calls::passed;
-use crate::codes::{BAD_IMAGE, BAD_MODE, BAD_SIZE, DONE, NO_MEMORY, SHORT_BUFFER, SHORT_REGION};
+use crate::codes::{
+    BAD_IMAGE, BAD_MODE, BAD_SIZE, DONE, SHORT_BUFFER, SHORT_REGION, boxed_or_not, no_memory,
+};
 use crate::handle::{Handle, Holder, put, put_new, take};
 use crate::resizing::is_capacity;
 use block_tags::is_legal_size;
 use grow_shrink::region_for;
 use image_check::{
-    ExamineError, FRONT, ImageClass, OpenError, Versions, examine_bytes, open_bytes, size_in,
+    ExamineError, FRONT, ImageClass, MemoryFault, OpenError, Versions, examine_bytes, open_bytes,
+    size_in,
 };
 use raw_region::{RawRegion, Steps};
 use segment_manager::{Mode, Segment};
@@ -153,22 +156,13 @@ fn new_segment(alloc: Global, size: u64) -> Result<Box<Segment>, u32>
     if !is_legal_size(size) {
         return Err(BAD_SIZE);
     }
-    let Ok(region) = RawRegion::new(alloc, size) else {
-        return Err(NO_MEMORY);
+    let region = match RawRegion::new(alloc, size) {
+        Ok(region) => region,
+        Err(refusal) => return Err(no_memory(MemoryFault::Bytes(refusal))),
     };
     match Segment::create(region, 0, size, Mode::Write) {
         Ok(segment) => boxed_or_not(alloc, segment),
         Err(_) => unreachable!(),
-    }
-}
-
-/// A segment in a box.
-pub fn boxed_or_not(alloc: Global, segment: Segment) -> Result<Box<Segment>, u32>
-    ensures { MatchResult result (λ s. s.value ≡ segment) (λ code. code ≡ 26) }
-{
-    match Box::new(alloc, segment) {
-        Ok(segment) => Ok(segment),
-        Err(_) => Err(NO_MEMORY),
     }
 }
 
@@ -231,7 +225,7 @@ fn examine(alloc: Global, image: &[u8], place: &mut u64) -> u32
     }
     match region_for(alloc, size) {
         Ok(region) => examine_in(alloc, image, region, place),
-        Err(_) => NO_MEMORY,
+        Err(refusal) => no_memory(MemoryFault::Bytes(refusal)),
     }
 }
 
@@ -256,7 +250,7 @@ fn examine_in(alloc: Global, image: &[u8], region: RawRegion, place: &mut u64) -
                 *place = verdict.place;
                 class_code(verdict.class)
             }
-            ExamineError::OutOfMemory(_) => NO_MEMORY,
+            ExamineError::OutOfMemory(refusal) => no_memory(MemoryFault::BlockMap(refusal)),
             ExamineError::RegionTooSmall => unreachable!(),
             ExamineError::ReadFault => unreachable!(),
         },
@@ -290,8 +284,9 @@ fn open_boxed(alloc: Global, image: &[u8], capacity: u64, mode: Mode) -> Result<
     requires { IsCapacity capacity }
     ensures { MatchResult result (λ s. IsImageOpened image.now capacity mode s.value) (λ code. (1 ≤ code) × IsWhyNotOpened image.now capacity code) }
 {
-    let Ok(region) = RawRegion::new(alloc, capacity) else {
-        return Err(NO_MEMORY);
+    let region = match RawRegion::new(alloc, capacity) {
+        Ok(region) => region,
+        Err(refusal) => return Err(no_memory(MemoryFault::Bytes(refusal))),
     };
     boxed_or_not(alloc, open_in(alloc, image, region, mode)?)
 }
@@ -310,7 +305,7 @@ fn open_in(alloc: Global, image: &[u8], region: RawRegion, mode: Mode) -> Result
         Err(refused) => match refused.cause {
             OpenError::Image(class) => Err(class_code(class)),
             OpenError::RegionTooSmall => Err(SHORT_REGION),
-            OpenError::OutOfMemory(_) => Err(NO_MEMORY),
+            OpenError::OutOfMemory(refusal) => Err(no_memory(MemoryFault::BlockMap(refusal))),
             OpenError::ReadFault => unreachable!(),
         },
     }

@@ -12,11 +12,11 @@ ghost use Rattle.segment_c.specs.Passed.{or_else};
 ghost use Rattle.segment_manager.specs.State.{State};
 
 use crate::calls::passed;
-use crate::codes::{BAD_MODE, BAD_SIZE, DONE, NO_MEMORY, SHORT_REGION};
+use crate::codes::{BAD_MODE, BAD_SIZE, DONE, SHORT_REGION, boxed_or_region, no_memory};
 use crate::handle::{Handle, put_new, take};
 use crate::images::{class_code, mode_for};
 use crate::resizing::is_capacity;
-use image_check::{OpenError, open_here};
+use image_check::{MemoryFault, OpenError, open_here};
 use raw_region::{LentMemory, RawRegion, Steps};
 use segment_manager::{Mode, Segment};
 use std::alloc::Global;
@@ -90,15 +90,12 @@ fn open_over(
         (λ refused. (1 ≤ refused.0) × (refused.1 ≡ region) × IsWhyNotOpened (part region 0 len) (length region) refused.0) }
 {
     match open_here(alloc, region, 0, len, mode, &mut Steps::new()) {
-        Ok(segment) => match Box::new(alloc, segment) {
-            Ok(segment) => Ok(segment),
-            Err(refused) => Err((NO_MEMORY, refused.value.into_region())),
-        },
+        Ok(segment) => boxed_or_region(alloc, segment),
         Err(refused) => {
             let code = match refused.cause {
                 OpenError::Image(class) => class_code(class),
                 OpenError::RegionTooSmall => SHORT_REGION,
-                OpenError::OutOfMemory(_) => NO_MEMORY,
+                OpenError::OutOfMemory(refusal) => no_memory(MemoryFault::BlockMap(refusal)),
                 OpenError::ReadFault => unreachable!(),
             };
             Err((code, refused.region))

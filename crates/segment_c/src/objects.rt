@@ -20,12 +20,12 @@ use crate::handle::{Handle, take};
 use crate::keys::ObjectKey;
 use crate::rows::Values;
 use crate::values::{Value, scalar_kind};
-use seg_types::{IndexKey, Key, Kind, Refusal, ScalarKind, ScalarValue};
+use seg_types::{IndexKey, Key, Kind, MAX_ARRAY_LEN, Refusal, ScalarKind, ScalarValue};
 use segment_manager::Segment;
 use std::alloc::Global;
 
 /// The most scalars of an object.
-pub(crate) const MOST: u32 = 1_048_576;
+pub(crate) const MOST: u32 = MAX_ARRAY_LEN as u32;
 
 /// The value of so many scalars.
 fn scalars(value: &Value, count: u32) -> Result<ScalarValue, u32>

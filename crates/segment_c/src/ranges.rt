@@ -11,7 +11,7 @@ ghost use Rattle.segment_c.specs.Marked.{IsMarked};
 ghost use Rattle.segment_manager.specs.Answers.{Done};
 ghost use Rattle.segment_manager.specs.Directory.{Directory};
 ghost use Rattle.segment_manager.specs.State.{StandsFor, done_answer};
-ghost use Rattle.segment_values.specs.Ranges.{WritesRange, range_at};
+ghost use Rattle.segment_manager.specs.containers.Ranges.{WritesRange, range_at};
 
 use crate::calls::{enter, enter_row, passed};
 use crate::codes::{DONE, code_of, done};
@@ -137,7 +137,7 @@ fn write_row(
     ensures step { WritesRange segment.old segment.new (key_seen key.now) kind first (numbers_of row.now kind) (done_answer result) }
     ensures refused { OnErr result (segment.new ≡ segment.old) }
 {
-    on_slice!(row, kind, slice => segment_values::write_elements(segment, key, first, slice))
+    on_slice!(row, kind, slice => segment.write_range(key, first, slice))
 }
 
 /// Makes the values elements of the array or vector of a key, of their kind, from `first` on: all of them or none.

@@ -13,9 +13,10 @@ ghost use Rattle.segment_manager.specs.blocks.Resized.{Resizes, grown, shrunk};
 ghost use Rattle.segment_manager.specs.State.{StandsFor, State};
 
 use crate::calls::passed;
-use crate::codes::{BAD_GROWTH, BAD_SIZE, DONE, NO_MEMORY, READ_ONLY, SHORT_REGION, TOO_LARGE};
+use crate::codes::{BAD_GROWTH, BAD_SIZE, DONE, READ_ONLY, SHORT_REGION, TOO_LARGE, no_memory};
 use crate::handle::{Handle, put_changed, take};
 use grow_shrink::{GrowError, GrowOrMoveError, copy_into, grow_or_move};
+use image_check::MemoryFault;
 use raw_region::RawRegion;
 use segment_manager::Segment;
 use std::alloc::Global;
@@ -103,8 +104,9 @@ fn relocate(alloc: Global, segment: &mut Segment, capacity: u64) -> u32
     if capacity < segment.as_bytes().len() as u64 {
         return SHORT_REGION;
     }
-    let Ok(region) = RawRegion::new(alloc, capacity) else {
-        return NO_MEMORY;
+    let region = match RawRegion::new(alloc, capacity) {
+        Ok(region) => region,
+        Err(refusal) => return no_memory(MemoryFault::Bytes(refusal)),
     };
     let copy = copy_into(segment, region);
     *segment = copy;
@@ -150,7 +152,7 @@ fn code_of_growing(why: GrowOrMoveError) -> u32
 {
     match why {
         GrowOrMoveError::Growth(reason) => code_of_growth(reason),
-        GrowOrMoveError::OutOfMemory(_) => NO_MEMORY,
+        GrowOrMoveError::OutOfMemory(refusal) => no_memory(MemoryFault::Bytes(refusal)),
     }
 }
 

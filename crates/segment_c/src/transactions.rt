@@ -10,10 +10,10 @@ ghost use Rattle.segment_manager.specs.State.{IsSegment, State};
 ghost use Rattle.segment_manager.specs.Step.{is_read_only};
 
 use crate::calls::passed;
-use crate::codes::{DONE, NO_MEMORY, READ_ONLY, SHORT_REGION};
+use crate::codes::{DONE, READ_ONLY, SHORT_REGION, boxed_or_not, no_memory};
 use crate::handle::{Handle, put, put_changed, put_new, take};
-use crate::images::boxed_or_not;
 use grow_shrink::{copy_into, region_for, size_of};
+use image_check::MemoryFault;
 use raw_region::Window;
 use segment_manager::conditioned::adopt;
 use segment_manager::{Mode, Segment};
@@ -52,7 +52,7 @@ fn copy_of(alloc: Global, segment: &Segment) -> Result<Box<Segment>, u32>
     }
     match region_for(alloc, size_of(segment)) {
         Ok(region) => boxed_or_not(alloc, copy_into(segment, region)),
-        Err(_) => Err(NO_MEMORY),
+        Err(refusal) => Err(no_memory(MemoryFault::Bytes(refusal))),
     }
 }
 

@@ -9,6 +9,7 @@ ghost use Rattle.segment_c.specs.Passed.{count_wrong, entry_of, entry_wrong, key
 ghost use Rattle.segment_c.specs.Passed.{new_wrong, numbers_of, or_else, row_count, row_of, row_wrong, scalar_kind_in};
 ghost use Rattle.segment_c.specs.Marked.{IsMarked};
 ghost use Rattle.segment_manager.specs.Answers.{Done, Found, Made};
+ghost use Rattle.segment_manager.specs.containers.Ranges.{ExtendsVector};
 ghost use Rattle.segment_manager.specs.objects.Found.{pair_answer};
 ghost use Rattle.segment_manager.specs.Keeping.{HasKey, KeepsWhere};
 ghost use Rattle.segment_manager.specs.objects.NewObjects.{IsOfKind};
@@ -65,6 +66,19 @@ fn assign_row(
     ensures refused { OnErr result (segment.new ≡ segment.old) }
 {
     on_slice!(row, kind, slice => segment.vec_assign(key, slice))
+}
+
+/// Puts the values of a row, of which the slice of a kind is meant, behind the last element of a vector.
+fn extend_row(
+    segment: &mut Segment,
+    key: &Key,
+    kind: ScalarKind,
+    row: &Values<'_>,
+) -> Result<(), Refusal>
+    ensures step { ExtendsVector segment.old segment.new (key_seen key.now) kind (numbers_of row.now kind) (done_answer result) }
+    ensures refused { OnErr result (segment.new ≡ segment.old) }
+{
+    on_slice!(row, kind, slice => segment.vec_extend(key, slice))
 }
 
 /// Makes a vector of the values.
@@ -127,6 +141,23 @@ pub extern "C" fn zx_assign(
 {
     let (which, kind, mut segment) = passed!(enter_row(alloc, h, key, values));
     done(assign_row(&mut segment, &which, kind, values), h, segment)
+}
+
+/// Puts the values behind the last element of the vector of a key, a vector of their kind: all of them or none.
+#[unsafe(no_mangle)]
+pub extern "C" fn zx_extend(
+    alloc: Global,
+    h: &mut Handle,
+    key: &ObjectKey<'_>,
+    values: &Values<'_>,
+) -> u32
+    ensures asked { Owes (or_else (key_wrong key.now) (row_wrong values.now)) result h.old.segment.value h.new.segment.value
+        (λ s t. ExtendsVector s t (key_of key.now) (scalar_kind_in values.now.kind) (row_of values.now) (answer_for result Done)) }
+    ensures kept { 1 ≤ result → h.new.segment.value ≡ h.old.segment.value }
+    ensures marks { IsMarked result h.old.marks h.new.marks }
+{
+    let (which, kind, mut segment) = passed!(enter_row(alloc, h, key, values));
+    done(extend_row(&mut segment, &which, kind, values), h, segment)
 }
 
 /// Makes an array of the values of a row, of which the slice of a kind is meant.

@@ -13,7 +13,7 @@ pub use grow_shrink::GrowError;
 pub use image_check::{ImageClass, MemoryFault, save};
 pub use migrations::migrate;
 pub use program_faults::ProgramFault;
-pub use reports::report;
+pub use reports::{report, session_line, session_status};
 pub use segment_invocation::{
     Invocation, InvocationFault, Keeping, ModeName, Running, Saving, Script, UsageError, invocation,
 };

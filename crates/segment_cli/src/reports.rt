@@ -42,7 +42,7 @@ fn growth_line(error: GrowError) -> &'static [u8]
 }
 
 /// The line of a session that fails.
-fn session_line(fault: SessionFault) -> &'static [u8]
+pub fn session_line(fault: SessionFault) -> &'static [u8]
     ensures { result.now ≡ line (session_words fault) }
 {
     match fault {
@@ -68,7 +68,7 @@ fn fault_line(fault: ProgramFault) -> &'static [u8]
 }
 
 /// The status of a session that fails.
-fn session_status(fault: SessionFault) -> u8
+pub fn session_status(fault: SessionFault) -> u8
     ensures { result ≡ session_status fault }
 {
     match fault {

@@ -1,13 +1,10 @@
 mod Ran
+mod Verified
 mod Opened
 mod Commanded
-mod Fronts
 mod NewSegments
-mod Verified
-mod Explained
-mod ReadOn
-mod Migrated
 mod Linted
 mod LongTexts
 mod Loads
 mod Reported
+mod Checks

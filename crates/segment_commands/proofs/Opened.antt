@@ -1,5 +1,5 @@
 -- A run goes on from the segment that a file was opened with, or that was made.
-use Rattle.std.proofs.Common.{◌≡◌, ◌≢◌, ℕ, Bool, refl, inl, inr, List, Result, Ok, Err}
+use Rattle.std.proofs.Common.{◌≡◌, ◌≢◌, ℕ, Bool, refl, sym, ap, subst, ◌∙◌, inl, inr, List, length, Result, Ok, Err}
 use Rattle.raw_region.specs.Device.{Gave, Given, Took, given_since, taken_since}
 use Rattle.segment_manager.specs.declared.modes.Mode.{Mode}
 use Rattle.segment_manager.specs.declared.modes.Mode.TheVariants.{Write, ReadOnly, CopyOnWrite}
@@ -13,8 +13,15 @@ use Rattle.segment_scripts.specs.declared.ends.Until.{Until}
 use Rattle.segment_disk.specs.declared.presence.Making.{Making}
 use Rattle.segment_disk.specs.declared.presence.Making.TheVariants.{New}
 use Rattle.segment_disk.specs.Events.{Event, After}
+use Rattle.image_check.specs.declared.versions.Versions.TheVariants.{Current}
+use Rattle.segment_file.specs.declared.file_errors.FileError.{FileError}
+use Rattle.segment_file.specs.declared.file_errors.FileError.TheVariants.{ReadFault}
 use Rattle.segment_file.specs.Files.{opens}
-use Rattle.segment_commands.specs.Opening.{BeginsIn, OpensFile}
+use Rattle.segment_file.specs.Opening.{IsRead, OpensImage}
+use Rattle.segment_file.specs.Opening.{OpensFile as ReadsFile}
+use Rattle.segment_file.proofs.Laws.{read-fits}
+use Rattle.segment_commands.proofs.Verified.{begun}
+use Rattle.segment_commands.specs.Opening.{OpensFile, as_session, session_fault}
 use Rattle.segment_commands.specs.Commands.{MakesSegment}
 use Rattle.segment_commands.specs.Running.{EndsRun, RunsFree, RunsOpened, RunsReadable, MakesRun}
 use Rattle.segment_commands.specs.declared.command_faults.CommandFault.{CommandFault}
@@ -23,18 +30,39 @@ use Rattle.segment_commands.specs.declared.command_faults.CommandFault.{CommandF
 no_fault : (s : State) (fault : SessionFault) → let answer : Result State SessionFault = Ok s in answer ≡ Err fault → ⊥
 no_fault s fault e = cc
 
+no_error : (s : State) (error : FileError) → let answer : Result State FileError = Ok s in answer ≡ Err error → ⊥
+no_error s error e = cc
+
+same_segment : (s t : State) → let answer : Result State SessionFault = Ok s in answer ≡ Ok t → t ≡ s
+same_segment s t e = cc
+
+was_read : (x : Result State FileError) (s : State) → Ok s ≡ as_session x → x ≡ Ok s
+was_read (Ok t) s e = ap (λ (u : State). Ok u) (same_segment s t e)
+was_read (Err error) s e = absurd (no_fault s (session_fault error) e)
+
 module _ {D O : Type 0} (step : D → Event → D → Type 0) (old read new : D) (path : List ℕ) (until : Until) (script script' : Gave) (history : O → Took) (flushes : Bool → Type 0) (out out' : O)
     (result : Result End SessionFault) (s : State) where
   module _ (mode : Mode) (how : Making)
       (ends : (start : Start) (m : Mode) (capacity : ℕ) (image : Given) → Starts start m 0 capacity image (Ok s) → EndsRun step read new how path
       (record { start = start; mode = m; capacity = capacity; image = image; until = until; script = given_since script script'; out = taken_since (history out) (history out') }) flushes result) where
-    begun_run : (image : Given) → After step old (opens path image) read → BeginsIn Image mode image (Ok s) → RunsOpened step old new path mode how until script script' history flushes out out' result
-    begun_run image asked (inl r) = absurd (no_fault s _ r.refused)
-    begun_run image asked (inr b) = inr (record { image = image; capacity = b.capacity; read = read; asked = asked; ends = ends Image mode b.capacity image b.starts })
+    begun_run : (len : ℕ) (image : Given) → After step old (opens path len image) read → IsRead Current len 0 mode image s
+        → RunsOpened step old new path mode how until script script' history flushes out out' result
+    begun_run len image asked r = inr (record {
+      len = len;
+      image = image;
+      capacity = length r.region;
+      room = r.room;
+      read = read;
+      asked = asked;
+      ends = ends Image mode (length r.region) image (begun image r.region mode s r.opened (read-fits Current len 0 mode image s r));
+    })
+
+    read_run : (x : Result State FileError) → ReadsFile step old read path Current mode 0 x → x ≡ Ok s → RunsOpened step old new path mode how until script script' history flushes out out' result
+    read_run x (inl u) e = absurd (no_error s ReadFault (sym e ∙ u.refused))
+    read_run x (inr r) e = begun_run r.len r.image r.asked (subst (OpensImage Current 0 mode r.len r.image) e r.answer)
 
     pub opened_run : OpensFile step old read path mode (Ok s) → RunsOpened step old new path mode how until script script' history flushes out out' result
-    opened_run (inl u) = absurd (no_fault s _ u.refused)
-    opened_run (inr r) = begun_run r.image r.asked r.begins
+    opened_run o = read_run o.read o.reads (was_read o.read s o.answer)
 
   module _ (size : ℕ)
       (ends : (start : Start) (m : Mode) (capacity : ℕ) (image : Given) → Starts start m 0 capacity image (Ok s) → EndsRun step old new New path

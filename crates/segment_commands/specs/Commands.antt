@@ -16,7 +16,7 @@ use Rattle.segment_disk.specs.declared.presence.Presence.TheVariants.{There}
 use Rattle.segment_disk.specs.declared.presence.Making.TheVariants.{New}
 use Rattle.segment_disk.specs.Events.{Event, Looked, After}
 use Rattle.segment_file.specs.Files.{WritesImage}
-use Rattle.segment_commands.specs.Opening.{OpensFile}
+use Rattle.segment_commands.specs.Opening.{OpensFile, VerifiesFile}
 use Rattle.segment_commands.specs.Telling.{Tells}
 
 -- a fault of the file's writer, or of the output, as the program answers it
@@ -84,16 +84,22 @@ module _ {D : Type 0} (step : D → Event → D → Type 0) (old new : D) (path 
     pub silent : out' ≡ out
     pub refused : result ≡ Err (Session fault)
 
+  -- the same where its image alone was checked
+  pub record IsRefused {O : Type 0} (out out' : O) (result : Result (Unit {0}) CommandFault) : Type 0 where
+    pub fault : SessionFault
+    pub verifies : VerifiesFile step old new path (Err fault)
+    pub silent : out' ≡ out
+    pub refused : result ≡ Err (Session fault)
+
   -- the file has a segment, and `ok` was said
   pub record IsFit {O : Type 0} (history : O → Took) (flushes : O → Bool → O → Type 0) (out out' : O) (result : Result (Unit {0}) CommandFault) : Type 0 where
-    pub segment : State
-    pub opens : OpensFile step old new path ReadOnly (Ok segment)
+    pub verifies : VerifiesFile step old new path (Ok tt)
     pub tells : Tells history flushes out out' (codes "ok\n") result
     pub answer : (fault : CommandFault) → result ≡ Err fault → fault ≡ Session WriteFault
 
   -- `check`: nothing is opened for writing
   abbrev pub IsCheck : {O : Type 0} → (O → Took) → (O → Bool → O → Type 0) → O → O → Result (Unit {0}) CommandFault → Type 0
-  IsCheck history flushes out out' result = IsUnfit out out' result ⊎ IsFit history flushes out out' result
+  IsCheck history flushes out out' result = IsRefused out out' result ⊎ IsFit history flushes out out' result
 
 -- ---- what the program says of itself
 

@@ -1,9 +1,9 @@
 pub mod Faults
 pub mod Opening
-pub mod ReadingOn
 pub mod Telling
 pub mod Holding
 pub mod Commands
+pub mod Checking
 pub mod Running
 pub mod Resizing
 pub mod Migrating

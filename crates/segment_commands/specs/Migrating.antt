@@ -1,50 +1,27 @@
 -- How an image of an older format is written anew in its file: what the disk is asked, in order, and what is said.
 use Rattle.std.specs.Prelude.{◌≡◌, ◌⊎◌, Bool, List, ℕ, Result, Ok, Err, codes}
-use Rattle.raw_region.specs.Device.{Given, Took}
+use Rattle.raw_region.specs.Device.{Took}
 use Rattle.segment_manager.specs.declared.modes.Mode.TheVariants.{Write}
 use Rattle.segment_manager.specs.State.{State}
-use Rattle.image_check.specs.declared.errors.OpenRefused.{OpenRefused}
-use Rattle.image_check.specs.Formats.{format_of}
-use Rattle.image_check.specs.OpeningAny.{OpensAny}
+use Rattle.image_check.specs.declared.versions.Versions.TheVariants.{All}
 use Rattle.segment_cli.specs.declared.faults.SessionFault.{SessionFault}
 use Rattle.segment_cli.specs.declared.faults.SessionFault.TheVariants.{WriteFault}
 use Rattle.segment_commands.specs.declared.command_faults.CommandFault.{CommandFault}
 use Rattle.segment_commands.specs.Faults.{Session}
-use Rattle.segment_cli.specs.Beginning.{opened_fault}
 use Rattle.segment_disk.specs.declared.presence.Making.{Making}
-use Rattle.segment_disk.specs.Events.{Event, After}
-use Rattle.segment_file.specs.Files.{WritesImage, opens}
-use Rattle.segment_commands.specs.Opening.{IsRegionless, IsUnopened}
+use Rattle.segment_disk.specs.Events.{Event}
+use Rattle.segment_file.specs.Files.{WritesImage}
+use Rattle.segment_commands.specs.Opening.{OpensWith}
 use Rattle.segment_commands.specs.Telling.{Tells}
 
 -- a writing that answers Ok
 abbrev pub written : (E : Type 0) → Result (Unit {0}) E
 written E = Ok tt
 
--- an opened image, or why there is none, as a session answers it
-abbrev pub as_session : Result State OpenRefused → Result State SessionFault
-as_session (Ok s) = Ok s
-as_session (Err refused) = Err (opened_fault refused.cause)
-
--- an image of any of the three formats was opened in a region, or not
-pub record IsOpenedAnyIn (image : Given) (result : Result State SessionFault) : Type 0 where
-  pub region : List ℕ
-  pub opened : Result State OpenRefused
-  pub opens_any : OpensAny image region 0 Write opened
-  pub answer : result ≡ as_session opened
-
-abbrev pub BeginsAny : Given → Result State SessionFault → Type 0
-BeginsAny image result = IsRegionless (format_of image.bytes) image result ⊎ IsOpenedAnyIn image result
-
 module _ {D : Type 0} (step : D → Event → D → Type 0) (old new : D) (path : List ℕ) where
-  -- the file was opened, read and closed, and nothing else was asked
-  pub record IsAnyReadFrom (result : Result State SessionFault) : Type 0 where
-    pub image : Given
-    pub asked : After step old (opens path image) new
-    pub begins : BeginsAny image result
-
+  -- the segment of a file of any of the three formats
   abbrev pub OpensAnyFile : Result State SessionFault → Type 0
-  OpensAnyFile result = IsUnopened step old new path result ⊎ IsAnyReadFrom result
+  OpensAnyFile result = OpensWith step old new path All Write 0 result
 
   -- the file has no segment of any format, for this reason
   pub record IsUnopenedMigration {O : Type 0} (out out' : O) (result : Result (Unit {0}) CommandFault) : Type 0 where

@@ -7,8 +7,8 @@ use Rattle.segment_manager.specs.State.{State, StandsFor}
 use Rattle.segment_cli.specs.declared.faults.SessionFault.TheVariants.{WriteFault}
 use Rattle.segment_commands.specs.declared.command_faults.CommandFault.{CommandFault}
 use Rattle.segment_commands.specs.Faults.{Session}
-use Rattle.segment_commands.specs.declared.reporting.Report.{Report}
-use Rattle.segment_commands.specs.declared.reporting.Report.TheVariants.{Figures, Picture, Page, Dump, Capacities, Json}
+use Rattle.segment_invocation.specs.declared.invocations.Report.{Report}
+use Rattle.segment_invocation.specs.declared.invocations.Report.TheVariants.{Figures, Picture, Page, Dump, Capacities, Json}
 use Rattle.segment_disk.specs.Events.{Event}
 use Rattle.segment_dump.specs.Capacities.{capacities, capacities_text}
 use Rattle.segment_dump.specs.Json.{json_dump}

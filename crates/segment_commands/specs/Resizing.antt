@@ -1,5 +1,5 @@
 -- How the segment of a file becomes larger or smaller: what the disk is asked, in order, and what is said.
-use Rattle.std.specs.Prelude.{◌≡◌, ◌⊎◌, ◌++◌, ◌∷◌, [], ℕ, Bool, Option, List, Result, Ok, Err, codes, decimal}
+use Rattle.std.specs.Prelude.{◌≡◌, ◌≢◌, ◌⊎◌, ◌++◌, ◌∷◌, [], ℕ, Bool, Option, List, Result, Ok, Err, codes, decimal}
 use Rattle.raw_region.specs.Device.{Took}
 use Rattle.segment_manager.specs.declared.modes.Mode.TheVariants.{Write}
 use Rattle.segment_manager.specs.Directory.{Directory}
@@ -8,6 +8,7 @@ use Rattle.segment_manager.specs.State.{State, IsReply}
 use Rattle.segment_manager.specs.Answers.{Number}
 use Rattle.seg_types.specs.Commands.{Size}
 use Rattle.grow_shrink.specs.declared.refusals.GrowError.{GrowError}
+use Rattle.grow_shrink.specs.declared.refusals.GrowError.TheVariants.{RegionTooSmall}
 use Rattle.grow_shrink.specs.Resized.{IsRefusedBy, growth_refusal, grown, room_of, shrink_refusal, shrunk}
 use Rattle.segment_cli.specs.declared.faults.SessionFault.{SessionFault}
 use Rattle.segment_cli.specs.declared.faults.SessionFault.TheVariants.{WriteFault}
@@ -18,7 +19,8 @@ use Rattle.segment_commands.specs.declared.resizing.Resize.TheVariants.{Grow, Sh
 use Rattle.segment_disk.specs.declared.presence.Making.{Making}
 use Rattle.segment_disk.specs.Events.{Event}
 use Rattle.segment_file.specs.Files.{WritesImage}
-use Rattle.segment_commands.specs.Opening.{OpensFile}
+use Rattle.segment_commands.specs.Opening.{OpensWith}
+use Rattle.image_check.specs.declared.versions.Versions.TheVariants.{Current}
 use Rattle.segment_commands.specs.Telling.{Tells}
 
 -- why a segment of a directory does not become larger or smaller
@@ -30,6 +32,11 @@ refusal_by Shrink s d = shrink_refusal s.mode
 abbrev pub next_by : Resize → Directory → Directory
 next_by (Grow extra) d = grown d extra
 next_by Shrink d = shrunk d
+
+-- for how many bytes more its region is made
+abbrev pub more_by : Resize → ℕ
+more_by (Grow extra) = extra
+more_by Shrink = 0
 
 -- the line that says a size
 abbrev pub size_line : ℕ → List ℕ
@@ -62,27 +69,28 @@ module _ {D O : Type 0} (step : D → Event → D → Type 0) (old new : D) (pat
   TellsAndWrites s result = IsUntold s result ⊎ IsTold s result
 
   -- the file has no segment, for this reason
-  pub record IsUnopenedResize (result : Result (Unit {0}) CommandFault) : Type 0 where
+  pub record IsUnopenedResize (more : ℕ) (result : Result (Unit {0}) CommandFault) : Type 0 where
     pub fault : SessionFault
-    pub opens : OpensFile step old new path Write (Err fault)
+    pub opens : OpensWith step old new path Current Write more (Err fault)
     pub silent : out' ≡ out
     pub refused : result ≡ Err (Session fault)
 
-  -- the segment does not become larger or smaller, for this reason
-  pub record IsUnresized (why : State → Directory → Option GrowError) (result : Result (Unit {0}) CommandFault) : Type 0 where
+  -- the segment does not become larger or smaller, for this reason, which is none of its region
+  pub record IsUnresized (more : ℕ) (why : State → Directory → Option GrowError) (result : Result (Unit {0}) CommandFault) : Type 0 where
     pub segment : State
-    pub opens : OpensFile step old new path Write (Ok segment)
+    pub opens : OpensWith step old new path Current Write more (Ok segment)
     pub error : GrowError
+    pub roomy : error ≢ RegionTooSmall
     pub refused_by : IsRefusedBy segment (Err error) (why segment)
     pub silent : out' ≡ out
     pub refused : result ≡ Err (Growth error)
 
 -- the segment was read, and the one that it becomes was written
 pub record IsResized {D O : Type 0} (step : D → Event → D → Type 0) (old new : D) (path : List ℕ) (how : Making) (history : O → Took) (flushes : O → Bool → O → Type 0) (out out' : O)
-    (next : Directory → Directory) (result : Result (Unit {0}) CommandFault) : Type 0 where
+    (more : ℕ) (next : Directory → Directory) (result : Result (Unit {0}) CommandFault) : Type 0 where
   pub segment : State
   pub read : D
-  pub opens : OpensFile step old read path Write (Ok segment)
+  pub opens : OpensWith step old read path Current Write more (Ok segment)
   pub resized : State
   pub becomes : Resizes segment resized next
   pub goes : TellsAndWrites step read new path how history flushes out out' resized result
@@ -90,7 +98,7 @@ pub record IsResized {D O : Type 0} (step : D → Event → D → Type 0) (old n
 
 -- `grow` and `shrink`
 abbrev pub IsResize : {D O : Type 0} → (D → Event → D → Type 0) → D → D → List ℕ → Making → (O → Took) → (O → Bool → O → Type 0) → O → O
-    → (State → Directory → Option GrowError) → (Directory → Directory) → Result (Unit {0}) CommandFault → Type 0
-IsResize step old new path how history flushes out out' why next result =
-    IsUnopenedResize step old new path how history flushes out out' result
-    ⊎ (IsUnresized step old new path how history flushes out out' why result ⊎ IsResized step old new path how history flushes out out' next result)
+    → ℕ → (State → Directory → Option GrowError) → (Directory → Directory) → Result (Unit {0}) CommandFault → Type 0
+IsResize step old new path how history flushes out out' more why next result =
+    IsUnopenedResize step old new path how history flushes out out' more result
+    ⊎ (IsUnresized step old new path how history flushes out out' more why result ⊎ IsResized step old new path how history flushes out out' more next result)

@@ -30,6 +30,7 @@ use Rattle.segment_disk.specs.declared.presence.Presence.TheVariants.{Absent, Th
 use Rattle.segment_disk.specs.Events.{Event, Looked, After}
 use Rattle.segment_file.specs.Files.{Written, Overtaken, NotMade, Closed, Offered, writes, whole, all_of, opens}
 use Rattle.segment_commands.specs.Holding.{Holds}
+use Rattle.segment_file.specs.Opening.{file_region}
 use Rattle.segment_commands.specs.Opening.{OpensFile}
 use Rattle.segment_commands.specs.Commands.{MakesSegment}
 
@@ -195,12 +196,15 @@ module _ {D : Type 0} (step : D → Event → D → Type 0) (old new : D) (path 
     pub silent : out' ≡ out
     pub refused : result ≡ Err fault
 
-  -- the file was opened, read and closed, and the script ran on its segment
+  -- the file was opened, read and closed, and the script ran on its segment, in a region with room for what the disk
+  -- told of the file's length, and for what the image says
   pub record IsOpenedRun {O : Type 0} (history : O → Took) (flushes : Bool → Type 0) (out out' : O) (result : Result End SessionFault) : Type 0 where
+    pub len : ℕ
     pub image : Given
     pub capacity : ℕ
+    pub room : capacity ≡ file_region len 0 image.bytes
     pub read : D
-    pub asked : After step old (opens path image) read
+    pub asked : After step old (opens path len image) read
     pub ends : EndsRun step read new how path
         (record { start = Image; mode = mode; capacity = capacity; image = image; until = until; script = given_since script script'; out = taken_since (history out) (history out') })
         flushes result

@@ -60,6 +60,7 @@ pub(crate) fn answer_and_save<D: Disk, S: Source, O: Lined>(
     disk: &mut D,
     path: &str,
     how: Making,
+    hold: &mut D::Hold,
     segment: &mut Segment,
     until: Until,
     script: &mut S,
@@ -78,7 +79,7 @@ pub(crate) fn answer_and_save<D: Disk, S: Source, O: Lined>(
             if segment.mode() != Mode::Write {
                 return Ok(End::Whole);
             }
-            match write_image(disk, path, how, segment) {
+            match write_image(disk, path, how, hold, segment) {
                 Ok(()) => Ok(End::Whole),
                 Err(_) => Err(SessionFault::WriteFault),
             }

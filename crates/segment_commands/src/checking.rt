@@ -1,11 +1,17 @@
-//! The command that tells whether a file holds a segment.
-ghost use Rattle.std.specs.Prelude.{◌≡◌, ◌^◌, ◌-◌, ◌<◌};
+//! The commands that tell whether files hold segments.
+ghost use Rattle.std.specs.Prelude.{◌≡◌, ◌^◌, ◌-◌, ◌<◌, IsErr, IsOk, MatchResult, map};
+ghost use Rattle.raw_region.specs.Device.{Writes};
+ghost use Rattle.segment_commands.specs.Checking.{ChecksAll, TellsFit, status_in, unfit_lines};
 ghost use Rattle.segment_commands.specs.Commands.{IsCheck};
 
 use crate::command_faults::{CommandFault, WRITE_FAULT};
 use crate::examining::verify_segment;
+use crate::reports::put_trouble;
 use crate::telling::tell;
-use segment_disk::{Disk, Output};
+use raw_region::{DeviceFault, Sink};
+use segment_cli::{SessionFault, session_line, session_status};
+use segment_disk::{Disk, Output, Trouble};
+use segment_lang::{Piece, put_pieces};
 use std::alloc::Global;
 
 /// Tells whether a file holds a segment, by its image alone, and says `ok`.
@@ -26,6 +32,106 @@ pub fn check<D: Disk, O: Output>(
     verify_segment(alloc, disk, path)?;
     match tell(out, b"ok\n") {
         Ok(()) => Ok(()),
+        Err(_) => Err(WRITE_FAULT),
+    }
+}
+
+/// Says on standard output, behind its path, that a file holds a segment, unless it holds none or nothing is to be said.
+fn tell_fit<O: Output>(
+    path: &str,
+    found: Result<(), SessionFault>,
+    is_quiet: bool,
+    out: &mut O,
+) -> Result<(), DeviceFault>
+    requires { (O.history out.old).failures < 2 ^ 64 - 1 }
+    ensures { TellsFit O.history O.flushes out.old out.new is_quiet path.now found result }
+{
+    if is_quiet || found.is_err() {
+        return Ok(());
+    }
+    put_pieces(
+        out,
+        &[Piece::Text(path.as_bytes()), Piece::Bytes(b": ok\n")],
+    )?;
+    Output::flush(out)
+}
+
+/// Says on standard error, behind its path, why a file holds no segment, and in a line of its own what the disk said of
+/// it, if that is told. Nothing is said of a file that holds one, and behind a write that failed.
+fn put_unfit<S: Sink>(
+    path: &str,
+    found: Result<(), SessionFault>,
+    trouble: Option<Trouble>,
+    said: Result<(), DeviceFault>,
+    err: &mut S,
+) -> Result<(), DeviceFault>
+    requires { IsOk said → (S.history err.old).failures < 2 ^ 64 - 1 }
+    ensures { MatchResult said (λ _. Writes (S.history err.old) (S.history err.new) result (unfit_lines path.now found trouble))
+        (λ _. (err.new ≡ err.old) × IsErr result) }
+{
+    said?;
+    let Err(fault) = found else {
+        return Ok(());
+    };
+    put_pieces(
+        err,
+        &[
+            Piece::Text(path.as_bytes()),
+            Piece::Bytes(b": "),
+            Piece::Bytes(session_line(fault)),
+        ],
+    )?;
+    match trouble {
+        Some(trouble) => put_trouble(path, trouble, err),
+        None => Ok(()),
+    }
+}
+
+/// The status of a file that is checked.
+fn status_in(found: Result<(), SessionFault>) -> u8
+    ensures { result ≡ status_in found }
+{
+    match found {
+        Ok(()) => 0,
+        Err(fault) => session_status(fault),
+    }
+}
+
+/// Checks files one after another, and answers the worst status. Each line that is said of one begins with its path, as
+/// a text of the language: of one that holds a segment on standard output, unless the check is quiet, and of one that
+/// holds none on standard error; behind that line stands what `trouble_of` tells of the disk, if anything.
+///
+/// # Errors
+///
+/// `WriteFault` where the output fails: the files behind are not checked then. Where standard error fails, nothing more
+/// is said there, and the status is the same.
+pub fn check_all<D: Disk, O: Output, E: Sink, F: Fn(&D) -> Option<Trouble>>(
+    alloc: Global,
+    disk: &mut D,
+    files: &[&str],
+    is_quiet: bool,
+    trouble_of: F,
+    out: &mut O,
+    err: &mut E,
+) -> Result<u8, CommandFault>
+    requires tells { F.IsAlwaysCallable trouble_of }
+    requires out { (O.history out.old).failures < 2 ^ 64 - 1 }
+    requires err { (E.history err.old).failures < 2 ^ 64 - 1 }
+    ensures { ChecksAll D.step disk.old disk.new O.history O.flushes out.old out.new (E.history err.old) (E.history err.new)
+        is_quiet (map (λ file. file.now) files.now) result }
+{
+    let mut worst = 0;
+    let mut said = Ok(());
+    'files: for file in files {
+        let found = verify_segment(alloc, disk, file);
+        said = put_unfit(file, found, trouble_of(&*disk), said, err);
+        let Ok(()) = tell_fit(file, found, is_quiet, out) else {
+            return Err(WRITE_FAULT);
+        };
+        worst = worst.max(status_in(found));
+    }
+    match Output::flush(out) {
+        Ok(()) => Ok(worst),
         Err(_) => Err(WRITE_FAULT),
     }
 }

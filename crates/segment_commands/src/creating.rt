@@ -50,7 +50,7 @@ pub fn create<D: Disk>(
         return Err(CommandFault::Program(ProgramFault::Exists));
     }
     let segment = new_segment(alloc, size)?;
-    match write_image(disk, path, Making::New, &segment) {
+    match write_image(disk, path, Making::New, &mut D::hold_none(), &segment) {
         Ok(()) => Ok(()),
         Err(_) => Err(WRITE_FAULT),
     }

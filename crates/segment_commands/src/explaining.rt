@@ -1,50 +1,18 @@
 //! The command that tells why an image is refused, and where.
 ghost use Rattle.std.specs.Prelude.{◌≡◌, ◌^◌, ◌-◌, ◌<◌};
 ghost use Rattle.raw_region.specs.Device.{Writes};
-ghost use Rattle.image_check.specs.declared.errors.MemoryFault.TheVariants.{Bytes};
-ghost use Rattle.segment_cli.specs.declared.faults.SessionFault.TheVariants.{OutOfMemory as NoMemory};
-ghost use Rattle.segment_commands.specs.declared.explaining.Unfit.TheVariants.{Fault};
-ghost use Rattle.segment_commands.specs.Explaining.{IsExplain, fault_for, verdict_text, words_of as words_for};
+ghost use Rattle.segment_commands.specs.Explaining.{IsExplain, verdict_text, words_of as words_for};
 ghost use Rattle.segment_commands.specs.Telling.{Tells};
 
 use crate::command_faults::{CommandFault, WRITE_FAULT};
-use crate::examining::examine_segment;
 use crate::telling::tell;
 use image_check::{ImageClass, Verdict};
-use raw_region::{DeviceFault, OutOfMemory, Sink};
+use raw_region::{DeviceFault, Sink};
 use segment_cli::{ProgramFault, SessionFault};
 use segment_disk::{Disk, Output};
+use segment_file::{Unfit, examine_file};
 use segment_lang::{Piece, put_pieces};
 use std::alloc::Global;
-
-/// Why there is no segment in a file.
-#[derive(Clone, Copy)]
-pub(crate) enum Unfit {
-    /// The image is of a class that is refused, which a place shows.
-    Image(Verdict),
-    /// For another reason.
-    Fault(SessionFault),
-}
-
-impl Unfit {
-    /// The same without the place.
-    pub(crate) fn into_fault(self) -> SessionFault
-        ensures { result ≡ fault_for self }
-    {
-        match self {
-            Unfit::Image(verdict) => SessionFault::Image(verdict.class),
-            Unfit::Fault(fault) => fault,
-        }
-    }
-}
-
-impl From<OutOfMemory> for Unfit {
-    ghost from_gives = { λ refusal unfit. unfit ≡ Fault (NoMemory (Bytes refusal)) };
-
-    fn from(refusal: OutOfMemory) -> Unfit {
-        Unfit::Fault(SessionFault::from(refusal))
-    }
-}
 
 /// Why an image of a class is refused.
 fn words_of(class: ImageClass) -> &'static str
@@ -110,7 +78,7 @@ pub fn explain<D: Disk, O: Output>(
     requires { (O.history out.old).failures < 2 ^ 64 - 1 }
     ensures { IsExplain D.step disk.old disk.new path.now O.history O.flushes out.old out.new result }
 {
-    match examine_segment(alloc, disk, path) {
+    match examine_file(alloc, disk, path) {
         Ok(()) => match tell(out, b"ok\n") {
             Ok(()) => Ok(()),
             Err(_) => Err(WRITE_FAULT),
@@ -121,6 +89,9 @@ pub fn explain<D: Disk, O: Output>(
             )))),
             Err(_) => Err(WRITE_FAULT),
         },
-        Err(Unfit::Fault(fault)) => Err(CommandFault::Program(ProgramFault::Session(fault))),
+        Err(Unfit::OutOfMemory(refusal)) => {
+            Err(CommandFault::from(SessionFault::OutOfMemory(refusal)))
+        }
+        Err(Unfit::ReadFault) => Err(CommandFault::from(SessionFault::ReadFault)),
     }
 }

@@ -120,7 +120,7 @@ pub fn load<D: Disk, S: Source>(
         return Err(CommandFault::Program(ProgramFault::Exists));
     }
     match load_dump(alloc, size, script) {
-        Ok(segment) => match write_image(disk, path, Making::New, &segment) {
+        Ok(segment) => match write_image(disk, path, Making::New, &mut D::hold_none(), &segment) {
             Ok(()) => Ok(()),
             Err(_) => Err(WRITE_FAULT),
         },

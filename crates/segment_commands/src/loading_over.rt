@@ -15,13 +15,14 @@ fn load_held<D: Disk, S: Source>(
     disk: &mut D,
     path: &str,
     size: Option<u64>,
+    hold: &mut D::Hold,
     script: &mut S,
 ) -> Result<(), CommandFault>
     requires { (S.history script.old).failures < 2 ^ 64 - 1 }
     ensures { LoadsOver D.step disk.old disk.new path.now size (S.history script.old) (S.history script.new) result }
 {
     match load_dump(alloc, size, script) {
-        Ok(segment) => match write_image(disk, path, Making::Beside, &segment) {
+        Ok(segment) => match write_image(disk, path, Making::Beside, hold, &segment) {
             Ok(()) => Ok(()),
             Err(_) => Err(WRITE_FAULT),
         },
@@ -49,10 +50,10 @@ pub fn load_over<D: Disk, S: Source>(
     if disk.look(path) != Presence::There {
         return load(alloc, disk, path, size, script);
     }
-    let Ok(hold) = disk.hold(path) else {
+    let Ok(mut hold) = disk.hold(path) else {
         return Err(CommandFault::InUse);
     };
-    let answer = load_held(alloc, disk, path, size, script);
+    let answer = load_held(alloc, disk, path, size, &mut hold, script);
     disk.release(hold);
     answer
 }

@@ -1,40 +1,17 @@
 //! The commands that tell what people want to see of the segment in a file: figures, a picture, or all of it as text.
-ghost use Rattle.std.specs.Prelude.{◌≡◌, ◌^◌, ◌-◌, ◌<◌, ◌++◌};
+ghost use Rattle.std.specs.Prelude.{◌≡◌, ◌^◌, ◌-◌, ◌<◌};
 ghost use Rattle.segment_manager.specs.Directory.{Directory};
 ghost use Rattle.segment_manager.specs.State.{StandsFor};
 ghost use Rattle.raw_region.specs.Device.{Writes};
-ghost use Rattle.segment_dump.specs.Capacities.{capacities, capacities_text};
-ghost use Rattle.segment_dump.specs.Json.{json_dump};
-ghost use Rattle.segment_dump.specs.Items.{portable};
-ghost use Rattle.segment_dump.specs.Texts.{dump_text};
-ghost use Rattle.segment_report.specs.Page.{page_of};
-ghost use Rattle.segment_report.specs.Picture.{picture_of};
-ghost use Rattle.segment_report.specs.Stat.{stat_text};
 ghost use Rattle.segment_commands.specs.Reporting.{IsReport, TellsOf, text_of};
 
 use crate::command_faults::{CommandFault, WRITE_FAULT};
 use crate::opening::open_segment;
 use raw_region::DeviceFault;
 use segment_disk::{Disk, Output};
+use segment_invocation::Report;
 use segment_manager::{Mode, Segment};
 use std::alloc::Global;
-
-/// What is told of a segment.
-#[derive(Clone, Copy)]
-enum Report {
-    /// Its figures.
-    Figures,
-    /// Its picture.
-    Picture,
-    /// A page for a browser.
-    Page,
-    /// All that it holds.
-    Dump,
-    /// All that it holds, and behind it the capacities of what has one.
-    Capacities,
-    /// Its objects as lines of JSON.
-    Json,
-}
 
 /// Writes what is told of a segment.
 fn write_report<O: Output>(out: &mut O, segment: &Segment, what: Report) -> Result<(), DeviceFault>
@@ -62,7 +39,11 @@ fn tell_report<O: Output>(out: &mut O, segment: &Segment, what: Report) -> Resul
 }
 
 /// Says what is told of the segment in a file, which is opened for reading.
-fn tell_of_file<D: Disk, O: Output>(
+///
+/// # Errors
+///
+/// Those of [`check`](crate::check).
+pub fn tell_segment<D: Disk, O: Output>(
     alloc: Global,
     disk: &mut D,
     path: &str,
@@ -77,111 +58,4 @@ fn tell_of_file<D: Disk, O: Output>(
         Ok(()) => Ok(()),
         Err(_) => Err(WRITE_FAULT),
     }
-}
-
-/// Says the figures of the segment in a file, which is opened for reading.
-///
-/// # Errors
-///
-/// Those of [`check`](crate::check).
-pub fn stat<D: Disk, O: Output>(
-    alloc: Global,
-    disk: &mut D,
-    path: &str,
-    out: &mut O,
-) -> Result<(), CommandFault>
-    requires { (O.history out.old).failures < 2 ^ 64 - 1 }
-    ensures { IsReport D.step disk.old disk.new path.now O.history O.flushes out.old out.new stat_text result }
-{
-    tell_of_file(alloc, disk, path, out, Report::Figures)
-}
-
-/// Draws the segment in a file, which is opened for reading, as a text of SVG.
-///
-/// # Errors
-///
-/// Those of [`check`](crate::check).
-pub fn draw<D: Disk, O: Output>(
-    alloc: Global,
-    disk: &mut D,
-    path: &str,
-    out: &mut O,
-) -> Result<(), CommandFault>
-    requires { (O.history out.old).failures < 2 ^ 64 - 1 }
-    ensures { IsReport D.step disk.old disk.new path.now O.history O.flushes out.old out.new picture_of result }
-{
-    tell_of_file(alloc, disk, path, out, Report::Picture)
-}
-
-/// Shows the segment in a file, which is opened for reading, as a page for a browser: its picture, its figures, and its
-/// objects as a table.
-///
-/// # Errors
-///
-/// Those of [`check`](crate::check).
-pub fn draw_page<D: Disk, O: Output>(
-    alloc: Global,
-    disk: &mut D,
-    path: &str,
-    out: &mut O,
-) -> Result<(), CommandFault>
-    requires { (O.history out.old).failures < 2 ^ 64 - 1 }
-    ensures { IsReport D.step disk.old disk.new path.now O.history O.flushes out.old out.new page_of result }
-{
-    tell_of_file(alloc, disk, path, out, Report::Page)
-}
-
-/// Says all that the segment in a file holds as text, line by line. The file is opened for reading.
-///
-/// # Errors
-///
-/// Those of [`check`](crate::check).
-pub fn dump<D: Disk, O: Output>(
-    alloc: Global,
-    disk: &mut D,
-    path: &str,
-    out: &mut O,
-) -> Result<(), CommandFault>
-    requires { (O.history out.old).failures < 2 ^ 64 - 1 }
-    ensures { IsReport D.step disk.old disk.new path.now O.history O.flushes out.old out.new
-        (λ d. dump_text d.size (portable d)) result }
-{
-    tell_of_file(alloc, disk, path, out, Report::Dump)
-}
-
-/// Says all that the segment in a file holds as text, line by line, and behind it the capacities of what has one. The
-/// file is opened for reading.
-///
-/// # Errors
-///
-/// Those of [`check`](crate::check).
-pub fn dump_capacities<D: Disk, O: Output>(
-    alloc: Global,
-    disk: &mut D,
-    path: &str,
-    out: &mut O,
-) -> Result<(), CommandFault>
-    requires { (O.history out.old).failures < 2 ^ 64 - 1 }
-    ensures { IsReport D.step disk.old disk.new path.now O.history O.flushes out.old out.new
-        (λ d. dump_text d.size (portable d) ++ capacities_text (capacities d)) result }
-{
-    tell_of_file(alloc, disk, path, out, Report::Capacities)
-}
-
-/// Says the objects of the segment in a file as lines of JSON. The file is opened for reading.
-///
-/// # Errors
-///
-/// Those of [`check`](crate::check).
-pub fn dump_json<D: Disk, O: Output>(
-    alloc: Global,
-    disk: &mut D,
-    path: &str,
-    out: &mut O,
-) -> Result<(), CommandFault>
-    requires { (O.history out.old).failures < 2 ^ 64 - 1 }
-    ensures { IsReport D.step disk.old disk.new path.now O.history O.flushes out.old out.new
-        (λ d. json_dump (portable d)) result }
-{
-    tell_of_file(alloc, disk, path, out, Report::Json)
 }

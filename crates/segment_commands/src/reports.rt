@@ -128,16 +128,20 @@ fn trouble_words(trouble: Trouble) -> &'static [u8]
 
 /// Writes a line that says why the file of a path can't be read or written, behind the line of the fault. The path
 /// stands there as a text of the language, so that none of its bytes ends the line or means something to a terminal.
-pub fn report_file<S: Sink>(path: &str, trouble: Trouble, err: &mut S)
+///
+/// # Errors
+///
+/// The writer failed; what it took is a part of the line, from the first byte on.
+pub fn put_trouble<S: Sink>(path: &str, trouble: Trouble, err: &mut S) -> Result<(), DeviceFault>
     requires { (S.history err.old).failures < 2 ^ 64 - 1 }
-    ensures { Puts (S.history err.old) (S.history err.new) (trouble_text path.now trouble) }
+    ensures { Writes (S.history err.old) (S.history err.new) result (trouble_text path.now trouble) }
 {
-    let _ = put_pieces(
+    put_pieces(
         err,
         &[
             Piece::Bytes(b"segment: "),
             Piece::Text(path.as_bytes()),
             Piece::Bytes(trouble_words(trouble)),
         ],
-    );
+    )
 }

@@ -4,7 +4,7 @@ ghost use Rattle.grow_shrink.specs.Resized.{IsRefusedBy, growth_refusal, grown, 
 ghost use Rattle.segment_manager.specs.blocks.Resized.{Resizes};
 ghost use Rattle.segment_commands.specs.Holding.{Holds};
 ghost use Rattle.segment_commands.specs.Modes.{making_of};
-ghost use Rattle.segment_commands.specs.Resizing.{IsResize, TellsAndWrites, TellsSize, next_by, refusal_by, size_line};
+ghost use Rattle.segment_commands.specs.Resizing.{IsResize, TellsAndWrites, TellsSize, more_by, next_by, refusal_by, size_line};
 ghost use Rattle.segment_commands.specs.Telling.{Tells};
 
 use crate::command_faults::{CommandFault, WRITE_FAULT};
@@ -52,6 +52,7 @@ fn tell_and_write<D: Disk, O: Output>(
     disk: &mut D,
     path: &str,
     making: Making,
+    hold: &mut D::Hold,
     segment: &Segment,
     out: &mut O,
 ) -> Result<(), DeviceFault>
@@ -59,7 +60,7 @@ fn tell_and_write<D: Disk, O: Output>(
     ensures { TellsAndWrites D.step disk.old disk.new path.now making O.history O.flushes out.old out.new segment.now result }
 {
     match tell_size(segment, out) {
-        Ok(()) => write_image(disk, path, making, segment),
+        Ok(()) => write_image(disk, path, making, hold, segment),
         Err(fault) => Err(fault),
     }
 }
@@ -75,23 +76,33 @@ fn resize_segment(segment: &mut Segment, how: Resize) -> Result<(), GrowError>
     }
 }
 
-/// Makes the segment in a file larger or smaller, with the right to write the file and room for so many bytes more.
+/// For how many bytes more the region of a segment is made that becomes larger.
+fn more_for(how: Resize) -> u64
+    ensures { result ≡ more_by how }
+{
+    match how {
+        Resize::Grow(extra) => extra,
+        Resize::Shrink => 0,
+    }
+}
+
+/// Makes the segment in a file larger or smaller, with the right to write the file.
 fn resize_held<D: Disk, O: Output>(
     alloc: Global,
     disk: &mut D,
     path: &str,
     how: Resize,
     making: Making,
-    more: u64,
+    hold: &mut D::Hold,
     out: &mut O,
 ) -> Result<(), CommandFault>
     requires { (O.history out.old).failures < 2 ^ 64 - 1 }
     ensures { IsResize D.step disk.old disk.new path.now making O.history O.flushes out.old out.new
-        (refusal_by how) (next_by how) result }
+        (more_by how) (refusal_by how) (next_by how) result }
 {
-    let mut segment = open_segment(alloc, disk, path, Mode::Write, more)?;
+    let mut segment = open_segment(alloc, disk, path, Mode::Write, more_for(how))?;
     match resize_segment(&mut segment, how) {
-        Ok(()) => match tell_and_write(disk, path, making, &segment, out) {
+        Ok(()) => match tell_and_write(disk, path, making, hold, &segment, out) {
             Ok(()) => Ok(()),
             Err(_) => Err(WRITE_FAULT),
         },
@@ -106,18 +117,17 @@ fn resize_file<D: Disk, O: Output>(
     path: &str,
     how: Resize,
     making: Making,
-    more: u64,
     out: &mut O,
 ) -> Result<(), CommandFault>
     requires { (O.history out.old).failures < 2 ^ 64 - 1 }
     ensures { Holds D.step disk.old disk.new path.now (out.new ≡ out.old)
         (λ held done. IsResize D.step held done path.now making O.history O.flushes out.old out.new
-        (refusal_by how) (next_by how) result) result }
+        (more_by how) (refusal_by how) (next_by how) result) result }
 {
-    let Ok(hold) = disk.hold(path) else {
+    let Ok(mut hold) = disk.hold(path) else {
         return Err(CommandFault::InUse);
     };
-    let answer = resize_held(alloc, disk, path, how, making, more, out);
+    let answer = resize_held(alloc, disk, path, how, making, &mut hold, out);
     disk.release(hold);
     answer
 }
@@ -141,17 +151,10 @@ pub fn grow<D: Disk, O: Output>(
     requires { (O.history out.old).failures < 2 ^ 64 - 1 }
     ensures { Holds D.step disk.old disk.new path.now (out.new ≡ out.old)
         (λ held done. IsResize D.step held done path.now (making_of saving) O.history O.flushes out.old out.new
-        (λ s d. growth_refusal s.mode d.size extra (room_of s.cut)) (λ d. grown d extra) result) result }
+        extra (λ s d. growth_refusal s.mode d.size extra (room_of s.cut)) (λ d. grown d extra) result) result }
 {
-    resize_file(
-        alloc,
-        disk,
-        path,
-        Resize::Grow(extra),
-        making_for(saving),
-        extra,
-        out,
-    )
+    let making = making_for(saving);
+    resize_file(alloc, disk, path, Resize::Grow(extra), making, out)
 }
 
 /// Makes the segment in a file as small as its last block lets it be, says its size, and then writes its image to the
@@ -170,15 +173,8 @@ pub fn shrink<D: Disk, O: Output>(
     requires { (O.history out.old).failures < 2 ^ 64 - 1 }
     ensures { Holds D.step disk.old disk.new path.now (out.new ≡ out.old)
         (λ held done. IsResize D.step held done path.now (making_of saving) O.history O.flushes out.old out.new
-        (λ s d. shrink_refusal s.mode) (λ d. shrunk d) result) result }
+        0 (λ s d. shrink_refusal s.mode) (λ d. shrunk d) result) result }
 {
-    resize_file(
-        alloc,
-        disk,
-        path,
-        Resize::Shrink,
-        making_for(saving),
-        0,
-        out,
-    )
+    let making = making_for(saving);
+    resize_file(alloc, disk, path, Resize::Shrink, making, out)
 }

@@ -33,6 +33,7 @@ fn run_opened<D: Disk, S: Source, O: Lined>(
     path: &str,
     mode: Mode,
     how: Making,
+    hold: &mut D::Hold,
     until: Until,
     script: &mut S,
     out: &mut O,
@@ -43,7 +44,7 @@ fn run_opened<D: Disk, S: Source, O: Lined>(
         O.history (IsFlushed O.history O.flushes out.new) out.old out.new result }
 {
     match open_segment(alloc, disk, path, mode, 0) {
-        Ok(mut segment) => answer_and_save(disk, path, how, &mut segment, until, script, out),
+        Ok(mut segment) => answer_and_save(disk, path, how, hold, &mut segment, until, script, out),
         Err(fault) => Err(fault),
     }
 }
@@ -63,10 +64,20 @@ fn run_held<D: Disk, S: Source, O: Lined>(
     ensures { RunsHeld D.step disk.old disk.new path.now how until (S.history script.old) (S.history script.new)
         O.history (IsFlushed O.history O.flushes out.new) out.old out.new result }
 {
-    let Ok(hold) = disk.hold(path) else {
+    let Ok(mut hold) = disk.hold(path) else {
         return Err(CommandFault::InUse);
     };
-    let answer = run_opened(alloc, disk, path, Mode::Write, how, until, script, out);
+    let answer = run_opened(
+        alloc,
+        disk,
+        path,
+        Mode::Write,
+        how,
+        &mut hold,
+        until,
+        script,
+        out,
+    );
     disk.release(hold);
     answered(answer)
 }
@@ -102,7 +113,8 @@ pub fn run_on_file<D: Disk, S: Source, O: Lined>(
     if mode == Mode::Write {
         run_held(alloc, disk, path, how, until, script, out)
     } else {
-        answered(run_opened(alloc, disk, path, mode, how, until, script, out))
+        let mut none = D::hold_none();
+        answered(run_opened(alloc, disk, path, mode, how, &mut none, until, script, out))
     }
 }
 
@@ -126,6 +138,7 @@ fn run_made<D: Disk, S: Source, O: Lined>(
             disk,
             path,
             Making::New,
+            &mut D::hold_none(),
             &mut segment,
             until,
             script,

@@ -1,5 +1,5 @@
 -- What a disk was asked, and what it answered.
-use Rattle.std.specs.Prelude.{◌≡◌, ℕ, Bool, false, List, [], ◌∷◌}
+use Rattle.std.specs.Prelude.{◌≡◌, ℕ, Bool, false, List, [], ◌∷◌, Option}
 use Rattle.raw_region.specs.Device.{Gave, Given, Took, Taken}
 use Rattle.segment_disk.specs.declared.presence.Presence.{Presence}
 use Rattle.segment_disk.specs.declared.presence.Making.{Making}
@@ -12,8 +12,8 @@ pub data Event : Type 0 where
   Held : List ℕ → Bool → Event
   -- the right that was given last was given back
   Released : Event
-  -- a file was to be opened for reading, and was or was not
-  Opened : List ℕ → Bool → Event
+  -- a file was to be opened for reading; it was, and has so many bytes, as far as that is known, or it was not
+  Opened : List ℕ → Option ℕ → Event
   -- the file that was opened last was closed, which had given this
   Read : Given → Event
   -- the file of this path was compared with the one that the right to write was given for last; it is that one, as far as

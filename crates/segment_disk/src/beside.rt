@@ -1,12 +1,13 @@
 //! Files of the system that are made beside others, to take their place.
 
 use crate::durable::write_through;
-use crate::locks::Identity;
-use std::fs::{self, File, OpenFile, OpenOptions};
+use crate::locks::{Identity, lock_made};
+use std::fs::{self, File, OpenFile, OpenOptions, Permissions};
 use std::io::{self, ErrorKind};
 use std::os::unix::fs::OpenOptionsExt;
 use std::path::PathBuf;
 use std::rt::Files;
+use std::time::Clock;
 
 /// A file that is made beside another, whose place it takes later.
 #[derive(Drop)]
@@ -15,6 +16,8 @@ pub(crate) struct Beside {
     old: PathBuf,
     /// Its own path: the other's, and `.new` behind it.
     new: String,
+    /// Its lock, if it has one: it is held before it has the other's name.
+    lock: Option<File>,
 }
 
 /// Whether what a path leads to is a file that may be written. It is not changed.
@@ -28,7 +31,7 @@ fn may_be_written<R: Files<File = File>>(files: &R, path: &str) -> io::Result<()
 impl Beside {
     /// Makes an empty file beside the one of a path, with its rights. Where a file is locked, the path leads to it, and
     /// what an earlier run left there is removed before; else nothing may be there.
-    pub(crate) fn make<R: Files<File = File> + AllocGlobal>(
+    pub(crate) fn make<R: Files<File = File> + AllocGlobal + Clock>(
         rt: &R,
         path: &str,
         held: Option<Identity>,
@@ -49,14 +52,34 @@ impl Beside {
         let mut options = OpenOptions::new();
         options.write(true).create_new(true).mode(0o600);
         let file = options.open(rt, new.as_str())?;
-        let beside = Beside { old, new };
-        match file.set_permissions(described.permissions()) {
+        let mut beside = Beside {
+            old,
+            new,
+            lock: None,
+        };
+        match beside.take_over(rt, &file, described.permissions()) {
             Ok(()) => Ok((file, beside)),
             Err(error) => {
                 beside.discard(rt);
                 Err(error)
             }
         }
+    }
+
+    /// Locks the file, and gives it the rights of the other.
+    fn take_over<C: Clock>(
+        &mut self,
+        clock: &C,
+        file: &File,
+        rights: Permissions,
+    ) -> io::Result<()> {
+        self.lock = lock_made(clock, file)?;
+        file.set_permissions(rights)
+    }
+
+    /// The lock of the file.
+    pub(crate) fn into_lock(self) -> Option<File> {
+        self.lock
     }
 
     /// Puts the file in the place of the other.

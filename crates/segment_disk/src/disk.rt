@@ -1,6 +1,6 @@
 //! Disks and outputs as the crates above are given them: contracts see what a disk was asked, in order, and what it
 //! answered.
-ghost use Rattle.std.specs.Prelude.{◌≡◌, Bool, IfOk, is_ok};
+ghost use Rattle.std.specs.Prelude.{◌≡◌, Bool, IfOk, MatchResult, None, Some, is_ok};
 ghost use Rattle.raw_region.specs.Device.{given_since, taken_since};
 ghost use Rattle.segment_disk.specs.Events.{Event, Looked, Held, Released, Opened as WasOpened, Read, Compared, Made, Wrote, Placed, Discarded, nothing_given, nothing_taken};
 
@@ -24,8 +24,8 @@ pub trait Disk {
 
     type Writer: Sink;
 
-    /// The right to write a file.
-    type Hold;
+    /// The right to write a file. What was not given back is given back where it is dropped, if the disk can do so.
+    type Hold: Drop;
 
     /// Tells what is there under a path.
     fn look(&mut self, path: &str) -> Presence
@@ -41,9 +41,15 @@ pub trait Disk {
     fn release(&mut self, hold: Self::Hold)
         ensures { step self.old Released self.new };
 
+    /// What is passed in place of the right to write a file that is not there yet. The file that is made with it is held
+    /// by it.
+    fn hold_none() -> Self::Hold;
+
     /// Opens a file for reading.
     fn open(&mut self, path: &str) -> Result<Opened<Self::Reader>, DeviceFault>
-        ensures asked { step self.old (WasOpened path.now (is_ok result)) self.new }
+        ensures asked { MatchResult result
+            (λ opened. step self.old (WasOpened path.now (Some opened.len)) self.new)
+            (λ fault. step self.old (WasOpened path.now None) self.new) }
         ensures fresh { IfOk result (λ opened. Self.Reader.history opened.reader ≡ nothing_given) };
 
     /// Closes a file that was open for reading.
@@ -51,14 +57,19 @@ pub trait Disk {
         ensures { step self.old (Read (given_since nothing_given (Self.Reader.history reader))) self.new };
 
     /// Compares the file of a path with the one that the right to write was given for. An error where another file has
-    /// taken its name; Ok also where no right was given, and where nothing is there.
-    fn compare(&mut self, path: &str) -> Result<(), DeviceFault>
+    /// taken its name; Ok also where that one can't be held, and where nothing is there.
+    fn compare(&mut self, path: &str, hold: &Self::Hold) -> Result<(), DeviceFault>
         ensures { step self.old (Compared path.now (is_ok result)) self.new };
 
     /// Makes a file, or empties it, and opens it for writing. One that is made beside another is put in its place or
-    /// discarded when it is closed. Where the right to write a file was given and another file has taken its name, that
-    /// one is neither emptied nor replaced, and the answer is an error.
-    fn make(&mut self, path: &str, how: Making) -> Result<Self::Writer, DeviceFault>
+    /// discarded when it is closed. Where another file has taken the name of the one that is held, that one is neither
+    /// emptied nor replaced, and the answer is an error. A file that is made under the path is held from then on.
+    fn make(
+        &mut self,
+        path: &str,
+        how: Making,
+        hold: &mut Self::Hold,
+    ) -> Result<Self::Writer, DeviceFault>
         ensures asked { step self.old (Made how path.now (is_ok result)) self.new }
         ensures fresh { IfOk result (λ writer. Self.Writer.history writer ≡ nothing_taken) };
 
@@ -68,13 +79,13 @@ pub trait Disk {
             (Wrote (taken_since nothing_taken (Self.Writer.history writer)) (is_ok result)) self.new };
 
     /// Puts the file that was made beside this one, and is closed, in its place. At each moment the name leads to one
-    /// of the two. Ok says that it leads to the new one, and that this lasts. An error where another file has taken the
-    /// name of the one whose right was given.
-    fn place(&mut self, path: &str) -> Result<(), DeviceFault>
+    /// of the two. Ok says that it leads to the new one, which is held from then on, and that this lasts. An error where
+    /// another file has taken the name of the one that is held.
+    fn place(&mut self, path: &str, hold: &mut Self::Hold) -> Result<(), DeviceFault>
         ensures { step self.old (Placed path.now (is_ok result)) self.new };
 
     /// Removes the file that was made beside this one, and is closed, if it is still there and can be removed.
-    fn discard(&mut self, path: &str)
+    fn discard(&mut self, path: &str, hold: &mut Self::Hold)
         ensures { step self.old (Discarded path.now) self.new };
 }
 

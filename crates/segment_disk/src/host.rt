@@ -5,7 +5,7 @@ use crate::beside::Beside;
 use crate::disk::{Disk, Opened};
 use crate::durable::write_through;
 use crate::limits::longest_file;
-use crate::locks::{Identity, lock};
+use crate::locks::{Identity, PAUSE, lock, lock_made};
 use crate::outlet::Outlet;
 use crate::presence::{InUse, Making, Presence, Trouble};
 use crate::sparse::SparseFile;
@@ -18,11 +18,8 @@ use std::rt::Files;
 use std::thread::sleep;
 use std::time::{Clock, Duration};
 
-/// After how many milliseconds a disk asks again for the right to write a file.
-const PAUSE: u64 = 50;
-
-/// How often it asks in a second.
-const TRIES: u64 = 20;
+/// How often a disk asks in a second for the right to write a file.
+const TRIES: u64 = 1000 / PAUSE;
 
 /// The files of the system. A file is written through before it is closed, where it is one that can be.
 #[derive(Drop)]
@@ -30,18 +27,29 @@ pub struct HostDisk<'a, R: Files> {
     files: &'a R,
     /// For how many seconds it waits for the right to write a file.
     wait: u64,
-    /// The file that is locked, if one is.
-    held: Option<Identity>,
-    /// The file that was made beside another last, while its fate is open.
-    beside: Option<Beside>,
     /// What the system said last of a file that was to be opened or made.
     trouble: Option<Trouble>,
 }
 
-/// The right to write a file: its lock, if it has one.
+/// The right to write a file, which the system takes back where this is dropped.
 #[derive(Drop)]
 pub struct HostHold {
-    _lock: Option<File>,
+    /// The lock of the file, if it has one.
+    lock: Option<File>,
+    /// The file that was made beside it last, while its fate is open.
+    beside: Option<Beside>,
+}
+
+impl HostHold {
+    /// With a lock, if there is one.
+    fn new(lock: Option<File>) -> HostHold {
+        HostHold { lock, beside: None }
+    }
+
+    /// The file that is locked, if one is.
+    fn identity(&self) -> Option<Identity> {
+        self.lock.as_ref().and_then(Identity::of)
+    }
 }
 
 impl<'a, R: Files> HostDisk<'a, R> {
@@ -55,8 +63,6 @@ impl<'a, R: Files> HostDisk<'a, R> {
         HostDisk {
             files,
             wait,
-            held: None,
-            beside: None,
             trouble: None,
         }
     }
@@ -68,36 +74,48 @@ impl<'a, R: Files> HostDisk<'a, R> {
     }
 }
 
-impl<'a, R: Files<File = File> + AllocGlobal> HostDisk<'a, R> {
+impl<'a, R: Files<File = File> + AllocGlobal + Clock> HostDisk<'a, R> {
     /// Makes a file, as it is wanted.
-    fn file_for(&mut self, path: &str, how: Making) -> io::Result<File> {
+    fn file_for(&mut self, path: &str, how: Making, hold: &mut HostHold) -> io::Result<File> {
         match how {
-            Making::New => File::create_new(self.files, path),
-            Making::Emptied => emptied(self.files, path, self.held),
+            Making::New => made(self.files, path, hold),
+            Making::Emptied => emptied(self.files, path, hold),
             Making::Beside => {
-                let (file, beside) = Beside::make(self.files, path, self.held)?;
-                self.beside = Some(beside);
+                let (file, beside) = Beside::make(self.files, path, hold.identity())?;
+                hold.beside = Some(beside);
                 Ok(file)
             }
         }
     }
 
     /// Whether another file has taken the name of the one that is locked.
-    fn is_taken(&self, path: &str) -> bool {
-        match (self.held, Identity::at(self.files, path)) {
+    fn is_taken(&self, path: &str, hold: &HostHold) -> bool {
+        match (hold.identity(), Identity::at(self.files, path)) {
             (Some(held), Ok(named)) => held != named,
             _ => false,
         }
     }
 }
 
-/// Opens a file for writing, and empties it. One that is not there is made. Where a file is locked, no other is emptied
-/// that has taken its name: they are compared when the file is open.
-fn emptied<R: Files<File = File>>(
+/// Makes a file that is not there, and locks it.
+fn made<R: Files<File = File> + Clock>(
     files: &R,
     path: &str,
-    held: Option<Identity>,
+    hold: &mut HostHold,
 ) -> io::Result<File> {
+    let file = File::create_new(files, path)?;
+    hold.lock = lock_made(files, &file)?;
+    Ok(file)
+}
+
+/// Opens a file for writing, and empties it. One that is not there is made. Where a file is locked, no other is emptied
+/// that has taken its name: they are compared when the file is open.
+fn emptied<R: Files<File = File> + Clock>(
+    files: &R,
+    path: &str,
+    hold: &mut HostHold,
+) -> io::Result<File> {
+    let held = hold.identity();
     if held.is_none() {
         return fs::create(files, path);
     }
@@ -109,7 +127,7 @@ fn emptied<R: Files<File = File>>(
             Ok(file)
         }
         Ok(_) => Err(io::Error::from(ErrorKind::AlreadyExists)),
-        Err(error) if error.kind() == ErrorKind::NotFound => File::create_new(files, path),
+        Err(error) if error.kind() == ErrorKind::NotFound => made(files, path, hold),
         Err(error) => Err(error),
     }
 }
@@ -159,13 +177,13 @@ impl<'a, R: Files<File = File> + AllocGlobal + Clock> Disk for HostDisk<'a, R> {
             sleep(self.files, Duration::from_millis(PAUSE));
             found = lock(self.files, path);
         }
-        let lock = found?;
-        self.held = lock.as_ref().and_then(Identity::of);
-        Ok(HostHold { _lock: lock })
+        Ok(HostHold::new(found?))
     }
 
-    fn release(&mut self, _hold: HostHold) {
-        self.held = None;
+    fn release(&mut self, _hold: HostHold) {}
+
+    fn hold_none() -> HostHold {
+        HostHold::new(None)
     }
 
     fn open(&mut self, path: &str) -> Result<Opened<Reading<File>>, DeviceFault> {
@@ -190,16 +208,21 @@ impl<'a, R: Files<File = File> + AllocGlobal + Clock> Disk for HostDisk<'a, R> {
 
     fn close(&mut self, _reader: Reading<File>) {}
 
-    fn compare(&mut self, path: &str) -> Result<(), DeviceFault> {
-        if self.is_taken(path) {
+    fn compare(&mut self, path: &str, hold: &HostHold) -> Result<(), DeviceFault> {
+        if self.is_taken(path, hold) {
             self.trouble = Some(Trouble::Taken);
             return Err(DeviceFault);
         }
         Ok(())
     }
 
-    fn make(&mut self, path: &str, how: Making) -> Result<Outlet<SparseFile>, DeviceFault> {
-        match self.file_for(path, how) {
+    fn make(
+        &mut self,
+        path: &str,
+        how: Making,
+        hold: &mut HostHold,
+    ) -> Result<Outlet<SparseFile>, DeviceFault> {
+        match self.file_for(path, how, hold) {
             Ok(file) => {
                 self.trouble = None;
                 let longest = longest_file(self.files);
@@ -221,23 +244,21 @@ impl<'a, R: Files<File = File> + AllocGlobal + Clock> Disk for HostDisk<'a, R> {
         }
     }
 
-    fn place(&mut self, path: &str) -> Result<(), DeviceFault> {
-        let Some(beside) = self.beside.take() else {
+    fn place(&mut self, path: &str, hold: &mut HostHold) -> Result<(), DeviceFault> {
+        let Some(beside) = hold.beside.take() else {
             return Err(DeviceFault);
         };
-        if self.is_taken(path) || beside.place(self.files).is_err() {
-            self.beside = Some(beside);
+        if self.is_taken(path, hold) || beside.place(self.files).is_err() {
+            hold.beside = Some(beside);
             return Err(DeviceFault);
         }
-        if beside.name_lasts(self.files) {
-            Ok(())
-        } else {
-            Err(DeviceFault)
-        }
+        let lasts = beside.name_lasts(self.files);
+        hold.lock = beside.into_lock();
+        if lasts { Ok(()) } else { Err(DeviceFault) }
     }
 
-    fn discard(&mut self, _path: &str) {
-        if let Some(beside) = self.beside.take() {
+    fn discard(&mut self, _path: &str, hold: &mut HostHold) {
+        if let Some(beside) = hold.beside.take() {
             beside.discard(self.files);
         }
     }

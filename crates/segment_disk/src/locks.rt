@@ -2,12 +2,17 @@
 
 use crate::presence::InUse;
 use std::fs::{self, File, TryLockError};
-use std::io;
+use std::io::{self, ErrorKind};
 use std::os::unix::fs::MetadataExt;
 use std::rt::Files;
+use std::thread::sleep;
+use std::time::{Clock, Duration};
 
-/// How often a file is opened anew that was replaced before it was locked.
+/// How often a file is opened anew that was replaced before it was locked, and one is locked that was just made.
 const TRIES: u32 = 8;
+
+/// After how many milliseconds a lock is asked for again that another has.
+pub(crate) const PAUSE: u64 = 50;
 
 /// Which file one is, whatever names lead to it while it is open.
 #[derive(Clone, Copy, Debug, PartialEq, Eq)]
@@ -64,4 +69,17 @@ pub(crate) fn lock<R: Files<File = File>>(files: &R, path: &str) -> Result<Optio
         }
     }
     Err(InUse)
+}
+
+/// Locks a file that was just made. Another may have opened it since, and has the lock until it finds no segment there.
+/// `None` is one that can't be locked.
+pub(crate) fn lock_made<C: Clock>(clock: &C, file: &File) -> io::Result<Option<File>> {
+    for _ in 0..TRIES {
+        match file.try_lock() {
+            Ok(()) => return Ok(Some(file.try_clone()?)),
+            Err(TryLockError::WouldBlock) => sleep(clock, Duration::from_millis(PAUSE)),
+            Err(TryLockError::Error(_)) => return Ok(None),
+        }
+    }
+    Err(io::Error::from(ErrorKind::AlreadyExists))
 }

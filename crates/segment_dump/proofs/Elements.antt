@@ -1,10 +1,11 @@
 -- What the calls answer of a segment, and what an object says of itself.
 use Rattle.segment_dump.proofs.Common.{◌≡◌, ℕ, List, [], ◌∷◌, ◌++◌, length, map, Some, refl, sym, ap, ◌∙◌, option_map}
 use Rattle.segment_dump.proofs.Common.{flat_map, free_bytes, Instance, Number, Directory, live, named_objects, ByHandle}
-use Rattle.segment_dump.proofs.Common.{unique_objects, SaysOf, IsLocated, State, step}
+use Rattle.segment_dump.proofs.Common.{unique_objects, SaysOf, State, step}
 use Rattle.std.specs.Prelude.{is_some}
 use Rattle.segment_manager.specs.declared.modes.Mode.{Mode}
-use Rattle.segment_manager.specs.objects.Located.{located}
+use Rattle.segment_manager.specs.objects.Found.{is_object_at}
+use Rattle.segment_manager.specs.State.{Answers}
 use Rattle.seg_types.specs.Commands as asked
 pub use Rattle.segment_manager.proofs.CommandLaws.{answered-reads}
 pub use Rattle.segment_values.proofs.LaidElements.{count_of_object, length-made, sizes_of_object}
@@ -27,14 +28,7 @@ pub flat_map-made : {X Y : Type 0} (f : Y → List ℕ) (g : X → Y) (xs : List
 flat_map-made f g [] = refl
 flat_map-made f g (x ∷ xs) = ap (λ l. f (g x) ++ l) (flat_map-made f g xs)
 
--- what an object says of itself is what is located under its handle
-pub said-located : (s : State) (said : Instance) → SaysOf s (ByHandle said.handle) said
-    → IsLocated s (ByHandle said.handle) (record { handle = said.handle; kind = said.kind; count = said.count })
-said-located s said h = record {
-  at = record {
-    answers = λ d st.
-        let f = h.says d st in
-        (λ i. Some (record { handle = f.2.at i; kind = f.2.kind i; count = f.2.count i })) ∙ sym (ap (option_map located) f.1);
-  };
-  here = record { answers = λ d st. sym (ap is_some (h.says d st).1) };
-}
+-- an object that says something of itself has the handle
+pub said-here : (s : State) (said : Instance) → SaysOf s (ByHandle said.handle) said
+    → Answers s (λ d. is_object_at d said.handle) true
+said-here s said h = record { answers = λ d st. sym (ap is_some (h.says d st).1) }

@@ -2,30 +2,26 @@
 use Rattle.segment_dump.proofs.Common.{◌≡◌, true, ℕ, Result, Ok, Err, IfOk, Kind, Refusal, Command, Key, State, IsStep}
 use Rattle.segment_dump.proofs.Common.{IsStepOfKind}
 use Rattle.seg_types.specs.Commands.{Content, Construct}
-use Rattle.seg_types.specs.declared.kinds.Kind.TheVariants.{String}
 use Rattle.segment_manager.specs.declared.objects.targets.Object.{Object as Located}
 use Rattle.segment_manager.specs.Answers.{Answer}
 use Rattle.segment_manager.specs.Staying.{is_elementwise}
 use Rattle.segment_manager.specs.State.{IsSegment, handle_answer}
 use Rattle.segment_manager.specs.Step.{step, step_of_kind}
 use Rattle.segment_manager.proofs.Laws.{made-here, objects_stay}
-use Rattle.segment_dump.specs.Builders.{IsHere}
+use Rattle.segment_dump.specs.Builders.{HasObject, IsHere}
 
-abbrev some_object : ℕ → Located
-some_object h = record { handle = h; kind = String; count = 1 }
-
-module _ {old new : State} {h : ℕ} (i : IsHere old h) (c : Command) (answer : Answer) where
-  pub still-here : IsStep old new c answer → is_elementwise c ≡ true → IsHere new h
+module _ {old new : State} {o : Located} (i : HasObject old o) (c : Command) (answer : Answer) where
+  pub still-here : IsStep old new c answer → is_elementwise c ≡ true → HasObject new o
   still-here m e = record {
     segment = ((step old.mode i.segment.0 c).1, m.denotes i.segment.0 i.segment.1);
-    object = objects_stay.any old new c answer i.segment e m (some_object h) i.object;
+    object = objects_stay.any old new c answer i.segment e m o i.object;
   }
 
   pub still_of_kind-here : (key : Key) (kind : Kind) → IsStepOfKind old new key kind c answer → is_elementwise c ≡ true
-      → IsHere new h
+      → HasObject new o
   still_of_kind-here key kind m e = record {
     segment = ((step_of_kind old.mode i.segment.0 key kind c).1, m.denotes i.segment.0 i.segment.1);
-    object = objects_stay.of_kind old new key kind c answer i.segment e m (some_object h) i.object;
+    object = objects_stay.of_kind old new key kind c answer i.segment e m o i.object;
   }
 
 pub begun_here : {old new : State} (key : Key) (c : Content) (called : Result ℕ Refusal) → IsSegment old.cut.bytes

@@ -15,7 +15,8 @@ use Rattle.seg_types.specs.Values.{scalar_of}
 use Rattle.best_fit.specs.Table.{Table}
 use Rattle.segment_manager.specs.Directory.{Bytes}
 use Rattle.segment_manager.specs.Plan.{bare}
-use Rattle.segment_manager.specs.objects.Found.{is_object_at}
+use Rattle.segment_manager.specs.declared.objects.targets.Object.{Object as Located}
+use Rattle.segment_manager.specs.objects.{Found.is_object_at, Located.IsObject}
 use Rattle.segment_manager.specs.State.{Answers, IsSegment, State}
 use Rattle.seg_types.specs.Texts.{class_text, name_text, quoted_text}
 use Rattle.segment_lang.specs.Tokens.{next_word}
@@ -42,6 +43,11 @@ pub record ReadsPair {E : Type 0} (k w : ScalarKind) (text rest : List ℕ) (res
 pub record IsHere (s : State) (h : ℕ) : Type 0 where
   pub segment : IsSegment s.cut.bytes
   pub object : Answers s (λ d. is_object_at d h) true
+
+-- an object that was located is there
+pub record HasObject (s : State) (o : Located) : Type 0 where
+  pub segment : IsSegment s.cut.bytes
+  pub object : IsObject o s
 
 -- all elements are there
 pub record IsFilled (s : State) (text : List ℕ) (p : Fill) : Type 0 where

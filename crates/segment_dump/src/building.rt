@@ -17,8 +17,8 @@ use crate::filling::fill;
 use crate::reading::{Lines, Words};
 use seg_types::{Class, Handle, Kind, MAX_ARRAY_LEN, Name, Refusal, Scalar, ScalarKind, by_kind};
 use segment_lang::{Text, Word, numbers_are_decimals, texts_are_spelled};
-use segment_manager::conditioned::instance_here;
-use segment_manager::{AnonymousInstance, Destination, Object, Segment, UniqueInstance};
+use segment_manager::conditioned::object_here;
+use segment_manager::{AnonymousInstance, Destination, Segment, UniqueInstance};
 
 /// Why building stops.
 #[derive(Clone, Copy, Debug, PartialEq, Eq)]
@@ -93,19 +93,6 @@ fn build_object(
     let (handle, shape) = start_next(segment, words, scratch)?;
     let object = object_here(segment, handle);
     fill(segment, object, shape, lines, room, scratch)
-}
-
-/// The object of a handle, so that no line that fills it looks it up.
-fn object_here(segment: &Segment, handle: Handle) -> Object
-    requires { IsHere segment.now handle }
-    ensures { result.handle ≡ handle }
-{
-    let said = instance_here(segment, handle);
-    Object {
-        handle,
-        kind: said.kind,
-        count: said.count,
-    }
 }
 
 /// Makes the object of a line, with room for its elements and none of them yet, or zeros.

@@ -18,6 +18,7 @@ use crate::objects::{Telling, put_anonymous, put_named, put_unique};
 use raw_region::{DeviceFault, Sink, word_in};
 use seg_types::{Class, Kind};
 use segment_lang::{Piece, put_pieces};
+use segment_manager::conditioned::object_here;
 use segment_manager::layout::{NAMED_AT, UNIQUE_AT};
 use segment_manager::{Instance, Object, Segment};
 
@@ -109,11 +110,7 @@ fn put_capacity<W: Sink>(
     requires said { SaysOf segment.now (ByHandle said.handle) said }
     ensures { WritesOf segment.now (W.history out.old) (W.history out.new) result (λ d. notes_at d (ByHandle said.entry.handle)) }
 {
-    let object = Object {
-        handle: said.handle,
-        kind: said.kind,
-        count: said.count,
-    };
+    let object = object_here(segment, said.handle);
     match places_of(segment, object) {
         Some(places) => put_note(said, places, out),
         None => Ok(()),

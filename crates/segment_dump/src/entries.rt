@@ -11,7 +11,8 @@ use crate::objects::Telling;
 use raw_region::{DeviceFault, Sink};
 use seg_types::Class;
 use segment_lang::{Piece, put_pieces};
-use segment_manager::{Instance, Object, Segment};
+use segment_manager::conditioned::object_here;
+use segment_manager::{Instance, Segment};
 use segment_values::{count_of, put_content};
 
 /// Tells an object by its lines in a dump.
@@ -38,11 +39,7 @@ fn put_entry<W: Sink>(segment: &Segment, said: Instance<'_>, out: &mut W) -> Res
     requires said { SaysOf segment.now (ByHandle said.handle) said }
     ensures { WritesOf segment.now (W.history out.old) (W.history out.new) result (λ d. text_at d (ByHandle said.entry.handle)) }
 {
-    let object = Object {
-        handle: said.handle,
-        kind: said.kind,
-        count: said.count,
-    };
+    let object = object_here(segment, said.handle);
     let count = count_of(segment, object);
     put_head(said, count, out)?;
     put_content(&InLines, segment, object, count, out)

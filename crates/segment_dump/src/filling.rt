@@ -6,7 +6,7 @@ ghost use Rattle.seg_types.specs.Names.{ByHandle};
 ghost use Rattle.seg_types.specs.Values.{kind_of_scalar, value_of_scalar};
 ghost use Rattle.segment_manager.specs.State.{IsStepOfKind, done_answer};
 ghost use Rattle.segment_manager.specs.objects.Located.{IsObject};
-ghost use Rattle.segment_dump.specs.Builders.{AddsElement, FillsElements, FillsNew, IsHere, IsVectorKind};
+ghost use Rattle.segment_dump.specs.Builders.{AddsElement, FillsElements, FillsNew, HasObject, IsVectorKind};
 
 use crate::building::{Shape, Stop, misfit, stop_of};
 use crate::faults::DumpFault;
@@ -25,7 +25,7 @@ pub fn fill(
     room: &mut [u8],
     scratch: &mut Text,
 ) -> Result<(), Stop>
-    requires { IsHere segment.old object.handle }
+    requires { HasObject segment.old object }
     ensures { FillsNew segment.old segment.new object.handle shape.kind shape.count lines.old lines.new (length room.old) result }
 {
     match shape.kind {
@@ -45,7 +45,7 @@ fn fill_reserved(
     room: &mut [u8],
     scratch: &mut Text,
 ) -> Result<(), Stop>
-    requires { IsHere segment.old object.handle }
+    requires { HasObject segment.old object }
     ensures { IsVectorKind shape.kind → FillsNew segment.old segment.new object.handle shape.kind shape.count lines.old lines.new (length room.old) result }
 {
     match segment.reserve(&object, shape.count) {
@@ -63,7 +63,7 @@ fn fill_elements(
     room: &mut [u8],
     scratch: &mut Text,
 ) -> Result<(), Stop>
-    requires { IsHere segment.old object.handle }
+    requires { HasObject segment.old object }
     ensures { FillsElements segment.old segment.new object.handle shape.kind shape.count lines.old lines.new
         (length room.old) result }
 {
@@ -83,9 +83,9 @@ fn add_element(
     room: &mut [u8],
     scratch: &mut Text,
 ) -> Result<(), Stop>
-    requires { IsHere segment.old object.handle }
+    requires { HasObject segment.old object }
     ensures adds { AddsElement segment.old segment.new object.handle kind index lines.old lines.new (length room.old) result }
-    ensures here { IsHere segment.new object.handle }
+    ensures here { HasObject segment.new object }
 {
     match kind {
         Kind::Scalar(kind) => set_next(segment, object, kind, index, lines),
@@ -104,9 +104,9 @@ fn set_next(
     index: u64,
     lines: &mut Lines<'_>,
 ) -> Result<(), Stop>
-    requires { IsHere segment.old object.handle }
+    requires { HasObject segment.old object }
     ensures adds { (room : ℕ) → AddsElement segment.old segment.new object.handle (ScalarOf kind) index lines.old lines.new room result }
-    ensures here { IsHere segment.new object.handle }
+    ensures here { HasObject segment.new object }
 {
     let at = lines.at();
     let value = next_value(lines, kind)?;
@@ -133,9 +133,9 @@ fn push_next(
     kind: ScalarKind,
     lines: &mut Lines<'_>,
 ) -> Result<(), Stop>
-    requires { IsHere segment.old object.handle }
+    requires { HasObject segment.old object }
     ensures adds { (index room : ℕ) → AddsElement segment.old segment.new object.handle (VectorOf kind) index lines.old lines.new room result }
-    ensures here { IsHere segment.new object.handle }
+    ensures here { HasObject segment.new object }
 {
     let at = lines.at();
     let value = next_value(lines, kind)?;
@@ -158,9 +158,9 @@ fn put_next(
     values: ScalarKind,
     lines: &mut Lines<'_>,
 ) -> Result<(), Stop>
-    requires { IsHere segment.old object.handle }
+    requires { HasObject segment.old object }
     ensures adds { (index room : ℕ) → AddsElement segment.old segment.new object.handle (MapOf keys values) index lines.old lines.new room result }
-    ensures here { IsHere segment.new object.handle }
+    ensures here { HasObject segment.new object }
 {
     let at = lines.at();
     let (key, value) = next_pair(lines, keys, values)?;

@@ -1,7 +1,7 @@
 //! Texts made of the lines of a dump.
 ghost use Rattle.std.specs.Prelude.{◌≡◌, ◌+◌, ◌-◌, ◌/◌, ◌≤◌, ◌++◌, ℕ, length, take, IfOk};
 ghost use Rattle.seg_types.specs.declared.kinds.Kind.TheVariants.{String as StringKind, Strings as StringsKind};
-ghost use Rattle.segment_dump.specs.Builders.{AddsElement, AppendsPiece, Collects, CopiesPiece, FillsNew, IsHere, ReadsLength, ReadsPiece};
+ghost use Rattle.segment_dump.specs.Builders.{AddsElement, AppendsPiece, Collects, CopiesPiece, FillsNew, HasObject, ReadsLength, ReadsPiece};
 
 use crate::building::{Stop, stop_of};
 use crate::faults::Misfit;
@@ -18,7 +18,7 @@ pub fn fill_string(
     lines: &mut Lines<'_>,
     scratch: &mut Text,
 ) -> Result<(), Stop>
-    requires { IsHere segment.old object.handle }
+    requires { HasObject segment.old object }
     ensures { (room : ℕ) → FillsNew segment.old segment.new object.handle StringKind 1 lines.old lines.new room result }
 {
     let at = lines.at();
@@ -69,9 +69,9 @@ fn append_piece(
     words: &mut Words<'_>,
     scratch: &mut Text,
 ) -> Result<(), Stop>
-    requires { IsHere segment.old object.handle }
+    requires { HasObject segment.old object }
     ensures appends { AppendsPiece segment.old segment.new object.handle words.old result }
-    ensures here { IsHere segment.new object.handle }
+    ensures here { HasObject segment.new object }
 {
     let at = words.at();
     let piece = last_text(words)?;
@@ -86,9 +86,9 @@ pub fn push_text(
     room: &mut [u8],
     scratch: &mut Text,
 ) -> Result<(), Stop>
-    requires { IsHere segment.old object.handle }
+    requires { HasObject segment.old object }
     ensures adds { (index : ℕ) → AddsElement segment.old segment.new object.handle StringsKind index lines.old lines.new (length room.old) result }
-    ensures here { IsHere segment.new object.handle }
+    ensures here { HasObject segment.new object }
 {
     let at = lines.at();
     let len = collect(lines, room, scratch)?;

@@ -7,11 +7,9 @@ ghost use Rattle.segment_dump.specs.Asked.{Begins, CanName, IsLined, IsMeasured,
 ghost use Rattle.segment_dump.specs.Leads.{AreEntries, IsLead, IsMeasure, IsSmall, closed_text, entries_text, lead_text, measured};
 ghost use Rattle.segment_dump.specs.Reads.{Any, AreLines, Breaks, HasNoEnd, IsWord, Reads, Skips, ended, itself, lines_text, seen, seen_rest};
 
+use block_tags::MAX_SEGMENT_LEN;
 use seg_types::Kind;
 use segment_lang::{Word, kind_of_word, number_of, numbers_are_decimals};
-
-/// No segment has more bytes.
-const MOST: u64 = 1_073_741_824;
 
 /// What is behind these bytes.
 pub fn behind<'a>(text: &'a [u8], lead: &[u8]) -> Option<&'a [u8]>
@@ -81,7 +79,7 @@ pub fn next_count(text: &[u8]) -> Option<(u64, &[u8])>
     ensures small { IfSome result (λ r. IsSmall r.0) }
 {
     let (number, rest) = next_number(text)?;
-    if number > MOST {
+    if number > MAX_SEGMENT_LEN {
         return None;
     }
     Some((number, rest))
@@ -117,7 +115,7 @@ fn quoted_len(text: &[u8]) -> Option<(u64, &[u8])>
     ensures small { IfSome result (λ r. IsSmall r.0) }
 {
     let mut rest = text;
-    'bytes: for len in 0..MOST + 1 {
+    'bytes: for len in 0..MAX_SEGMENT_LEN + 1 {
         if let Some(end) = behind(rest, b"\"") {
             return Some((len, end));
         }
@@ -137,7 +135,7 @@ fn name_len(text: &[u8]) -> Option<(u64, &[u8])>
     }
     let (word, rest) = next_word(text);
     let len = word.len() as u64;
-    if len > MOST {
+    if len > MAX_SEGMENT_LEN {
         return None;
     }
     Some((len, rest))

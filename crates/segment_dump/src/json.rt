@@ -16,6 +16,7 @@ use crate::objects::{Telling, put_anonymous, put_named, put_unique};
 use raw_region::{DeviceFault, Sink, write_all};
 use seg_types::{Class, Kind, ScalarValue};
 use segment_lang::{Piece, put_pieces};
+use segment_manager::conditioned::object_here;
 use segment_manager::{Instance, Object, Segment};
 use segment_values::{Layout, count_of, put_content};
 
@@ -115,11 +116,7 @@ fn put_object<W: Sink>(
     requires said { SaysOf segment.now (ByHandle said.handle) said }
     ensures { WritesOf segment.now (W.history out.old) (W.history out.new) result (λ d. json_at d (ByHandle said.entry.handle)) }
 {
-    let object = Object {
-        handle: said.handle,
-        kind: said.kind,
-        count: said.count,
-    };
+    let object = object_here(segment, said.handle);
     let count = count_of(segment, object);
     put_key(said, out)?;
     put_kind(said.kind, out)?;

@@ -6,6 +6,7 @@ ghost use Rattle.segment_dump.specs.Asked.{AreAtMost};
 ghost use Rattle.segment_dump.specs.Need.{block_room, body_len, both, elements_room, front_room, object_room, only_room};
 
 use seg_types::{Kind, ScalarKind};
+use segment_manager::layout::CONTAINER_LEN;
 
 /// The bytes of the header and of the end tag.
 const ENDS: u64 = 144;
@@ -60,10 +61,10 @@ fn body_len(kind: Kind, count: u64) -> u64
 {
     match kind {
         Kind::Scalar(kind) => kind.size() * count,
-        Kind::String => 24,
-        Kind::Vector(_) => 24,
-        Kind::Map(_, _) => 24,
-        Kind::Strings => 24,
+        Kind::String => CONTAINER_LEN,
+        Kind::Vector(_) => CONTAINER_LEN,
+        Kind::Map(_, _) => CONTAINER_LEN,
+        Kind::Strings => CONTAINER_LEN,
     }
 }
 

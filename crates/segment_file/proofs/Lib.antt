@@ -1,3 +1,7 @@
-mod Verified
+mod Rooms
+mod Fronts
+mod Unopened
+mod ReadOn
+pub mod Laws
 mod Written
 mod Standings

@@ -1,5 +1,5 @@
 -- How the file of an image is read, and how it is written.
-use Rattle.std.specs.Prelude.{◌≡◌, ◌≢◌, ◌⊎◌, ⊤, Bool, true, false, List, [], ◌∷◌, ℕ, Result, MatchResult}
+use Rattle.std.specs.Prelude.{◌≡◌, ◌≢◌, ◌⊎◌, ⊤, Bool, true, false, List, [], ◌∷◌, ℕ, Some, None, Result, MatchResult}
 use Rattle.raw_region.specs.Device.{Given, Taken, IsProperPrefix}
 use Rattle.segment_manager.specs.Directory.{Directory}
 use Rattle.segment_manager.specs.State.{StandsFor}
@@ -10,13 +10,13 @@ use Rattle.segment_disk.specs.Events.{Event, Opened, Read, Compared, Made, Wrote
 
 -- ---- a file that is read
 
--- it was opened, gave this and was closed
-abbrev pub opens : List ℕ → Given → List Event
-opens path image = Opened path true ∷ Read image ∷ []
+-- it was opened, and had so many bytes by what the disk told, gave this and was closed
+abbrev pub opens : List ℕ → ℕ → Given → List Event
+opens path len image = Opened path (Some len) ∷ Read image ∷ []
 
 -- it could not be opened
 abbrev pub does_not_open : List ℕ → List Event
-does_not_open path = Opened path false ∷ []
+does_not_open path = Opened path None ∷ []
 
 -- ---- a file that is written
 

@@ -1,24 +1,16 @@
 -- A segment with the path of its file: what the disk is asked, in order, and what becomes of the segment.
 use Rattle.std.specs.Prelude.{◌≡◌, ◌≢◌, ◌⊎◌, ℕ, false, List, [], ◌∷◌, length, IsTrue, string_bytes}
 use Rattle.std.specs.Prelude.{Some, None, Result, Ok, Err, IfErr, MatchResult}
-use Rattle.raw_region.specs.Device.{Given}
-use Rattle.raw_region.specs.Format.{current}
 use Rattle.raw_region.specs.Refusals.{refusal_of}
 use Rattle.block_tags.specs.Format.{is_legal_size}
-use Rattle.segment_manager.specs.declared.modes.Mode.{Mode}
-use Rattle.segment_manager.specs.declared.modes.Mode.TheVariants.{Write, ReadOnly}
+use Rattle.segment_manager.specs.declared.modes.Mode.TheVariants.{Write}
 use Rattle.segment_manager.specs.Calls.{IsCreated}
 use Rattle.segment_manager.specs.Directory.{Directory}
 use Rattle.segment_manager.specs.blocks.Resized.{Resizes}
 use Rattle.segment_manager.specs.State.{State, StandsFor}
 use Rattle.segment_manager.specs.Step.{is_read_only}
-use Rattle.image_check.specs.declared.errors.OpenError.{OpenError}
-use Rattle.image_check.specs.declared.errors.OpenError.TheVariants.{Image as NoImage, RegionTooSmall as NoRoom}
-use Rattle.image_check.specs.declared.errors.OpenError.TheVariants.{OutOfMemory as NoMemory, ReadFault as NotRead}
-use Rattle.image_check.specs.declared.errors.MemoryFault.TheVariants.{BlockMap, Bytes}
-use Rattle.image_check.specs.declared.errors.OpenRefused.{OpenRefused}
-use Rattle.image_check.specs.Opening.{Opens, IsUntouched}
-use Rattle.image_check.specs.OpeningAny.{OpensAny}
+use Rattle.image_check.specs.declared.errors.MemoryFault.TheVariants.{Bytes}
+use Rattle.image_check.specs.declared.versions.Versions.TheVariants.{Current, All}
 use Rattle.grow_shrink.specs.declared.larger_region.GrowOrMoveError.{GrowOrMoveError}
 use Rattle.grow_shrink.specs.declared.larger_region.GrowOrMoveError.TheVariants.{Growth as NoGrowth, OutOfMemory as NoLargerRegion}
 use Rattle.grow_shrink.specs.declared.refusals.GrowError.{GrowError}
@@ -28,31 +20,18 @@ use Rattle.segment_disk.specs.declared.presence.Making.{Making}
 use Rattle.segment_disk.specs.declared.presence.Making.TheVariants.{New, Emptied}
 use Rattle.segment_disk.specs.declared.presence.Presence.{Presence}
 use Rattle.segment_disk.specs.declared.presence.Presence.TheVariants.{Absent, There}
-use Rattle.segment_disk.specs.Events.{Event, Looked, Held, After}
+use Rattle.segment_disk.specs.Events.{Event, Looked, Held, Released, After}
 use Rattle.segment_file.specs.declared.file_errors.FileError.{FileError}
-use Rattle.segment_file.specs.declared.file_errors.FileError.TheVariants.{Exists, BadSize, Image, RegionTooSmall}
-use Rattle.segment_file.specs.declared.file_errors.FileError.TheVariants.{OutOfMemory, ReadFault, WriteFault, InUse}
-use Rattle.segment_file.specs.declared.file_errors.FileError.TheVariants.{WrongMode, Growth}
+use Rattle.segment_file.specs.declared.file_errors.FileError.TheVariants.{Exists, BadSize, OutOfMemory, WriteFault, InUse, Growth}
 use Rattle.segment_file.specs.declared.segment_files.SegmentFile.{SegmentFile}
-use Rattle.segment_file.specs.Files.{WritesImage, opens, does_not_open}
+use Rattle.segment_file.specs.declared.unfit.Unfit.{Unfit}
+use Rattle.segment_file.specs.Files.{WritesImage}
 use Rattle.segment_file.specs.Holding.{IsHolding}
+use Rattle.segment_file.specs.Opening.{ExaminesFile, OpensFile, unfit_error}
 
 -- an answer of a writing that went well
 abbrev pub saved : Result (Unit {0}) FileError
 saved = Ok tt
-
--- ---- the segment of a file
-
--- why an image is not opened, as a file's call answers it
-abbrev pub file_error : OpenError → FileError
-file_error (NoImage c) = Image c
-file_error NoRoom = RegionTooSmall
-file_error (NoMemory refusal) = OutOfMemory (BlockMap refusal)
-file_error NotRead = ReadFault
-
-abbrev pub as_file : Result State OpenRefused → Result State FileError
-as_file (Ok s) = Ok s
-as_file (Err refused) = Err (file_error refused.cause)
 
 -- a request for so many bytes was refused; for a region with room for so many
 abbrev pub bytes_refused : ℕ → FileError
@@ -60,57 +39,6 @@ bytes_refused n = OutOfMemory (Bytes (refusal_of n))
 
 abbrev pub region_refused : ℕ → FileError
 region_refused room = bytes_refused (region_len room)
-
--- memory for a region with room for so many bytes was refused before the image was read
-pub record IsWithoutRegion (room : ℕ) (image : Given) (result : Result State FileError) : Type 0 where
-  pub unread : IsUntouched image
-  pub refused : result ≡ Err (region_refused room)
-
--- an image was opened at the front of a region, or not
-pub record IsOpenedIn (mode : Mode) (image : Given) (result : Result State FileError) : Type 0 where
-  pub region : List ℕ
-  pub opened : Result State OpenRefused
-  pub opens : Opens current image region 0 mode opened
-  pub answer : result ≡ as_file opened
-
--- the same of an image of any of the three formats, for writing
-pub record IsOpenedAnyIn (image : Given) (result : Result State FileError) : Type 0 where
-  pub region : List ℕ
-  pub opened : Result State OpenRefused
-  pub opens : OpensAny image region 0 Write opened
-  pub answer : result ≡ as_file opened
-
-abbrev pub OpensIn : ℕ → Mode → Given → Result State FileError → Type 0
-OpensIn room mode image result = IsWithoutRegion room image result ⊎ IsOpenedIn mode image result
-
-abbrev pub OpensAnyIn : ℕ → Given → Result State FileError → Type 0
-OpensAnyIn room image result = IsWithoutRegion room image result ⊎ IsOpenedAnyIn image result
-
--- an image is opened for reading, but that no segment is made: there is one, or this is why there is none
-abbrev pub VerifiesIn : ℕ → Given → Result (Unit {0}) FileError → Type 0
-VerifiesIn room image result =
-    MatchResult result (λ done. (s : State) × OpensIn room ReadOnly image (Ok s)) (λ why. OpensIn room ReadOnly image (Err why))
-
-module _ {D : Type 0} (step : D → Event → D → Type 0) (old new : D) (path : List ℕ) where
-  -- the file could not be opened, and nothing else was asked
-  pub record IsUnreadable (result : Result State FileError) : Type 0 where
-    pub asked : After step old (does_not_open path) new
-    pub refused : result ≡ Err ReadFault
-
-  -- the file was opened, read and closed, and nothing else was asked; its segment was to have some room
-  pub record IsReadAs (opened : ℕ → Given → Result State FileError → Type 0) (result : Result State FileError) : Type 0 where
-    pub room : ℕ
-    pub image : Given
-    pub asked : After step old (opens path image) new
-    pub answer : opened room image result
-
-  -- the segment of a file
-  abbrev pub ReadsSegment : Mode → Result State FileError → Type 0
-  ReadsSegment mode result = IsUnreadable result ⊎ IsReadAs (λ room. OpensIn room mode) result
-
-  -- the same of a file of any of the three formats
-  abbrev pub ReadsAnySegment : Result State FileError → Type 0
-  ReadsAnySegment result = IsUnreadable result ⊎ IsReadAs OpensAnyIn result
 
 -- ---- a segment that is made
 
@@ -154,7 +82,29 @@ pub record IsBehindLook {D : Type 0} (step : D → Event → D → Type 0) (old 
   pub asked : step old (Looked path found) looked
   pub goes : goes_on looked
 
+-- ---- a file that is held
+
 module _ {D : Type 0} (step : D → Event → D → Type 0) (old new : D) (path : List ℕ) where
+  -- another has the right to write the file, and nothing else was asked
+  pub record IsFileInUse {A : Type 0} (result : Result A FileError) : Type 0 where
+    pub asked : After step old (Held path false ∷ []) new
+    pub refused : result ≡ Err InUse
+
+  -- the right was taken, this was done, and it was given back
+  abbrev pub HoldsFile : (D → D → Type 0) → Result (Unit {0}) FileError → Type 0
+  HoldsFile does result = IsFileInUse result ⊎ IsHolding step old new path does
+
+  -- the right was taken before the file was read, and is kept where there is a segment, and else given back
+  pub record IsHeldOpening (result : Result State FileError) : Type 0 where
+    pub held : D
+    pub taken : step old (Held path true) held
+    pub read : D
+    pub opens : OpensFile step held read path Current Write 0 result
+    pub kept : MatchResult result (λ s. new ≡ read) (λ why. step read Released new)
+
+  abbrev pub OpensHeld : Result State FileError → Type 0
+  OpensHeld result = IsFileInUse result ⊎ IsHeldOpening result
+
   -- something is there under the path, and nothing else was asked
   pub record IsThere {A : Type 0} (result : Result A FileError) : Type 0 where
     pub asked : After step old (Looked path There ∷ []) new
@@ -169,12 +119,16 @@ module _ {D : Type 0} (step : D → Event → D → Type 0) (old new : D) (path 
   abbrev pub OpensOrCreates : ℕ → Result State FileError → Type 0
   OpensOrCreates size result =
       IsBehindLook step old path (λ found. found ≡ Absent) (λ looked. MakesSegmentFile step looked new path size result)
-      ⊎ IsBehindLook step old path (λ found. found ≢ Absent) (λ looked. ReadsSegment step looked new path Write result)
+      ⊎ IsBehindLook step old path (λ found. found ≢ Absent) (λ looked. OpensHeld step looked new path result)
 
--- ---- a segment with its path
+-- ---- a segment with its path, and with the right to write its file
+
+-- the segment comes with the right
+abbrev pub ComesHeld : {H : Type 0} → (Result State FileError → Type 0) → Result (State × H) FileError → Type 0
+ComesHeld comes result = MatchResult result (λ held. comes (Ok held.0)) (λ why. comes (Err why))
 
 -- the segment came to be by this, and its path is kept
-pub record IsFileOf (path : List ℕ) (comes : Result State FileError → Type 0) (file : SegmentFile) : Type 0 where
+pub record IsFileOf {H : Type 0} (path : List ℕ) (comes : Result State FileError → Type 0) (file : SegmentFile H) : Type 0 where
   pub path_is : string_bytes file.path ≡ path
   pub segment : comes (Ok file.segment)
 
@@ -183,73 +137,45 @@ pub record IsPathless {D : Type 0} (old new : D) (path : List ℕ) (why : FileEr
   pub asked : new ≡ old
   pub refused : why ≡ bytes_refused (length path)
 
-abbrev pub KeepsFile : {D : Type 0} → D → D → List ℕ → (Result State FileError → Type 0) → Result SegmentFile FileError → Type 0
+abbrev pub KeepsFile : {D H : Type 0} → D → D → List ℕ → (Result State FileError → Type 0) → Result (SegmentFile H) FileError → Type 0
 KeepsFile old new path comes result = MatchResult result (IsFileOf path comes) (λ why. IsPathless old new path why ⊎ comes (Err why))
 
 -- ---- a segment that is written
 
-module _ {D : Type 0} (step : D → Event → D → Type 0) (old new : D) (path : List ℕ) where
-  -- another has the right to write the file, and nothing else was asked
-  pub record IsFileInUse (result : Result (Unit {0}) FileError) : Type 0 where
-    pub asked : After step old (Held path false ∷ []) new
-    pub refused : result ≡ Err InUse
+-- a file takes the image, and nothing else is asked: the right to write it is neither taken nor given back
+pub record Saves {D : Type 0} (step : D → Event → D → Type 0) (old new : D) (path : List ℕ) (s : State) (result : Result (Unit {0}) FileError) (how : Making) : Type 0 where
+  pub writes : WritesImage step old new how path s.cut.bytes result
+  pub refused : IfErr result (λ why. why ≡ WriteFault)
 
-  -- with the right to write it, the file was emptied, or replaced by one that is made beside it, and takes an image
-  pub record IsHeldWriting (how : Making) (image : List ℕ) (result : Result (Unit {0}) FileError) : Type 0 where
-    pub holding : IsHolding step old new path (λ held done. WritesImage step held done how path image result)
-    pub refused : IfErr result (λ why. why ≡ WriteFault)
-
-  abbrev pub WritesHeld : Making → List ℕ → Result (Unit {0}) FileError → Type 0
-  WritesHeld how image result = IsFileInUse result ⊎ IsHeldWriting how image result
-
-  -- the right was taken, this was done, and it was given back
-  abbrev pub HoldsFile : (D → D → Type 0) → Result (Unit {0}) FileError → Type 0
-  HoldsFile does result = IsFileInUse result ⊎ IsHolding step old new path does
-
-module _ {D : Type 0} (step : D → Event → D → Type 0) (old new : D) (path : List ℕ) (s : State) (result : Result (Unit {0}) FileError) where
-  -- the segment is not open for writing, and nothing was asked
-  pub record IsWrongMode : Type 0 where
-    pub mode : s.mode ≢ Write
-    pub asked : new ≡ old
-    pub refused : result ≡ Err WrongMode
-
-  -- the file takes the image
-  pub record IsSaving (how : Making) : Type 0 where
-    pub mode : s.mode ≡ Write
-    pub writes : WritesHeld step old new path how s.cut.bytes result
-
-  -- `save` and `replace`
-  abbrev pub Saves : Making → Type 0
-  Saves how = IsWrongMode ⊎ IsSaving how
-
-  -- a file was made that takes the image
-  pub record IsCopying : Type 0 where
-    pub writes : WritesImage step old new New path s.cut.bytes result
-    pub refused : IfErr result (λ why. why ≡ WriteFault)
-
--- `save_as`: the image in a file that is not there, whatever the mode
+-- `save_as`: the image in a file that is not there
 abbrev pub SavesAs : {D : Type 0} → (D → Event → D → Type 0) → D → D → List ℕ → State → Result (Unit {0}) FileError → Type 0
 SavesAs step old new path s result =
-    IsThere step old new path result ⊎ IsBehindLook step old path (λ found. found ≢ There) (λ looked. IsCopying step looked new path s result)
+    IsThere step old new path result ⊎ IsBehindLook step old path (λ found. found ≢ There) (λ looked. Saves step looked new path s result New)
 
 -- ---- a file that is looked at, or written anew
 
+abbrev pub without_place : Result (Unit {0}) Unfit → Result (Unit {0}) FileError
+without_place (Ok done) = Ok done
+without_place (Err unfit) = Err (unfit_error unfit)
+
 -- `check`: the file has a segment, or this is why it has none; nothing is opened for writing
-abbrev pub ChecksFile : {D : Type 0} → (D → Event → D → Type 0) → D → D → List ℕ → Result (Unit {0}) FileError → Type 0
-ChecksFile step old new path result = MatchResult result (λ u. (s : State) × ReadsSegment step old new path ReadOnly (Ok s)) (λ why. ReadsSegment step old new path ReadOnly (Err why))
+pub record ChecksFile {D : Type 0} (step : D → Event → D → Type 0) (old new : D) (path : List ℕ) (result : Result (Unit {0}) FileError) : Type 0 where
+  pub examined : Result (Unit {0}) Unfit
+  pub examines : ExaminesFile step old new path examined
+  pub answer : result ≡ without_place examined
 
 -- the file was read, and then emptied for the image by the current format
 pub record IsMigrating {D : Type 0} (step : D → Event → D → Type 0) (old new : D) (path : List ℕ) (result : Result (Unit {0}) FileError) : Type 0 where
   pub segment : State
   pub read : D
-  pub reads : ReadsAnySegment step old read path (Ok segment)
+  pub reads : OpensFile step old read path All Write 0 (Ok segment)
   pub writes : WritesImage step read new Emptied path segment.cut.bytes result
   pub refused : IfErr result (λ why. why ≡ WriteFault)
 
 -- the file has no segment of any format, for this reason, and is as it was
 pub record IsUnmigrated {D : Type 0} (step : D → Event → D → Type 0) (old new : D) (path : List ℕ) (result : Result (Unit {0}) FileError) : Type 0 where
   pub why : FileError
-  pub reads : ReadsAnySegment step old new path (Err why)
+  pub reads : OpensFile step old new path All Write 0 (Err why)
   pub refused : result ≡ Err why
 
 -- `migrate`

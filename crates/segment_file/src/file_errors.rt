@@ -2,10 +2,12 @@
 ghost use Rattle.std.specs.Prelude.{◌≡◌};
 ghost use Rattle.image_check.specs.declared.errors.MemoryFault.TheVariants.{Bytes};
 ghost use Rattle.segment_file.specs.declared.file_errors.FileError.TheVariants.{Growth, OutOfMemory as NoMemory};
-ghost use Rattle.segment_file.specs.SegmentFiles.{file_error, growing_error};
+ghost use Rattle.segment_file.specs.Opening.{unfit_error};
+ghost use Rattle.segment_file.specs.SegmentFiles.{growing_error};
 
+use crate::unfit::Unfit;
 use grow_shrink::{GrowError, GrowOrMoveError};
-use image_check::{ImageClass, MemoryFault, OpenError, OpenRefused};
+use image_check::{ImageClass, MemoryFault};
 use raw_region::OutOfMemory;
 use thiserror::Error;
 
@@ -21,10 +23,7 @@ pub enum FileError {
     /// The bytes of the file denote no directory.
     #[error("image refused: {0}")]
     Image(ImageClass),
-    /// The first bytes of the file say a size that is more than the file has, or had a moment before.
-    #[error("the file is shorter than it says")]
-    RegionTooSmall,
-    /// Memory was refused: for the path, for the region of the segment, or for the check of the image.
+    /// Memory was refused: for the path, for the region of the segment, for what was read, or for the check of the image.
     #[error("{0}")]
     OutOfMemory(MemoryFault),
     /// The file can't be opened, or reading it failed.
@@ -36,25 +35,19 @@ pub enum FileError {
     /// Another has the right to write the file.
     #[error("the file is in use")]
     InUse,
-    /// The segment is not open for writing, so that its file stays as it is.
-    #[error("the segment is not open for writing")]
-    WrongMode,
     /// The segment does not become longer or shorter.
     #[error("{0}")]
     Growth(GrowError),
 }
 
-impl From<OpenRefused> for FileError {
-    ghost from_gives = { λ refused error. error ≡ file_error refused.cause };
+impl From<Unfit> for FileError {
+    ghost from_gives = { λ unfit error. error ≡ unfit_error unfit };
 
-    fn from(refused: OpenRefused) -> FileError {
-        match refused.cause {
-            OpenError::Image(class) => FileError::Image(class),
-            OpenError::RegionTooSmall => FileError::RegionTooSmall,
-            OpenError::OutOfMemory(refusal) => FileError::OutOfMemory(MemoryFault::BlockMap(
-                refusal,
-            )),
-            OpenError::ReadFault => FileError::ReadFault,
+    fn from(unfit: Unfit) -> FileError {
+        match unfit {
+            Unfit::Image(verdict) => FileError::Image(verdict.class),
+            Unfit::OutOfMemory(refusal) => FileError::OutOfMemory(refusal),
+            Unfit::ReadFault => FileError::ReadFault,
         }
     }
 }

@@ -1,116 +1,16 @@
-//! What the calls of a `SegmentFile` are made of: a segment that is read from a file, or made in a new one.
-ghost use Rattle.std.specs.Prelude.{◌≡◌, ◌^◌, ◌-◌, ◌<◌, MatchResult};
-ghost use Rattle.raw_region.specs.Device.{given_since};
-ghost use Rattle.segment_file.specs.SegmentFiles.{ChecksFile, IsEmptySegment, IsWhyNoSegment, MakesSegmentFile, Migrates, OpensAnyIn, OpensIn, ReadsAnySegment, ReadsSegment, VerifiesIn, WritesHeld};
+//! What the calls of a `SegmentFile` are made of: a segment that is made in a new file, or read from one that is held.
+ghost use Rattle.std.specs.Prelude.{◌≡◌, MatchResult};
+ghost use Rattle.segment_file.specs.SegmentFiles.{ComesHeld, IsEmptySegment, IsWhyNoSegment, MakesSegmentFile, Migrates, OpensHeld, Saves};
 
 use crate::file_errors::FileError;
-use crate::regions::room_needed;
+use crate::opening::open_file;
 use crate::writing::write_image;
 use block_tags::is_legal_size;
 use grow_shrink::region_for;
-use image_check::{open, open_any, verify};
-use raw_region::{Source, Steps};
-use segment_disk::{Disk, Making, Opened};
+use image_check::Versions;
+use segment_disk::{Disk, Making};
 use segment_manager::{Mode, Segment};
 use std::alloc::Global;
-
-/// The segment of an image, at the front of a region with room for so many bytes.
-fn open_in<S: Source>(
-    alloc: Global,
-    mode: Mode,
-    reader: &mut S,
-    bytes: u64,
-) -> Result<Segment, FileError>
-    requires { (S.history reader.old).failures < 2 ^ 64 - 1 }
-    ensures { OpensIn bytes mode (given_since (S.history reader.old) (S.history reader.new)) result }
-{
-    let region = match region_for(alloc, bytes) {
-        Ok(region) => region,
-        Err(refusal) => return Err(FileError::from(refusal)),
-    };
-    match open(alloc, reader, region, 0, mode, &mut Steps::new()) {
-        Ok(segment) => Ok(segment),
-        Err(refused) => Err(FileError::from(refused)),
-    }
-}
-
-/// The same of an image of any of the three formats, for writing.
-fn open_any_in<S: Source>(alloc: Global, reader: &mut S, bytes: u64) -> Result<Segment, FileError>
-    requires { (S.history reader.old).failures < 2 ^ 64 - 1 }
-    ensures { OpensAnyIn bytes (given_since (S.history reader.old) (S.history reader.new)) result }
-{
-    let region = match region_for(alloc, bytes) {
-        Ok(region) => region,
-        Err(refusal) => return Err(FileError::from(refusal)),
-    };
-    match open_any(alloc, reader, region, 0, Mode::Write, &mut Steps::new()) {
-        Ok(segment) => Ok(segment),
-        Err(refused) => Err(FileError::from(refused)),
-    }
-}
-
-/// Whether there is a segment of an image, which is read to the front of a region with room for so many bytes.
-fn verify_in<S: Source>(alloc: Global, reader: &mut S, bytes: u64) -> Result<(), FileError>
-    requires { (S.history reader.old).failures < 2 ^ 64 - 1 }
-    ensures { VerifiesIn bytes (given_since (S.history reader.old) (S.history reader.new)) result }
-{
-    let region = match region_for(alloc, bytes) {
-        Ok(region) => region,
-        Err(refusal) => return Err(FileError::from(refusal)),
-    };
-    match verify(alloc, reader, region, 0, &mut Steps::new()) {
-        Ok(_) => Ok(()),
-        Err(refused) => Err(FileError::from(refused)),
-    }
-}
-
-/// The segment in a file, which is closed again.
-pub(crate) fn read_segment<D: Disk>(
-    alloc: Global,
-    disk: &mut D,
-    path: &str,
-    mode: Mode,
-) -> Result<Segment, FileError>
-    ensures { ReadsSegment D.step disk.old disk.new path.now mode result }
-{
-    let Ok(opened) = disk.open(path) else {
-        return Err(FileError::ReadFault);
-    };
-    let Opened { mut reader, len } = opened;
-    let read = open_in(alloc, mode, &mut reader, room_needed(len, 0));
-    disk.close(reader);
-    read
-}
-
-/// The same of a file of any of the three formats, for writing.
-pub(crate) fn read_any_segment<D: Disk>(
-    alloc: Global,
-    disk: &mut D,
-    path: &str,
-) -> Result<Segment, FileError>
-    ensures { ReadsAnySegment D.step disk.old disk.new path.now result }
-{
-    let Ok(opened) = disk.open(path) else {
-        return Err(FileError::ReadFault);
-    };
-    let Opened { mut reader, len } = opened;
-    let read = open_any_in(alloc, &mut reader, room_needed(len, 0));
-    disk.close(reader);
-    read
-}
-
-/// Whether there is a segment in a file, which is closed again. None is made.
-pub(crate) fn verify_file<D: Disk>(alloc: Global, disk: &mut D, path: &str) -> Result<(), FileError>
-    ensures { ChecksFile D.step disk.old disk.new path.now result }
-{
-    let Ok(opened) = disk.open(path) else {
-        return Err(FileError::ReadFault);
-    };
-    let Opened { mut reader, len } = opened;
-    let verified = verify_in(alloc, &mut reader, room_needed(len, 0));
-    disk.close(reader);
-    verified
-}
 
 /// An empty segment of a size. One that no segment has is refused before memory is asked for.
 fn empty_segment(alloc: Global, size: u64) -> Result<Segment, FileError>
@@ -129,52 +29,70 @@ fn empty_segment(alloc: Global, size: u64) -> Result<Segment, FileError>
     }
 }
 
-/// An empty segment of a size, whose image is written to a new file.
-pub(crate) fn make_segment_file<D: Disk>(
-    alloc: Global,
-    disk: &mut D,
-    path: &str,
-    size: u64,
-) -> Result<Segment, FileError>
-    ensures { MakesSegmentFile D.step disk.old disk.new path.now size result }
-{
-    let segment = empty_segment(alloc, size)?;
-    match write_image(disk, path, Making::New, &segment) {
-        Ok(()) => Ok(segment),
-        Err(_) => Err(FileError::WriteFault),
-    }
-}
-
-/// Writes the image of a segment to a file that is emptied or replaced for it, with the right to write it.
-pub(crate) fn write_held<D: Disk>(
+/// Writes the image of a segment to a file that is made, emptied or replaced for it.
+pub(crate) fn save_image<D: Disk>(
     disk: &mut D,
     path: &str,
     how: Making,
+    hold: &mut D::Hold,
     segment: &Segment,
 ) -> Result<(), FileError>
-    ensures { WritesHeld D.step disk.old disk.new path.now how segment.now.cut.bytes result }
+    ensures { Saves D.step disk.old disk.new path.now segment.now result how }
 {
-    let Ok(hold) = disk.hold(path) else {
-        return Err(FileError::InUse);
-    };
-    let written = write_image(disk, path, how, segment);
-    disk.release(hold);
-    match written {
+    match write_image(disk, path, how, hold, segment) {
         Ok(()) => Ok(()),
         Err(_) => Err(FileError::WriteFault),
     }
 }
 
-/// Writes the segment in a file of any of the three formats by the current one.
-pub(crate) fn migrate_segment<D: Disk>(
+/// An empty segment of a size, whose image is written to a new file, and the right to write it.
+pub(crate) fn make_segment_file<D: Disk>(
     alloc: Global,
     disk: &mut D,
     path: &str,
+    size: u64,
+) -> Result<(Segment, D::Hold), FileError>
+    ensures { ComesHeld (MakesSegmentFile D.step disk.old disk.new path.now size) result }
+{
+    let segment = empty_segment(alloc, size)?;
+    let mut hold = D::hold_none();
+    match write_image(disk, path, Making::New, &mut hold, &segment) {
+        Ok(()) => Ok((segment, hold)),
+        Err(_) => Err(FileError::WriteFault),
+    }
+}
+
+/// The segment in a file, open for writing, and the right to write it, which was taken before the file was read.
+pub(crate) fn open_held<D: Disk>(
+    alloc: Global,
+    disk: &mut D,
+    path: &str,
+) -> Result<(Segment, D::Hold), FileError>
+    ensures { ComesHeld (OpensHeld D.step disk.old disk.new path.now) result }
+{
+    let Ok(hold) = disk.hold(path) else {
+        return Err(FileError::InUse);
+    };
+    match open_file(alloc, disk, path, Versions::Current, Mode::Write, 0) {
+        Ok(segment) => Ok((segment, hold)),
+        Err(error) => {
+            disk.release(hold);
+            Err(error)
+        }
+    }
+}
+
+/// Writes the segment in a file of any of the three formats by the current one.
+pub(crate) fn migrate_held<D: Disk>(
+    alloc: Global,
+    disk: &mut D,
+    path: &str,
+    hold: &mut D::Hold,
 ) -> Result<(), FileError>
     ensures { Migrates D.step disk.old disk.new path.now result }
 {
-    let segment = read_any_segment(alloc, disk, path)?;
-    match write_image(disk, path, Making::Emptied, &segment) {
+    let segment = open_file(alloc, disk, path, Versions::All, Mode::Write, 0)?;
+    match write_image(disk, path, Making::Emptied, hold, &segment) {
         Ok(()) => Ok(()),
         Err(_) => Err(FileError::WriteFault),
     }

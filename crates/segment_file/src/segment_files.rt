@@ -1,30 +1,29 @@
-//! A segment with the path of its file.
-ghost use Rattle.std.specs.Prelude.{◌≡◌, IfOk, string_bytes};
+//! A segment with its file, which no other may write meanwhile.
+ghost use Rattle.std.specs.Prelude.{◌≡◌, string_bytes};
 ghost use Rattle.segment_disk.specs.declared.presence.Making.TheVariants.{Beside, Emptied};
-ghost use Rattle.segment_file.specs.SegmentFiles.{ChecksFile, CreatesSegment, Grows, HoldsFile, KeepsFile, Migrates, OpensOrCreates, ReadsSegment, Saves, SavesAs, Shrinks};
+ghost use Rattle.segment_disk.specs.Events.{Released};
+ghost use Rattle.segment_file.specs.SegmentFiles.{CreatesSegment, Grows, KeepsFile, OpensHeld, OpensOrCreates, Saves, SavesAs, Shrinks};
 
 use crate::file_errors::FileError;
-use crate::file_steps::{
-    make_segment_file, migrate_segment, read_segment, verify_file, write_held,
-};
-use crate::writing::write_image;
+use crate::file_steps::{make_segment_file, open_held, save_image};
 use grow_shrink::{grow_or_move, shrink_to_fit};
 use raw_region::copy_text;
 use segment_disk::{Disk, Making, Presence};
-use segment_manager::{Mode, Segment};
+use segment_manager::Segment;
 use std::alloc::Global;
 
-/// A segment in memory, and the path of the file that it was read from or made in. The file changes by `save` and
-/// `replace` alone.
+/// A segment in memory, the path of the file that it was read from or made in, and the right to write that file, which
+/// no other has until this one is closed or dropped. The file changes by `save` and `replace` alone.
 #[derive(Drop)]
-pub struct SegmentFile {
+pub struct SegmentFile<H> {
     /// The segment.
     pub segment: Segment,
     /// The path of its file.
     pub path: String,
+    hold: H,
 }
 
-impl SegmentFile {
+impl<H: Drop> SegmentFile<H> {
     /// An empty segment of `size` bytes, open for writing, in a file that is made for it and takes its image.
     ///
     /// `crates/examples/src/texts.rt` has an example.
@@ -34,47 +33,46 @@ impl SegmentFile {
     /// `Exists` where something is there under the path, whatever the size. `BadSize` where no segment has it;
     /// `OutOfMemory`; no file is made then. `WriteFault` where the file can't be made, takes not the whole image, or
     /// need not last.
-    pub fn create<D: Disk>(
+    pub fn create<D: Disk<Hold = H>>(
         alloc: Global,
         disk: &mut D,
         path: &str,
         size: u64,
-    ) -> Result<SegmentFile, FileError>
+    ) -> Result<SegmentFile<H>, FileError>
         ensures { KeepsFile disk.old disk.new path.now (CreatesSegment D.step disk.old disk.new path.now size) result }
     {
         let kept = copy_text(alloc, path)?;
         if disk.look(path) == Presence::There {
             return Err(FileError::Exists);
         }
-        let segment = make_segment_file(alloc, disk, path, size)?;
+        let (segment, hold) = make_segment_file(alloc, disk, path, size)?;
         Ok(SegmentFile {
             segment,
             path: kept,
+            hold,
         })
     }
 
-    /// The segment in a file, open in a mode. The file is read and closed, and only `save` and `replace` ask for it
-    /// again.
+    /// The segment in a file, open for writing. The right to write the file is taken before it is read, and kept.
     ///
-    /// `crates/examples/src/prices.rt` has an example.
+    /// `crates/examples/src/handles.rt` has an example.
     ///
     /// # Errors
     ///
-    /// `Image` with the class where the bytes of the file denote no directory. `ReadFault` where the file can't be
-    /// opened or read, `OutOfMemory`, and `RegionTooSmall` where it has fewer bytes than it says.
-    pub fn open<D: Disk>(
+    /// `InUse` where another has the right to write the file. Those of [`read`](crate::read); the right is given back.
+    pub fn open<D: Disk<Hold = H>>(
         alloc: Global,
         disk: &mut D,
         path: &str,
-        mode: Mode,
-    ) -> Result<SegmentFile, FileError>
-        ensures { KeepsFile disk.old disk.new path.now (ReadsSegment D.step disk.old disk.new path.now mode) result }
+    ) -> Result<SegmentFile<H>, FileError>
+        ensures { KeepsFile disk.old disk.new path.now (OpensHeld D.step disk.old disk.new path.now) result }
     {
         let kept = copy_text(alloc, path)?;
-        let segment = read_segment(alloc, disk, path, mode)?;
+        let (segment, hold) = open_held(alloc, disk, path)?;
         Ok(SegmentFile {
             segment,
             path: kept,
+            hold,
         })
     }
 
@@ -87,23 +85,24 @@ impl SegmentFile {
     ///
     /// Those of [`open`](SegmentFile::open) where something is there, and else those of
     /// [`create`](SegmentFile::create).
-    pub fn open_or_create<D: Disk>(
+    pub fn open_or_create<D: Disk<Hold = H>>(
         alloc: Global,
         disk: &mut D,
         path: &str,
         size: u64,
-    ) -> Result<SegmentFile, FileError>
+    ) -> Result<SegmentFile<H>, FileError>
         ensures { KeepsFile disk.old disk.new path.now (OpensOrCreates D.step disk.old disk.new path.now size) result }
     {
         let kept = copy_text(alloc, path)?;
-        let segment = if disk.look(path) == Presence::Absent {
+        let (segment, hold) = if disk.look(path) == Presence::Absent {
             make_segment_file(alloc, disk, path, size)?
         } else {
-            read_segment(alloc, disk, path, Mode::Write)?
+            open_held(alloc, disk, path)?
         };
         Ok(SegmentFile {
             segment,
             path: kept,
+            hold,
         })
     }
 
@@ -114,13 +113,15 @@ impl SegmentFile {
     ///
     /// # Errors
     ///
-    /// `WrongMode` where the segment is not open for writing: the disk is not asked for anything. `InUse` where another
-    /// has the right to write the file. `WriteFault` where it can't be emptied, takes not the whole image, or need not
-    /// last.
-    pub fn save<D: Disk>(&self, disk: &mut D) -> Result<(), FileError>
-        ensures { Saves D.step disk.old disk.new (string_bytes self.now.path) self.now.segment result Emptied }
+    /// `WriteFault` where the file can't be emptied, takes not the whole image, or need not last, and where another file
+    /// has taken its name, which is left alone.
+    pub fn save<D: Disk<Hold = H>>(&mut self, disk: &mut D) -> Result<(), FileError>
+        ensures saves { Saves D.step disk.old disk.new (string_bytes self.old.path) self.old.segment result Emptied }
+        ensures segment { self.new.segment ≡ self.old.segment }
+        ensures path { self.new.path ≡ self.old.path }
     {
-        self.save_by(disk, Making::Emptied)
+        let path = self.path.as_str();
+        save_image(disk, path, Making::Emptied, &mut self.hold, &self.segment)
     }
 
     /// The same to a new file beside its file, which takes the place of the old one when it has the whole image: at
@@ -132,24 +133,16 @@ impl SegmentFile {
     ///
     /// As of [`save`](SegmentFile::save). The old file is as it was then, but where it is not known whether the new one
     /// has its place for good.
-    pub fn replace<D: Disk>(&self, disk: &mut D) -> Result<(), FileError>
-        ensures { Saves D.step disk.old disk.new (string_bytes self.now.path) self.now.segment result Beside }
+    pub fn replace<D: Disk<Hold = H>>(&mut self, disk: &mut D) -> Result<(), FileError>
+        ensures saves { Saves D.step disk.old disk.new (string_bytes self.old.path) self.old.segment result Beside }
+        ensures segment { self.new.segment ≡ self.old.segment }
+        ensures path { self.new.path ≡ self.old.path }
     {
-        self.save_by(disk, Making::Beside)
+        let path = self.path.as_str();
+        save_image(disk, path, Making::Beside, &mut self.hold, &self.segment)
     }
 
-    /// Either of the two.
-    fn save_by<D: Disk>(&self, disk: &mut D, how: Making) -> Result<(), FileError>
-        ensures { Saves D.step disk.old disk.new (string_bytes self.now.path) self.now.segment result how }
-    {
-        if self.segment.mode() != Mode::Write {
-            return Err(FileError::WrongMode);
-        }
-        write_held(disk, self.path.as_str(), how, &self.segment)
-    }
-
-    /// Writes the image of the segment to another file, which is made for it, whatever the mode. The segment keeps its
-    /// path.
+    /// Writes the image of the segment to another file, which is made for it. The segment keeps its path.
     ///
     /// `crates/examples/src/growing.rt` has an example.
     ///
@@ -157,16 +150,20 @@ impl SegmentFile {
     ///
     /// `Exists` where something is there under the path. `WriteFault` where the file can't be made, takes not the whole
     /// image, or need not last.
-    pub fn save_as<D: Disk>(&self, disk: &mut D, path: &str) -> Result<(), FileError>
+    pub fn save_as<D: Disk<Hold = H>>(&self, disk: &mut D, path: &str) -> Result<(), FileError>
         ensures { SavesAs D.step disk.old disk.new path.now self.now.segment result }
     {
         if disk.look(path) == Presence::There {
             return Err(FileError::Exists);
         }
-        match write_image(disk, path, Making::New, &self.segment) {
-            Ok(()) => Ok(()),
-            Err(_) => Err(FileError::WriteFault),
-        }
+        save_image(disk, path, Making::New, &mut D::hold_none(), &self.segment)
+    }
+
+    /// Gives the right to write the file back. The segment is gone, and what was not saved of it is not in the file.
+    pub fn close<D: Disk<Hold = H>>(self, disk: &mut D)
+        ensures { D.step disk.old Released disk.new }
+    {
+        disk.release(self.hold);
     }
 
     /// Makes the segment longer by `extra` bytes, which are free: a multiple of 16, at least 32. Where its region has
@@ -206,37 +203,5 @@ impl SegmentFile {
             Ok(()) => Ok(()),
             Err(why) => Err(FileError::Growth(why)),
         }
-    }
-
-    /// Tells whether a file holds a segment. Nothing is opened for writing, and no segment is made.
-    ///
-    /// `crates/examples/src/migrating.rt` has an example.
-    ///
-    /// # Errors
-    ///
-    /// Those of [`open`](SegmentFile::open).
-    pub fn check<D: Disk>(alloc: Global, disk: &mut D, path: &str) -> Result<(), FileError>
-        ensures { ChecksFile D.step disk.old disk.new path.now result }
-    {
-        verify_file(alloc, disk, path)
-    }
-
-    /// Writes the segment in a file by the current format, whichever of the three it has.
-    ///
-    /// `crates/examples/src/migrating.rt` has an example.
-    ///
-    /// # Errors
-    ///
-    /// Those of [`open`](SegmentFile::open), and `InUse` where another has the right to write the file: it is as it
-    /// was. `WriteFault` where it can't be emptied, takes not the whole image, or need not last.
-    pub fn migrate<D: Disk>(alloc: Global, disk: &mut D, path: &str) -> Result<(), FileError>
-        ensures { HoldsFile D.step disk.old disk.new path.now (λ held done. Migrates D.step held done path.now result) result }
-    {
-        let Ok(hold) = disk.hold(path) else {
-            return Err(FileError::InUse);
-        };
-        let answer = migrate_segment(alloc, disk, path);
-        disk.release(hold);
-        answer
     }
 }

@@ -27,25 +27,26 @@ fn write_here<D: Disk>(
     disk: &mut D,
     path: &str,
     how: Making,
+    hold: &mut D::Hold,
     segment: &Segment,
 ) -> Result<(), DeviceFault>
     requires { how ≢ Beside }
     ensures { MakesImage D.step disk.old disk.new how path.now segment.now.cut.bytes result }
 {
-    match disk.make(path, how) {
+    match disk.make(path, how, hold) {
         Ok(writer) => fill(disk, writer, segment),
         Err(fault) => Err(fault),
     }
 }
 
 /// Puts the file that was made beside another in its place, or removes it.
-fn put_in_place<D: Disk>(disk: &mut D, path: &str) -> Result<(), DeviceFault>
+fn put_in_place<D: Disk>(disk: &mut D, path: &str, hold: &mut D::Hold) -> Result<(), DeviceFault>
     ensures { After D.step disk.old (placing path.now (is_ok result)) disk.new }
 {
-    match disk.place(path) {
+    match disk.place(path, hold) {
         Ok(()) => Ok(()),
         Err(fault) => {
-            disk.discard(path);
+            disk.discard(path, hold);
             Err(fault)
         }
     }
@@ -53,16 +54,21 @@ fn put_in_place<D: Disk>(disk: &mut D, path: &str) -> Result<(), DeviceFault>
 
 /// Writes the image of a segment to a file that is made beside the old one, closes it, and puts it in the place of the
 /// old one. Where that fails, the new file is removed, if it can be.
-fn replace_image<D: Disk>(disk: &mut D, path: &str, segment: &Segment) -> Result<(), DeviceFault>
+fn replace_image<D: Disk>(
+    disk: &mut D,
+    path: &str,
+    hold: &mut D::Hold,
+    segment: &Segment,
+) -> Result<(), DeviceFault>
     ensures { MakesImage D.step disk.old disk.new Beside path.now segment.now.cut.bytes result }
 {
-    let Ok(writer) = disk.make(path, Making::Beside) else {
+    let Ok(writer) = disk.make(path, Making::Beside, hold) else {
         return Err(DeviceFault);
     };
     match fill(disk, writer, segment) {
-        Ok(()) => put_in_place(disk, path),
+        Ok(()) => put_in_place(disk, path, hold),
         Err(fault) => {
-            disk.discard(path);
+            disk.discard(path, hold);
             Err(fault)
         }
     }
@@ -74,22 +80,28 @@ fn make_image<D: Disk>(
     disk: &mut D,
     path: &str,
     how: Making,
+    hold: &mut D::Hold,
     segment: &Segment,
 ) -> Result<(), DeviceFault>
     ensures { MakesImage D.step disk.old disk.new how path.now segment.now.cut.bytes result }
 {
     if how == Making::Beside {
-        replace_image(disk, path, segment)
+        replace_image(disk, path, hold, segment)
     } else {
-        write_here(disk, path, how, segment)
+        write_here(disk, path, how, hold, segment)
     }
 }
 
 /// The same of a new file, which is compared with none.
-fn write_new<D: Disk>(disk: &mut D, path: &str, segment: &Segment) -> Result<(), DeviceFault>
+fn write_new<D: Disk>(
+    disk: &mut D,
+    path: &str,
+    hold: &mut D::Hold,
+    segment: &Segment,
+) -> Result<(), DeviceFault>
     ensures { WritesImage D.step disk.old disk.new New path.now segment.now.cut.bytes result }
 {
-    make_image(disk, path, Making::New, segment)
+    make_image(disk, path, Making::New, hold, segment)
 }
 
 /// The same of a file that is emptied or replaced. It is left alone where another has taken its name.
@@ -97,29 +109,32 @@ fn overwrite_image<D: Disk>(
     disk: &mut D,
     path: &str,
     how: Making,
+    hold: &mut D::Hold,
     segment: &Segment,
 ) -> Result<(), DeviceFault>
     requires { how ≢ New }
     ensures { WritesImage D.step disk.old disk.new how path.now segment.now.cut.bytes result }
 {
-    match disk.compare(path) {
-        Ok(()) => make_image(disk, path, how, segment),
+    match disk.compare(path, hold) {
+        Ok(()) => make_image(disk, path, how, hold, segment),
         Err(fault) => Err(fault),
     }
 }
 
-/// Writes the image of a segment to a file that is made, emptied or replaced for it. A check of the image accepts it.
+/// Writes the image of a segment to a file that is made, emptied or replaced for it, with the right to write it. A check
+/// of the image accepts it.
 pub fn write_image<D: Disk>(
     disk: &mut D,
     path: &str,
     how: Making,
+    hold: &mut D::Hold,
     segment: &Segment,
 ) -> Result<(), DeviceFault>
     ensures { WritesImage D.step disk.old disk.new how path.now segment.now.cut.bytes result }
 {
     if how == Making::New {
-        write_new(disk, path, segment)
+        write_new(disk, path, hold, segment)
     } else {
-        overwrite_image(disk, path, how, segment)
+        overwrite_image(disk, path, how, hold, segment)
     }
 }

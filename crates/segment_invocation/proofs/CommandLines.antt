@@ -1,25 +1,29 @@
 -- The command lines that are always understood.
-use Rattle.std.proofs.Common.{◌≡◌, refl, sym, subst, ap, ap₂, ◌∙◌, ℕ, ◌==◌, ◌&&◌, Bool, true, false, not, List, [], ◌∷◌, ◌++◌, Option, Some, None, codes, arith, inl, inr, drop}
+use Rattle.std.proofs.Common.{◌≡◌, refl, sym, subst, ap, ap₂, ◌∙◌, ℕ, ◌==◌, ◌&&◌, Bool, true, false, not, List, [], ◌∷◌, ◌++◌, Option, Some, None, codes, arith, inl, inr, drop, fold}
 use Rattle.std.specs.List.{list_all}
-use Rattle.std.specs.Prelude.{◌⊎◌, is_some, if◌then◌else◌, IsTrue, nat_le, option_map, option_and_then}
+use Rattle.std.specs.Prelude.{◌⊎◌, is_some, if◌then◌else◌, IsTrue, nat_le, option_map, option_and_then, unwrap_or}
 use Rattle.std.proofs.lemmas.Bool.{and_parts}
 use Rattle.std.proofs.lemmas.Bool.Decides.{nat_tests}
 use Rattle.clap.proofs.OnLiterals.{clap_on_literals}
-use Rattle.clap.specs.Walk.{Names, Text, Walk, finished, nothing_held, stop_after, walk, walk_from, walked}
+use Rattle.clap.specs.Walk.{Names, Row, Text, Walk, finished, nothing_held, rows_after, stop_after, walk, walk_from, walked}
 use Rattle.clap.proofs.WalkLemmas.{walk_stopped}
 use Rattle.clap.specs.Simple.{App, Shape, built, entered, is_simple, names_of, subcommand_of}
-use Rattle.clap.specs.Takes.{built_takes, default_passes, entered_passes, is_valid, settle_passes, takes, walk_passes}
+use Rattle.clap.specs.Takes.{built_takes, default_passes, entered_passes, is_valid, level_passes, settle_passes, takes, turn_passes, walk_passes}
 use Rattle.clap.specs.Faults.{built_fault, fault_of, is_simple_and_free}
 use Rattle.clap.specs.declared.error.kind.ErrorKind.TheVariants.{DisplayVersion}
 use Rattle.segment_lang.specs.Words.{between, is_digit, is_numeral, number_after, number_of}
-use Rattle.segment_invocation.specs.Invocations.{Asked, Origin, create, run, run_with, ran, is_plain_run, check, check_all, explain, grow, grow_with, shrink, shrink_with, migrate, migrate_with, stat, draw, draw_page, dump, dump_capacities, dump_json, names, load, lint, language, version, input, from_file, from_lines, IsModePart, IsMostPart, IsOriginPart, IsPart, IsRunWritten, IsSizePart, IsWritten, RunWords, asked_of, asked_of_run, command_line, flag_words, is_path, is_set, lacks_size, mode_called, mode_of, mode_word, saving_of, saving_part, size_of, wants_size}
+use Rattle.segment_invocation.specs.Invocations.{Asked, Origin, change_with, create, run, run_with, ran, is_plain, is_plain_run, check, check_all, explain, grow, shrink, migrate, tell, names, load, lint, language, version, input, from_file, from_lines, IsChangePart, IsChangeWritten, IsModePart, IsNumberPart, IsOriginPart, IsPart, IsRunWritten, IsSizePart, IsWaitPart, IsWritten, RunWords, asked_change, asked_in, asked_of, asked_of_run, command_line, flag_words, is_path, is_set, lacks_size, mode_called, mode_of, mode_word, plain_change, run_words, saving_of, saving_part, seconds_of, size_of}
+use Rattle.segment_invocation.specs.declared.invocations.Change.{Change}
+use Rattle.segment_invocation.specs.declared.invocations.Change.TheVariants as change
+use Rattle.segment_invocation.specs.declared.invocations.Report.TheVariants.{Figures, Picture, Page, Dump, Capacities, Json}
 use Rattle.segment_invocation.specs.declared.invocations.ModeName.{ModeName}
 use Rattle.segment_invocation.specs.declared.invocations.ModeName.TheVariants.{CreateOnly, OpenOnly, OpenOrCreate, OpenReadOnly, OpenCopyOnWrite}
 use Rattle.segment_invocation.specs.declared.invocations.Saving.{Saving}
 use Rattle.segment_invocation.specs.declared.invocations.Saving.TheVariants.{InPlace, Replacing}
 use Rattle.segment_invocation.proofs.PlainWords.{IsPlain}
-use Rattle.segment_invocation.proofs.Leaves.{ArePlain, IsAsk, run_leaf, said, saving_word, truth_word, capacities-asks, check-asks, create-asks, draw-asks, dump-asks, explain-asks, grow-asks, html-asks, json-asks, lines-ask, load-asks, migrate-asks, most-asks, names-asks, prefix-asks, prefix-most-asks, quiet-asks, run-both, run-file, run-mode, run-size, script-asks, shrink-asks, sized-asks, stat-asks}
-use Rattle.segment_invocation.specs.Invocations.{run_words}
+use Rattle.segment_invocation.proofs.Leaves.{ArePlain, IsAsk, IsPlainIn, listed, loaded, option_words, said, saving_word, truth_word}
+use Rattle.segment_invocation.proofs.Leaves.{grow_leaf, load_leaf, migrate_leaf, names_leaf, run_leaf, shrink_leaf}
+use Rattle.segment_invocation.proofs.Leaves.{capacities-asks, check-asks, create-asks, draw-asks, dump-asks, explain-asks, grow-asks, html-asks, json-asks, lines-ask, load-asks, migrate-asks, names-asks, quiet-asks, run-asks, script-asks, shrink-asks, stat-asks}
 
 -- ---- words that are no options
 
@@ -67,6 +71,32 @@ called OpenOrCreate = refl
 called OpenReadOnly = refl
 called OpenCopyOnWrite = refl
 
+-- ---- options that may be left out
+
+-- words are an option or nothing, whose value is no option and is read as this
+record IsOption {A : Type 0} (name : Text) (reading : Option Text → Option A) (words : List Text) (a : A) : Type 0 where
+  word : Option Text
+  spelled : words ≡ option_words name word
+  value : reading word ≡ Some a
+  plain : IsPlainIn word
+
+number-option : (name : Text) (words : List Text) (n : Option ℕ) → IsNumberPart name words n → IsOption name size_of words n
+number-option name words None h = record { word = None; spelled = h; value = refl; plain = tt }
+number-option name words (Some n) (d, h, e) = record { word = Some d; spelled = e; value = ap (option_map Some) h; plain = number-plain d n h }
+
+wait-option : (words : List Text) (wait : ℕ) → IsWaitPart words wait → IsOption (codes "--wait") seconds_of words wait
+wait-option words wait (n, h, e) =
+    let o = number-option (codes "--wait") words n h in
+    record { word = o.word; spelled = o.spelled; value = ap (option_map (λ (n : Option ℕ). unwrap_or n 0)) o.value ∙ ap Some (sym e); plain = o.plain }
+
+mode-option : (words : List Text) (mode : ModeName) → IsModePart words mode → IsOption (codes "--mode") mode_of words mode
+mode-option words mode (inl e) = record { word = Some (mode_word mode); spelled = e; value = called mode; plain = mode-plain mode }
+mode-option words mode (inr (e, o)) = record { word = None; spelled = e; value = ap Some (sym o); plain = tt }
+
+prefix-option : (words : List Text) (prefix : Text) → IsPart (codes "--prefix") words prefix → IsOption (codes "--prefix") (λ word. Some (unwrap_or word [])) words prefix
+prefix-option words [] e = record { word = None; spelled = e; value = refl; plain = tt }
+prefix-option words (c ∷ cs) (t, e) = record { word = Some (c ∷ cs); spelled = e; value = refl; plain = path-plain (c ∷ cs) t }
+
 -- ---- the words behind the program's name
 
 -- they are taken, and say what is asked for
@@ -81,20 +111,6 @@ behind-create f d n p h = record {
   asks = (create-asks f d p (number-plain d n h)).found ∙ ap (option_and_then (λ n. Some (create f n))) h;
 }
 
-behind-grow : (f d : Text) (n : ℕ) → IsPlain f → number_of d ≡ Some n → Behind (codes "grow" ∷ f ∷ d ∷ []) (grow f n)
-unfolding clap_on_literals
-behind-grow f d n p h = record {
-  takes = ap (λ b. b && true) (grow-asks f d InPlace p (number-plain d n h)).passes;
-  asks = (grow-asks f d InPlace p (number-plain d n h)).found ∙ ap (option_and_then (λ n. Some (grow f n))) h;
-}
-
-behind-grow-replaced : (f d : Text) (n : ℕ) → IsPlain f → number_of d ≡ Some n → Behind (codes "grow" ∷ f ∷ d ∷ codes "--replace" ∷ []) (grow_with f n Replacing 0)
-unfolding clap_on_literals
-behind-grow-replaced f d n p h = record {
-  takes = ap (λ b. b && true) (grow-asks f d Replacing p (number-plain d n h)).passes;
-  asks = (grow-asks f d Replacing p (number-plain d n h)).found ∙ ap (option_and_then (λ n. Some (grow_with f n Replacing 0))) h;
-}
-
 behind-check : (f : Text) → IsPlain f → Behind (codes "check" ∷ f ∷ []) (check f)
 unfolding clap_on_literals
 behind-check f p = record { takes = ap (λ b. b && true) (check-asks f p).passes; asks = (check-asks f p).found }
@@ -107,92 +123,29 @@ behind-explain : (f : Text) → IsPlain f → Behind (codes "check" ∷ f ∷ co
 unfolding clap_on_literals
 behind-explain f p = record { takes = ap (λ b. b && true) (explain-asks f p).passes; asks = (explain-asks f p).found }
 
-behind-shrink : (f : Text) → IsPlain f → Behind (codes "shrink" ∷ f ∷ []) (shrink f)
-unfolding clap_on_literals
-behind-shrink f p = record { takes = ap (λ b. b && true) (shrink-asks f InPlace p).passes; asks = (shrink-asks f InPlace p).found }
-
-behind-shrink-replaced : (f : Text) → IsPlain f → Behind (codes "shrink" ∷ f ∷ codes "--replace" ∷ []) (shrink_with f Replacing 0)
-unfolding clap_on_literals
-behind-shrink-replaced f p = record { takes = ap (λ b. b && true) (shrink-asks f Replacing p).passes; asks = (shrink-asks f Replacing p).found }
-
-behind-migrate : (f : Text) → IsPlain f → Behind (codes "migrate" ∷ f ∷ []) (migrate f)
-unfolding clap_on_literals
-behind-migrate f p = record { takes = ap (λ b. b && true) (migrate-asks f InPlace p).passes; asks = (migrate-asks f InPlace p).found }
-
-behind-migrate-replaced : (f : Text) → IsPlain f → Behind (codes "migrate" ∷ f ∷ codes "--replace" ∷ []) (migrate_with f Replacing 0)
-unfolding clap_on_literals
-behind-migrate-replaced f p = record { takes = ap (λ b. b && true) (migrate-asks f Replacing p).passes; asks = (migrate-asks f Replacing p).found }
-
-behind-stat : (f : Text) → IsPlain f → Behind (codes "stat" ∷ f ∷ []) (stat f)
+behind-stat : (f : Text) → IsPlain f → Behind (codes "stat" ∷ f ∷ []) (tell f Figures)
 unfolding clap_on_literals
 behind-stat f p = record { takes = ap (λ b. b && true) (stat-asks f p).passes; asks = (stat-asks f p).found }
 
-behind-draw : (f : Text) → IsPlain f → Behind (codes "draw" ∷ f ∷ []) (draw f)
+behind-draw : (f : Text) → IsPlain f → Behind (codes "draw" ∷ f ∷ []) (tell f Picture)
 unfolding clap_on_literals
 behind-draw f p = record { takes = ap (λ b. b && true) (draw-asks f p).passes; asks = (draw-asks f p).found }
 
-behind-page : (f : Text) → IsPlain f → Behind (codes "draw" ∷ f ∷ codes "--html" ∷ []) (draw_page f)
+behind-page : (f : Text) → IsPlain f → Behind (codes "draw" ∷ f ∷ codes "--html" ∷ []) (tell f Page)
 unfolding clap_on_literals
 behind-page f p = record { takes = ap (λ b. b && true) (html-asks f p).passes; asks = (html-asks f p).found }
 
-behind-dump : (f : Text) → IsPlain f → Behind (codes "dump" ∷ f ∷ []) (dump f)
+behind-dump : (f : Text) → IsPlain f → Behind (codes "dump" ∷ f ∷ []) (tell f Dump)
 unfolding clap_on_literals
 behind-dump f p = record { takes = ap (λ b. b && true) (dump-asks f p).passes; asks = (dump-asks f p).found }
 
-behind-capacities : (f : Text) → IsPlain f → Behind (codes "dump" ∷ f ∷ codes "--capacities" ∷ []) (dump_capacities f)
+behind-capacities : (f : Text) → IsPlain f → Behind (codes "dump" ∷ f ∷ codes "--capacities" ∷ []) (tell f Capacities)
 unfolding clap_on_literals
 behind-capacities f p = record { takes = ap (λ b. b && true) (capacities-asks f p).passes; asks = (capacities-asks f p).found }
 
-behind-json : (f : Text) → IsPlain f → Behind (codes "dump" ∷ f ∷ codes "--json" ∷ []) (dump_json f)
+behind-json : (f : Text) → IsPlain f → Behind (codes "dump" ∷ f ∷ codes "--json" ∷ []) (tell f Json)
 unfolding clap_on_literals
 behind-json f p = record { takes = ap (λ b. b && true) (json-asks f p).passes; asks = (json-asks f p).found }
-
-behind-names : (f : Text) → IsPlain f → Behind (codes "names" ∷ f ∷ []) (names f [] None)
-unfolding clap_on_literals
-behind-names f p = record { takes = ap (λ b. b && true) (names-asks f p).passes; asks = (names-asks f p).found }
-
-behind-prefix : (f t : Text) → IsPlain f → IsPlain t → Behind (codes "names" ∷ f ∷ codes "--prefix" ∷ t ∷ []) (names f t None)
-unfolding clap_on_literals
-behind-prefix f t p q = record { takes = ap (λ b. b && true) (prefix-asks f t p q).passes; asks = (prefix-asks f t p q).found }
-
-behind-most : (f d : Text) (n : ℕ) → IsPlain f → number_of d ≡ Some n → Behind (codes "names" ∷ f ∷ codes "--most" ∷ d ∷ []) (names f [] (Some n))
-unfolding clap_on_literals
-behind-most f d n p h = record {
-  takes = ap (λ b. b && true) (most-asks f d p (number-plain d n h)).passes;
-  asks = (most-asks f d p (number-plain d n h)).found ∙ ap (λ o. option_map (names f []) (option_map Some o)) h;
-}
-
-behind-prefix-most : (f t d : Text) (n : ℕ) → IsPlain f → IsPlain t → number_of d ≡ Some n
-    → Behind (codes "names" ∷ f ∷ codes "--prefix" ∷ t ∷ codes "--most" ∷ d ∷ []) (names f t (Some n))
-unfolding clap_on_literals
-behind-prefix-most f t d n p q h = record {
-  takes = ap (λ b. b && true) (prefix-most-asks f t d p q (number-plain d n h)).passes;
-  asks = (prefix-most-asks f t d p q (number-plain d n h)).found ∙ ap (λ o. option_map (names f t) (option_map Some o)) h;
-}
-
--- names, with what stands behind the file
-behind-parts : (f : Text) (prefixes mosts : List Text) (prefix : Text) (most : Option ℕ) → IsPlain f → IsPart (codes "--prefix") prefixes prefix → IsMostPart mosts most
-    → Behind (codes "names" ∷ f ∷ prefixes ++ mosts) (names f prefix most)
-behind-parts f prefixes mosts [] None p a m = rw (a, m) (behind-names f p)
-behind-parts f prefixes mosts [] (Some n) p a (d, h, m) = rw (a, m) (behind-most f d n p h)
-behind-parts f prefixes mosts (c ∷ cs) None p (t, a) m = rw (a, m) (behind-prefix f (c ∷ cs) p (path-plain (c ∷ cs) t))
-behind-parts f prefixes mosts (c ∷ cs) (Some n) p (t, a) (d, h, m) = rw (a, m) (behind-prefix-most f (c ∷ cs) d n p (path-plain (c ∷ cs) t) h)
-
-behind-load : (f : Text) (saving : Saving) → IsPlain f → Behind (codes "load" ∷ f ∷ saving_part saving) (load f None saving 0)
-unfolding clap_on_literals
-behind-load f InPlace p = record { takes = ap (λ b. b && true) (load-asks f InPlace p).passes; asks = (load-asks f InPlace p).found }
-behind-load f Replacing p = record { takes = ap (λ b. b && true) (load-asks f Replacing p).passes; asks = (load-asks f Replacing p).found }
-
-behind-sized : (f d : Text) (n : ℕ) (saving : Saving) → IsPlain f → number_of d ≡ Some n → Behind (codes "load" ∷ f ∷ codes "--size" ∷ d ∷ saving_part saving) (load f (Some n) saving 0)
-unfolding clap_on_literals
-behind-sized f d n InPlace p h = record {
-  takes = ap (λ b. b && true) (sized-asks f d InPlace p (number-plain d n h)).passes;
-  asks = (sized-asks f d InPlace p (number-plain d n h)).found ∙ ap (λ o. option_and_then (λ m. Some (load f m InPlace 0)) (option_map Some o)) h;
-}
-behind-sized f d n Replacing p h = record {
-  takes = ap (λ b. b && true) (sized-asks f d Replacing p (number-plain d n h)).passes;
-  asks = (sized-asks f d Replacing p (number-plain d n h)).found ∙ ap (λ o. option_and_then (λ m. Some (load f m Replacing 0)) (option_map Some o)) h;
-}
 
 behind-lint : Behind (codes "lint" ∷ []) lint
 unfolding clap_on_literals
@@ -211,33 +164,27 @@ sets true = refl
 sets false = refl
 
 -- a run of standard input in a mode, with a size where it wants one
-abbrev in_mode : Text → Option ModeName → Option (Option ℕ) → Saving → Bool → Bool → Option Asked
-in_mode f mode size saving strict numbered =
-    option_and_then (λ m. option_and_then (λ n. if lacks_size m n then None else Some (ran f m n input saving 0 strict numbered)) size) mode
+abbrev in_mode : Text → Option ModeName → Option (Option ℕ) → Option ℕ → Saving → Bool → Bool → Option Asked
+in_mode f mode size wait saving strict numbered =
+    option_and_then (λ m. option_and_then (λ n. option_and_then (λ w. if lacks_size m n then None else Some (ran f m n input saving w strict numbered)) wait) size) mode
 
 -- the flags say what is asked for
-flags-ask : (f : Text) (mode : Option Text) (size : Option Text) (saving : Saving) (strict numbered : Bool)
-    → asked_of_run (said f mode size saving strict numbered) ≡ in_mode f (mode_of mode) (size_of size) saving strict numbered
-flags-ask f mode size saving strict numbered =
-    ap (λ v. in_mode f (mode_of mode) (size_of size) v (is_set (Some (truth_word strict))) (is_set (Some (truth_word numbered)))) (saves saving)
-    ∙ ap₂ (in_mode f (mode_of mode) (size_of size) saving) (sets strict) (sets numbered)
+flags-ask : (f : Text) (mode size wait : Option Text) (saving : Saving) (strict numbered : Bool)
+    → asked_of_run (said f mode size wait saving strict numbered) ≡ in_mode f (mode_of mode) (size_of size) (seconds_of wait) saving strict numbered
+flags-ask f mode size wait saving strict numbered =
+    ap (λ v. in_mode f (mode_of mode) (size_of size) (seconds_of wait) v (is_set (Some (truth_word strict))) (is_set (Some (truth_word numbered)))) (saves saving)
+    ∙ ap₂ (in_mode f (mode_of mode) (size_of size) (seconds_of wait) saving) (sets strict) (sets numbered)
 
 -- a mode that has the size that it wants
-sized : (f : Text) (mode : ModeName) (size : Option ℕ) (saving : Saving) (strict numbered : Bool) → lacks_size mode size ≡ false
-    → in_mode f (mode_called (mode_word mode)) (Some size) saving strict numbered ≡ Some (ran f mode size input saving 0 strict numbered)
-sized f mode size saving strict numbered h =
-    ap (λ m. in_mode f m (Some size) saving strict numbered) (called mode)
-    ∙ ap (λ b. if b then None else Some (ran f mode size input saving 0 strict numbered)) h
-
-with-size : (mode : ModeName) (n : ℕ) → lacks_size mode (Some n) ≡ false
-with-size CreateOnly n = refl
-with-size OpenOnly n = refl
-with-size OpenOrCreate n = refl
-with-size OpenReadOnly n = refl
-with-size OpenCopyOnWrite n = refl
-
-without-size : (mode : ModeName) → wants_size mode ≡ false → lacks_size mode None ≡ false
-without-size mode h = ap (λ b. b && true) h
+sized : (f : Text) (mode size wait : Option Text) (m : ModeName) (n : Option ℕ) (w : ℕ) (saving : Saving) (strict numbered : Bool)
+    → mode_of mode ≡ Some m → size_of size ≡ Some n → seconds_of wait ≡ Some w → lacks_size m n ≡ false
+    → asked_of_run (said f mode size wait saving strict numbered) ≡ Some (ran f m n input saving w strict numbered)
+sized f mode size wait m n w saving strict numbered hm hn hw hl =
+    flags-ask f mode size wait saving strict numbered
+    ∙ (ap (λ o. in_mode f o (size_of size) (seconds_of wait) saving strict numbered) hm
+    ∙ (ap (λ o. in_mode f (Some m) o (seconds_of wait) saving strict numbered) hn
+    ∙ (ap (λ o. in_mode f (Some m) (Some n) o saving strict numbered) hw
+    ∙ ap (λ b. if b then None else Some (ran f m n input saving w strict numbered)) hl)))
 
 -- ---- behind the name of a subcommand all words are its own
 
@@ -250,16 +197,8 @@ unfolding walk_passes walked
 stopped-passes s known w name seen [] = refl
 stopped-passes s known w name seen (x ∷ xs) = stopped-passes s known w name (seen ++ x ∷ []) xs
 
-abbrev at_run : List Text → Walk
-at_run words = record (walk_from nothing_held) { stopped = Some (codes "run", words) }
-
-run-walk : (words : List Text) → walk app.top.rules (names_of app) nothing_held (codes "run" ∷ words) ≡ at_run words
-unfolding clap_on_literals
-run-walk words = sym (walk_stopped app.top.rules (names_of app) (walk_from nothing_held) (codes "run") [] words)
-
-run-words : (words : List Text) → walk_passes app.top (names_of app) (walk_from nothing_held) (codes "run" ∷ words) ≡ true
-unfolding clap_on_literals
-run-words words = stopped-passes app.top (names_of app) (walk_from nothing_held) (codes "run") [] words
+abbrev at_name : Text → List Text → Walk
+at_name name words = record (walk_from nothing_held) { stopped = Some (name, words) }
 
 -- the tests of the program's own level, behind those of its words
 abbrev takes_at : Walk → Bool → Bool
@@ -267,61 +206,117 @@ takes_at end words_pass = entered_passes app end.stopped
     && (words_pass && (settle_passes app.top.rules app.top.args_override_self end.held
     && (list_all default_passes app.top.rules && is_valid app.top (finished app.top.rules end.held) (is_some (entered app end.stopped)))))
 
+module _ (name : Text) (s : Shape) (met : walked app.top.rules (names_of app) (walk_from nothing_held) name ≡ at_name name [])
+    (passes : turn_passes app.top (names_of app) (walk_from nothing_held) name ≡ true)
+    (taken : (words : List Text) → takes_at (at_name name words) true ≡ (level_passes s [] nothing_held words false && true))
+    (asked : (words : List Text) → asked_of (entered app (Some (name, words))) ≡ asked_in name (rows_after s.rules [] words)) where
+  name-walk : (words : List Text) → walk app.top.rules (names_of app) nothing_held (name ∷ words) ≡ at_name name words
+  name-walk words = ap (λ (w : Walk). fold (walked app.top.rules (names_of app)) w words) met ∙ sym (walk_stopped app.top.rules (names_of app) (walk_from nothing_held) name [] words)
+
+  name-words : (words : List Text) → walk_passes app.top (names_of app) (walk_from nothing_held) (name ∷ words) ≡ true
+  unfolding walk_passes
+  name-words words = ap₂ ◌&&◌ passes (ap (λ (w : Walk). walk_passes app.top (names_of app) w words) met ∙ stopped-passes app.top (names_of app) (walk_from nothing_held) name [] words)
+
+  behind-name : (words : List Text) (wanted : Option Asked) (a : Asked) → IsAsk s (asked_in name) words wanted → wanted ≡ Some a → Behind (name ∷ words) a
+  behind-name words wanted a r e = record {
+    takes = ap₂ takes_at (name-walk words) (name-words words) ∙ (taken words ∙ ap (λ b. b && true) r.passes);
+    asks = ap (λ (w : Walk). asked_of (entered app w.stopped)) (name-walk words) ∙ (asked words ∙ (r.found ∙ e));
+  }
+
+run-behind : (words : List Text) (wanted : Option Asked) (a : Asked) → IsAsk run_leaf (asked_in (codes "run")) words wanted → wanted ≡ Some a → Behind (codes "run" ∷ words) a
+unfolding clap_on_literals
+run-behind = behind-name (codes "run") run_leaf refl refl (λ words. refl) (λ words. refl)
+
+grow-behind : (words : List Text) (wanted : Option Asked) (a : Asked) → IsAsk grow_leaf (asked_in (codes "grow")) words wanted → wanted ≡ Some a → Behind (codes "grow" ∷ words) a
+unfolding clap_on_literals
+grow-behind = behind-name (codes "grow") grow_leaf refl refl (λ words. refl) (λ words. refl)
+
+shrink-behind : (words : List Text) (wanted : Option Asked) (a : Asked) → IsAsk shrink_leaf (asked_in (codes "shrink")) words wanted → wanted ≡ Some a → Behind (codes "shrink" ∷ words) a
+unfolding clap_on_literals
+shrink-behind = behind-name (codes "shrink") shrink_leaf refl refl (λ words. refl) (λ words. refl)
+
+migrate-behind : (words : List Text) (wanted : Option Asked) (a : Asked) → IsAsk migrate_leaf (asked_in (codes "migrate")) words wanted → wanted ≡ Some a → Behind (codes "migrate" ∷ words) a
+unfolding clap_on_literals
+migrate-behind = behind-name (codes "migrate") migrate_leaf refl refl (λ words. refl) (λ words. refl)
+
+load-behind : (words : List Text) (wanted : Option Asked) (a : Asked) → IsAsk load_leaf (asked_in (codes "load")) words wanted → wanted ≡ Some a → Behind (codes "load" ∷ words) a
+unfolding clap_on_literals
+load-behind = behind-name (codes "load") load_leaf refl refl (λ words. refl) (λ words. refl)
+
+names-behind : (words : List Text) (wanted : Option Asked) (a : Asked) → IsAsk names_leaf (asked_in (codes "names")) words wanted → wanted ≡ Some a → Behind (codes "names" ∷ words) a
+unfolding clap_on_literals
+names-behind = behind-name (codes "names") names_leaf refl refl (λ words. refl) (λ words. refl)
+
+-- a change, with what stands behind it
+change-behind : (f : Text) (c : Change) (saving : Saving) (wait : ℕ) (changes : List Text) (word : Option Text) → IsPlain f → IsChangePart changes f c
+    → seconds_of word ≡ Some wait → IsPlainIn word → Behind (changes ++ (option_words (codes "--wait") word ++ saving_part saving)) (asked_change f c saving wait)
+change-behind f (change.Grow n) saving wait changes word p (d, h, e) v q = rw e (grow-behind _ _ _ (grow-asks f d word saving p (number-plain d n h) q)
+    (ap (option_and_then (λ n. option_map (asked_change f (change.Grow n) saving) (seconds_of word))) h ∙ ap (option_map (asked_change f (change.Grow n) saving)) v))
+change-behind f change.Shrink saving wait changes word p e v q = rw e (shrink-behind _ _ _ (shrink-asks f word saving p q) (ap (option_map (asked_change f change.Shrink saving)) v))
+change-behind f change.Migrate saving wait changes word p e v q = rw e (migrate-behind _ _ _ (migrate-asks f word saving p q) (ap (option_map (asked_change f change.Migrate saving)) v))
+
+behind-change : (f : Text) (c : Change) (saving : Saving) (wait : ℕ) (words : List Text) → IsChangeWritten f c saving wait words → Behind words (asked_change f c saving wait)
+behind-change f c saving wait words (p, changes, waits, h, w, e) =
+    let o = wait-option waits wait w in
+    subst (λ (ws : List Text). Behind ws (asked_change f c saving wait)) (sym (e ∙ ap (λ (ws : List Text). changes ++ (ws ++ saving_part saving)) o.spelled))
+    (change-behind f c saving wait changes o.word (path-plain f p) h o.value o.plain)
+
+behind-load : (f : Text) (size : Option ℕ) (saving : Saving) (wait : ℕ) (sizes waits : List Text) → IsPlain f → IsNumberPart (codes "--size") sizes size → IsWaitPart waits wait
+    → Behind (codes "load" ∷ f ∷ sizes ++ (waits ++ saving_part saving)) (load f size saving wait)
+behind-load f size saving wait sizes waits p s w =
+    let o = number-option (codes "--size") sizes size s in
+    let u = wait-option waits wait w in
+    subst (λ (ws : List Text). Behind (codes "load" ∷ f ∷ ws) (load f size saving wait)) (sym (ap₂ ◌++◌ o.spelled (ap (λ (ws : List Text). ws ++ saving_part saving) u.spelled)))
+    (load-behind _ _ _ (load-asks f o.word u.word saving p o.plain u.plain)
+    (ap (option_and_then (λ n. option_map (load f n saving) (seconds_of u.word))) o.value ∙ ap (option_map (load f size saving)) u.value))
+
+behind-names : (f : Text) (prefix : Text) (most : Option ℕ) (prefixes mosts : List Text) → IsPlain f → IsPart (codes "--prefix") prefixes prefix → IsNumberPart (codes "--most") mosts most
+    → Behind (codes "names" ∷ f ∷ prefixes ++ mosts) (names f prefix most)
+behind-names f prefix most prefixes mosts p a m =
+    let o = prefix-option prefixes prefix a in
+    let u = number-option (codes "--most") mosts most m in
+    subst (λ (ws : List Text). Behind (codes "names" ∷ f ∷ ws) (names f prefix most)) (sym (ap₂ ◌++◌ o.spelled u.spelled))
+    (names-behind _ _ _ (names-asks f o.word u.word p o.plain u.plain)
+    (ap (option_map (names f (unwrap_or o.word []))) u.value ∙ ap (option_map (λ (t : Text). names f t most)) o.value))
+
+-- ---- runs
+
 -- the words of a run ask for what they say
 behind-read : (words : List Text) (what : RunWords) (a : Asked) → IsAsk run_leaf run_words words what → asked_of_run what ≡ Some a → Behind (codes "run" ∷ words) a
-unfolding clap_on_literals
-behind-read words what a r h = record {
-  takes = ap₂ takes_at (run-walk words) (run-words words) ∙ ap (λ b. b && true) r.passes;
-  asks = ap (λ (w : Walk). asked_of (entered app w.stopped)) (run-walk words) ∙ (ap asked_of_run r.found ∙ h);
-}
+behind-read words what a r h = run-behind words (asked_of_run what) a (record { found = ap asked_of_run r.found; passes = r.passes }) h
 
-behind-run : (f : Text) (saving : Saving) (strict numbered : Bool) → IsPlain f → Behind (codes "run" ∷ f ∷ flag_words saving strict numbered) (ran f OpenOnly None input saving 0 strict numbered)
-behind-run f saving strict numbered p = behind-read _ _ _ (run-file f saving strict numbered p) (flags-ask f None None saving strict numbered)
-
-behind-mode : (f : Text) (mode : ModeName) (saving : Saving) (strict numbered : Bool) → IsPlain f → wants_size mode ≡ false
-    → Behind (codes "run" ∷ f ∷ codes "--mode" ∷ mode_word mode ∷ flag_words saving strict numbered) (ran f mode None input saving 0 strict numbered)
-behind-mode f mode saving strict numbered p h = behind-read _ _ _ (run-mode f (mode_word mode) saving strict numbered p (mode-plain mode))
-    (flags-ask f (Some (mode_word mode)) None saving strict numbered ∙ sized f mode None saving strict numbered (without-size mode h))
-
-behind-size : (f d : Text) (n : ℕ) (saving : Saving) (strict numbered : Bool) → IsPlain f → number_of d ≡ Some n
-    → Behind (codes "run" ∷ f ∷ codes "--size" ∷ d ∷ flag_words saving strict numbered) (ran f OpenOnly (Some n) input saving 0 strict numbered)
-behind-size f d n saving strict numbered p h = behind-read _ _ _ (run-size f d saving strict numbered p (number-plain d n h))
-    (flags-ask f None (Some d) saving strict numbered ∙ ap (λ o. in_mode f (Some OpenOnly) (option_map Some o) saving strict numbered) h)
-
-behind-both : (f d : Text) (mode : ModeName) (n : ℕ) (saving : Saving) (strict numbered : Bool) → IsPlain f → number_of d ≡ Some n
-    → Behind (codes "run" ∷ f ∷ codes "--mode" ∷ mode_word mode ∷ codes "--size" ∷ d ∷ flag_words saving strict numbered) (ran f mode (Some n) input saving 0 strict numbered)
-behind-both f d mode n saving strict numbered p h = behind-read _ _ _ (run-both f (mode_word mode) d saving strict numbered p (mode-plain mode) (number-plain d n h))
-    (flags-ask f (Some (mode_word mode)) (Some d) saving strict numbered
-    ∙ (ap (λ o. in_mode f (mode_called (mode_word mode)) (option_map Some o) saving strict numbered) h ∙ sized f mode (Some n) saving strict numbered (with-size mode n)))
-
-behind-options : (f : Text) (modes sizes flags : List Text) (mode : ModeName) (size : Option ℕ) (saving : Saving) (strict numbered : Bool) → flags ≡ flag_words saving strict numbered → IsPlain f
-    → IsModePart modes mode → IsSizePart sizes mode size → Behind (codes "run" ∷ f ∷ modes ++ (sizes ++ flags)) (ran f mode size input saving 0 strict numbered)
-behind-options f modes sizes flags mode None v t n e p (inl m) (s, w) = rw (e, m, s) (behind-mode f mode v t n p w)
-behind-options f modes sizes flags mode None v t n e p (inr (m, o)) (s, w) = rw (e, m, s, o) (behind-run f v t n p)
-behind-options f modes sizes flags mode (Some k) v t n e p (inl m) (d, h, s) = rw (e, m, s) (behind-both f d mode k v t n p h)
-behind-options f modes sizes flags mode (Some k) v t n e p (inr (m, o)) (d, h, s) = rw (e, m, s, o) (behind-size f d k v t n p h)
+behind-options : (f : Text) (modes sizes waits : List Text) (mode : ModeName) (size : Option ℕ) (wait : ℕ) (saving : Saving) (strict numbered : Bool) → IsPlain f
+    → IsModePart modes mode → IsSizePart sizes mode size → IsWaitPart waits wait
+    → Behind (codes "run" ∷ f ∷ modes ++ (sizes ++ (waits ++ flag_words saving strict numbered))) (ran f mode size input saving wait strict numbered)
+behind-options f modes sizes waits mode size wait v t n p m (s, l) w =
+    let a = mode-option modes mode m in
+    let o = number-option (codes "--size") sizes size s in
+    let u = wait-option waits wait w in
+    subst (λ (ws : List Text). Behind (codes "run" ∷ f ∷ ws) (ran f mode size input v wait t n))
+    (sym (ap₂ ◌++◌ a.spelled (ap₂ ◌++◌ o.spelled (ap (λ (ws : List Text). ws ++ flag_words v t n) u.spelled))))
+    (behind-read _ _ _ (run-asks f a.word o.word u.word v t n p a.plain o.plain u.plain) (sized f a.word o.word u.word mode size wait v t n a.value o.value u.value l))
 
 -- a run of a script that the command line names or has
 abbrev of_script : Text → Origin → Asked
 of_script f origin = ran f OpenOnly None origin InPlace 0 false false
 
 behind-origin : (f : Text) (words : List Text) (origin : Origin) → IsPlain f → IsOriginPart words origin → Behind (codes "run" ∷ f ∷ words) (of_script f origin)
-behind-origin f words input p e = rw e (behind-run f InPlace false false p)
+behind-origin f words input p e = rw e (behind-options f [] [] [] OpenOnly None 0 InPlace false false p (inr (refl, refl)) (refl, refl) (None, refl, refl))
 behind-origin f words (from_file path) p (t, e) = rw e (behind-read _ _ _ (script-asks f path p (path-plain path t)) refl)
 behind-origin f words (from_lines []) p h = absurd h
 behind-origin f words (from_lines (l ∷ ls)) p (t, e) =
     let both = and_parts (is_path l) (list_all is_path ls) t in
     rw e (behind-read _ _ _ (lines-ask f l ls p (path-plain l both.0) (lines-plain ls both.1)) refl)
 
-behind-script : (f : Text) (mode : ModeName) (size : Option ℕ) (origin : Origin) (saving : Saving) (strict numbered : Bool) (words origins : List Text) → IsPlain f → IsOriginPart origins origin
-    → mode ≡ OpenOnly → size ≡ None → saving ≡ InPlace → strict ≡ false → numbered ≡ false → words ≡ codes "run" ∷ f ∷ origins → Behind words (ran f mode size origin saving 0 strict numbered)
-behind-script f mode size origin saving strict numbered words origins p o m z s t n e = rw (e, m, z, s, t, n) (behind-origin f origins origin p o)
+behind-script : (f : Text) (mode : ModeName) (size : Option ℕ) (origin : Origin) (saving : Saving) (wait : ℕ) (strict numbered : Bool) (words origins : List Text) → IsPlain f → IsOriginPart origins origin
+    → mode ≡ OpenOnly → size ≡ None → saving ≡ InPlace → wait ≡ 0 → strict ≡ false → numbered ≡ false → words ≡ codes "run" ∷ f ∷ origins → Behind words (ran f mode size origin saving wait strict numbered)
+behind-script f mode size origin saving wait strict numbered words origins p o m z s w t n e = rw (e, m, z, s, w, t, n) (behind-origin f origins origin p o)
 
-behind-written : (f : Text) (mode : ModeName) (size : Option ℕ) (origin : Origin) (saving : Saving) (strict numbered : Bool) (words : List Text) → IsPlain f
-    → IsRunWritten f mode size origin saving strict numbered words → Behind words (ran f mode size origin saving 0 strict numbered)
-behind-written f mode size input saving strict numbered words p (modes, sizes, m, s, e) = rw e (behind-options f modes sizes _ mode size saving strict numbered refl p m s)
-behind-written f mode size (from_file path) saving strict numbered words p (origins, o, m, z, s, t, n, e) = behind-script f mode size (from_file path) saving strict numbered words origins p o m z s t n e
-behind-written f mode size (from_lines ls) saving strict numbered words p (origins, o, m, z, s, t, n, e) = behind-script f mode size (from_lines ls) saving strict numbered words origins p o m z s t n e
+behind-written : (f : Text) (mode : ModeName) (size : Option ℕ) (origin : Origin) (saving : Saving) (wait : ℕ) (strict numbered : Bool) (words : List Text) → IsPlain f
+    → IsRunWritten f mode size origin saving wait strict numbered words → Behind words (ran f mode size origin saving wait strict numbered)
+behind-written f mode size input saving wait strict numbered words p (modes, sizes, waits, m, s, w, e) = rw e (behind-options f modes sizes waits mode size wait saving strict numbered p m s w)
+behind-written f mode size (from_file path) saving wait strict numbered words p (origins, o, m, z, s, w, t, n, e) = behind-script f mode size (from_file path) saving wait strict numbered words origins p o m z s w t n e
+behind-written f mode size (from_lines ls) saving wait strict numbered words p (origins, o, m, z, s, w, t, n, e) = behind-script f mode size (from_lines ls) saving wait strict numbered words origins p o m z s w t n e
 
 -- words that have no command
 pub record IsVersion (words : List Text) (a : Asked) : Type 0 where
@@ -332,34 +327,34 @@ asks-version : IsVersion (codes "--version" ∷ []) version
 unfolding clap_on_literals
 asks-version = record { is = refl; fault = refl }
 
--- a run that has options
-with-options : (f : Text) (mode : ModeName) (size : Option ℕ) (origin : Origin) (saving : Saving) (strict numbered : Bool) (words : List Text) → is_plain_run origin saving 0 strict numbered ≡ false
-    → Behind words (ran f mode size origin saving 0 strict numbered) → Behind words (run_with f mode size origin saving 0 strict numbered)
-with-options f mode size origin saving strict numbered words h b =
-    subst (Behind words) (ap (λ p. if p then run f mode size else run_with f mode size origin saving 0 strict numbered) h) b
+-- a run or a change that has options
+with-options : (f : Text) (mode : ModeName) (size : Option ℕ) (origin : Origin) (saving : Saving) (wait : ℕ) (strict numbered : Bool) (words : List Text) → is_plain_run origin saving wait strict numbered ≡ false
+    → Behind words (ran f mode size origin saving wait strict numbered) → Behind words (run_with f mode size origin saving wait strict numbered)
+with-options f mode size origin saving wait strict numbered words h b =
+    subst (Behind words) (ap (λ p. if p then run f mode size else run_with f mode size origin saving wait strict numbered) h) b
+
+with-change : (f : Text) (c : Change) (saving : Saving) (wait : ℕ) (words : List Text) → is_plain saving wait ≡ false → Behind words (asked_change f c saving wait) → Behind words (change_with f c saving wait)
+with-change f c saving wait words h b = subst (Behind words) (ap (λ p. if p then plain_change f c else change_with f c saving wait) h) b
 
 behind : (words : List Text) (a : Asked) → IsWritten a words → Behind words a ⊎ IsVersion words a
 behind words (create f n) (p, d, h, e) = inl (rw e (behind-create f d n (path-plain f p) h))
-behind words (run f mode size) (p, r) = inl (behind-written f mode size input InPlace false false words (path-plain f p) r)
-behind words (run_with f mode size origin saving wait strict numbered) (p, w, o, r) = inl (rw w (with-options f mode size origin saving strict numbered words o (behind-written f mode size origin saving strict numbered words (path-plain f p) r)))
+behind words (run f mode size) (p, r) = inl (behind-written f mode size input InPlace 0 false false words (path-plain f p) r)
+behind words (run_with f mode size origin saving wait strict numbered) (p, o, r) = inl (with-options f mode size origin saving wait strict numbered words o (behind-written f mode size origin saving wait strict numbered words (path-plain f p) r))
 behind words (check f) (p, e) = inl (rw e (behind-check f (path-plain f p)))
 behind words (check_all files quiet) (f, p, l, q, e) = inl (rw (e, l, q) (behind-quiet f (path-plain f p)))
 behind words (explain f) (p, e) = inl (rw e (behind-explain f (path-plain f p)))
-behind words (grow f n) (p, d, h, e) = inl (rw e (behind-grow f d n (path-plain f p) h))
-behind words (grow_with f n saving wait) (p, w, v, d, h, e) = inl (rw (e, w, v) (behind-grow-replaced f d n (path-plain f p) h))
-behind words (shrink f) (p, e) = inl (rw e (behind-shrink f (path-plain f p)))
-behind words (shrink_with f saving wait) (p, w, v, e) = inl (rw (e, w, v) (behind-shrink-replaced f (path-plain f p)))
-behind words (migrate f) (p, e) = inl (rw e (behind-migrate f (path-plain f p)))
-behind words (migrate_with f saving wait) (p, w, v, e) = inl (rw (e, w, v) (behind-migrate-replaced f (path-plain f p)))
-behind words (stat f) (p, e) = inl (rw e (behind-stat f (path-plain f p)))
-behind words (draw f) (p, e) = inl (rw e (behind-draw f (path-plain f p)))
-behind words (draw_page f) (p, e) = inl (rw e (behind-page f (path-plain f p)))
-behind words (dump f) (p, e) = inl (rw e (behind-dump f (path-plain f p)))
-behind words (dump_capacities f) (p, e) = inl (rw e (behind-capacities f (path-plain f p)))
-behind words (dump_json f) (p, e) = inl (rw e (behind-json f (path-plain f p)))
-behind words (names f prefix most) (p, prefixes, mosts, a, m, e) = inl (rw e (behind-parts f prefixes mosts prefix most (path-plain f p) a m))
-behind words (load f None saving wait) (p, w, e) = inl (rw (e, w) (behind-load f saving (path-plain f p)))
-behind words (load f (Some n) saving wait) (p, w, sizes, (d, h, s), e) = inl (rw (e, w, s) (behind-sized f d n saving (path-plain f p) h))
+behind words (grow f n) h = inl (behind-change f (change.Grow n) InPlace 0 words h)
+behind words (shrink f) h = inl (behind-change f change.Shrink InPlace 0 words h)
+behind words (migrate f) h = inl (behind-change f change.Migrate InPlace 0 words h)
+behind words (change_with f c saving wait) (o, h) = inl (with-change f c saving wait words o (behind-change f c saving wait words h))
+behind words (tell f Figures) (p, e) = inl (rw e (behind-stat f (path-plain f p)))
+behind words (tell f Picture) (p, e) = inl (rw e (behind-draw f (path-plain f p)))
+behind words (tell f Page) (p, e) = inl (rw e (behind-page f (path-plain f p)))
+behind words (tell f Dump) (p, e) = inl (rw e (behind-dump f (path-plain f p)))
+behind words (tell f Capacities) (p, e) = inl (rw e (behind-capacities f (path-plain f p)))
+behind words (tell f Json) (p, e) = inl (rw e (behind-json f (path-plain f p)))
+behind words (names f prefix most) (p, prefixes, mosts, a, m, e) = inl (rw e (behind-names f prefix most prefixes mosts (path-plain f p) a m))
+behind words (load f size saving wait) (p, sizes, waits, s, w, e) = inl (rw e (behind-load f size saving wait sizes waits (path-plain f p) s w))
 behind words lint e = inl (rw e behind-lint)
 behind words language e = inl (rw e behind-language)
 behind words version e = inr (rw e asks-version)

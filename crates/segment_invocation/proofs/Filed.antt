@@ -1,6 +1,7 @@
 -- What is asked for by the name of a command, by its file and without one.
 use Rattle.std.proofs.Common.{◌≡◌, ◌∙◌, ◌++◌, ap, map, Bool, true, false, List, [], Option, Some, None, codes, refl}
-use Rattle.std.specs.Prelude.{option_map, unwrap_or}
+use Rattle.std.proofs.Common.{ℕ}
+use Rattle.std.specs.Prelude.{option_and_then, option_map, unwrap_or}
 use Rattle.std.specs.Prelude.{if◌then◌else◌}
 use Rattle.std.specs.Str.{bytes_eq}
 use Rattle.std.proofs.lemmas.Slice.Eq.{bytes_eq-Decides}
@@ -9,7 +10,8 @@ use Rattle.clap.specs.Matches.{matched_of, raw_values}
 use Rattle.clap.specs.Walk.{Row, Text, first_of, rows_of}
 use Rattle.clap.specs.declared.parser.matches.Found.{Found}
 use Rattle.clap.proofs.WalkLemmas.{raw_values-rows}
-use Rattle.segment_invocation.specs.Invocations.{Asked, language, lint, asked_in, list_of}
+use Rattle.segment_lang.specs.Words.{number_of}
+use Rattle.segment_invocation.specs.Invocations.{Asked, language, lint, asked_in, list_of, size_of}
 
 module _ (name : Text) (rows : List Row) where
   pub lint_asked : bytes_eq name (codes "lint") ≡ true → asked_in name rows ≡ Some lint
@@ -31,6 +33,32 @@ module _ (f : Found) (id : Text) where
 
   pub none_listed : (old : List (Bor Text)) → old ≡ [] → None ≡ option_map raw_values (matched_of f id) → map (λ s. s.now) old ≡ list_of id (rows_of f)
   none_listed old o e = ap (map (λ (s : Bor Text). s.now)) o ∙ ap (λ l. unwrap_or l []) (e ∙ raw_values-rows f id)
+
+-- ---- a number that must be there
+
+some_of : (o : Option ℕ) (n : ℕ) → option_map Some o ≡ Some (Some n) → o ≡ Some n
+some_of None n h = cc
+some_of (Some m) n h = cc
+
+none_of : (o : Option ℕ) → option_map Some o ≡ None → o ≡ None
+none_of None h = refl
+none_of (Some m) h = cc
+
+not_none : (o : Option ℕ) → option_map Some o ≡ Some None → ⊥
+not_none None h = cc
+not_none (Some m) h = cc
+
+pub number_read : (word : Option Text) (n : ℕ) → size_of word ≡ Some (Some n) → option_and_then number_of word ≡ Some n
+number_read None n h = cc
+number_read (Some w) n h = some_of (number_of w) n h
+
+pub no_number_read : (word : Option Text) → size_of word ≡ Some None → option_and_then number_of word ≡ None
+no_number_read None h = refl
+no_number_read (Some w) h = absurd (not_none (number_of w) h)
+
+pub number_unread : (word : Option Text) → size_of word ≡ None → option_and_then number_of word ≡ None
+number_unread None h = cc
+number_unread (Some w) h = none_of (number_of w) h
 
 -- every other command wants a file
 pub without_file : (name : Text) (rows : List Row) → bytes_eq name (codes "lint") ≡ false → bytes_eq name (codes "language") ≡ false

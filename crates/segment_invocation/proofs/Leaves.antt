@@ -1,7 +1,7 @@
 -- What a parse makes of the words behind each command of the program.
 use Rattle.std.proofs.Common.{◌≡◌, refl, ap, ap₂, ◌∙◌, ℕ, Bool, true, false, ◌&&◌, List, [], ◌∷◌, ◌++◌, Option, Some, None, codes, fold}
 use Rattle.std.specs.List.{list_all}
-use Rattle.std.specs.Prelude.{⊤, option_and_then, option_map}
+use Rattle.std.specs.Prelude.{⊤, option_and_then, option_map, unwrap_or}
 use Rattle.std.proofs.lemmas.Bool.{and_parts}
 use Rattle.std.proofs.lemmas.List.{append_assoc}
 use Rattle.clap.proofs.OnLiterals.{clap_on_literals}
@@ -11,7 +11,9 @@ use Rattle.clap.specs.Takes.{default_passes, is_valid, level_passes, settle_pass
 use Rattle.clap.specs.declared.builder.value_parser.Reading.TheVariants as reading
 use Rattle.clap.specs.declared.parser.matches.ValueSource.TheVariants.{CommandLine}
 use Rattle.segment_lang.specs.Words.{number_of}
-use Rattle.segment_invocation.specs.Invocations.{RunWords, asked_in, check, check_all, check_command, create, create_command, draw, draw_command, draw_page, dump, dump_capacities, dump_command, dump_json, explain, file_command, flag_words, grow, grow_command, grow_with, kept_as, kept_command, line_words, load, load_command, migrate, migrate_with, names, names_command, program, run_command, run_words, saving_part, shrink, shrink_with, size_of, stat}
+use Rattle.segment_invocation.specs.Invocations.{Asked, RunWords, asked_change, asked_in, check, check_all, check_command, create, create_command, draw_command, dump_command, explain, file_command, flag_words, grow_command, kept_command, line_words, load, load_command, names, names_command, program, run_command, run_words, saving_part, seconds_of, size_of, tell}
+use Rattle.segment_invocation.specs.declared.invocations.Change.TheVariants as change
+use Rattle.segment_invocation.specs.declared.invocations.Report.TheVariants.{Figures, Picture, Page, Dump, Capacities, Json}
 use Rattle.segment_invocation.specs.declared.invocations.Saving.{Saving}
 use Rattle.segment_invocation.specs.declared.invocations.Saving.TheVariants.{InPlace, Replacing}
 use Rattle.segment_invocation.proofs.PlainWords.{IsPlain, plain_step, turn-plain, walked-plain}
@@ -132,9 +134,9 @@ module _ {A : Type 0} (s : Shape) (ask : List Row → A) where
 
 -- ---- a file, which may have flags behind it
 
-pub stat-asks : (f : Text) → IsPlain f → IsAsk (leaf (file_command (codes "stat"))) (asked_in (codes "stat")) (f ∷ []) (Some (stat f))
+pub stat-asks : (f : Text) → IsPlain f → IsAsk (leaf (file_command (codes "stat"))) (asked_in (codes "stat")) (f ∷ []) (Some (tell f Figures))
 unfolding clap_on_literals
-stat-asks f p = flagged (leaf (file_command (codes "stat"))) (asked_in (codes "stat")) f [] (Some (stat f)) p refl refl refl refl
+stat-asks f p = flagged (leaf (file_command (codes "stat"))) (asked_in (codes "stat")) f [] (Some (tell f Figures)) p refl refl refl refl
 
 pub check-asks : (f : Text) → IsPlain f → IsAsk (leaf check_command) (asked_in (codes "check")) (f ∷ []) (Some (check f))
 unfolding clap_on_literals
@@ -148,35 +150,25 @@ pub explain-asks : (f : Text) → IsPlain f → IsAsk (leaf check_command) (aske
 unfolding clap_on_literals
 explain-asks f p = flagged (leaf check_command) (asked_in (codes "check")) f (codes "--explain" ∷ []) (Some (explain f)) p refl refl refl refl
 
-pub draw-asks : (f : Text) → IsPlain f → IsAsk (leaf draw_command) (asked_in (codes "draw")) (f ∷ []) (Some (draw f))
+pub draw-asks : (f : Text) → IsPlain f → IsAsk (leaf draw_command) (asked_in (codes "draw")) (f ∷ []) (Some (tell f Picture))
 unfolding clap_on_literals
-draw-asks f p = flagged (leaf draw_command) (asked_in (codes "draw")) f [] (Some (draw f)) p refl refl refl refl
+draw-asks f p = flagged (leaf draw_command) (asked_in (codes "draw")) f [] (Some (tell f Picture)) p refl refl refl refl
 
-pub html-asks : (f : Text) → IsPlain f → IsAsk (leaf draw_command) (asked_in (codes "draw")) (f ∷ codes "--html" ∷ []) (Some (draw_page f))
+pub html-asks : (f : Text) → IsPlain f → IsAsk (leaf draw_command) (asked_in (codes "draw")) (f ∷ codes "--html" ∷ []) (Some (tell f Page))
 unfolding clap_on_literals
-html-asks f p = flagged (leaf draw_command) (asked_in (codes "draw")) f (codes "--html" ∷ []) (Some (draw_page f)) p refl refl refl refl
+html-asks f p = flagged (leaf draw_command) (asked_in (codes "draw")) f (codes "--html" ∷ []) (Some (tell f Page)) p refl refl refl refl
 
-pub dump-asks : (f : Text) → IsPlain f → IsAsk (leaf dump_command) (asked_in (codes "dump")) (f ∷ []) (Some (dump f))
+pub dump-asks : (f : Text) → IsPlain f → IsAsk (leaf dump_command) (asked_in (codes "dump")) (f ∷ []) (Some (tell f Dump))
 unfolding clap_on_literals
-dump-asks f p = flagged (leaf dump_command) (asked_in (codes "dump")) f [] (Some (dump f)) p refl refl refl refl
+dump-asks f p = flagged (leaf dump_command) (asked_in (codes "dump")) f [] (Some (tell f Dump)) p refl refl refl refl
 
-pub capacities-asks : (f : Text) → IsPlain f → IsAsk (leaf dump_command) (asked_in (codes "dump")) (f ∷ codes "--capacities" ∷ []) (Some (dump_capacities f))
+pub capacities-asks : (f : Text) → IsPlain f → IsAsk (leaf dump_command) (asked_in (codes "dump")) (f ∷ codes "--capacities" ∷ []) (Some (tell f Capacities))
 unfolding clap_on_literals
-capacities-asks f p = flagged (leaf dump_command) (asked_in (codes "dump")) f (codes "--capacities" ∷ []) (Some (dump_capacities f)) p refl refl refl refl
+capacities-asks f p = flagged (leaf dump_command) (asked_in (codes "dump")) f (codes "--capacities" ∷ []) (Some (tell f Capacities)) p refl refl refl refl
 
-pub json-asks : (f : Text) → IsPlain f → IsAsk (leaf dump_command) (asked_in (codes "dump")) (f ∷ codes "--json" ∷ []) (Some (dump_json f))
+pub json-asks : (f : Text) → IsPlain f → IsAsk (leaf dump_command) (asked_in (codes "dump")) (f ∷ codes "--json" ∷ []) (Some (tell f Json))
 unfolding clap_on_literals
-json-asks f p = flagged (leaf dump_command) (asked_in (codes "dump")) f (codes "--json" ∷ []) (Some (dump_json f)) p refl refl refl refl
-
-pub shrink-asks : (f : Text) (saving : Saving) → IsPlain f → IsAsk (leaf (kept_command (codes "shrink"))) (asked_in (codes "shrink")) (f ∷ saving_part saving) (Some (kept_as (shrink f) (shrink_with f) saving 0))
-unfolding clap_on_literals
-shrink-asks f InPlace p = flagged (leaf (kept_command (codes "shrink"))) (asked_in (codes "shrink")) f (saving_part InPlace) (Some (shrink f)) p refl refl refl refl
-shrink-asks f Replacing p = flagged (leaf (kept_command (codes "shrink"))) (asked_in (codes "shrink")) f (saving_part Replacing) (Some (shrink_with f Replacing 0)) p refl refl refl refl
-
-pub migrate-asks : (f : Text) (saving : Saving) → IsPlain f → IsAsk (leaf (kept_command (codes "migrate"))) (asked_in (codes "migrate")) (f ∷ saving_part saving) (Some (kept_as (migrate f) (migrate_with f) saving 0))
-unfolding clap_on_literals
-migrate-asks f InPlace p = flagged (leaf (kept_command (codes "migrate"))) (asked_in (codes "migrate")) f (saving_part InPlace) (Some (migrate f)) p refl refl refl refl
-migrate-asks f Replacing p = flagged (leaf (kept_command (codes "migrate"))) (asked_in (codes "migrate")) f (saving_part Replacing) (Some (migrate_with f Replacing 0)) p refl refl refl refl
+json-asks f p = flagged (leaf dump_command) (asked_in (codes "dump")) f (codes "--json" ∷ []) (Some (tell f Json)) p refl refl refl refl
 
 -- ---- a file and a number
 
@@ -191,67 +183,138 @@ create-asks f d p q =
     behind s (asked_in (codes "create")) f (d ∷ []) [] (plain_step s.rules (after_file s f) d) (option_and_then (λ n. Some (create f n)) (number_of d)) p refl
     (number s (after_file s f).held d q refl) refl refl refl
 
-pub grow-asks : (f d : Text) (saving : Saving) → IsPlain f → IsPlain d
-    → IsAsk (leaf grow_command) (asked_in (codes "grow")) (f ∷ d ∷ saving_part saving) (option_and_then (λ n. Some (kept_as (grow f n) (grow_with f n) saving 0)) (number_of d))
-unfolding clap_on_literals
-grow-asks f d InPlace p q =
-    let s : Shape = leaf grow_command in
-    behind s (asked_in (codes "grow")) f (d ∷ []) (saving_part InPlace) (plain_step s.rules (after_file s f) d) (option_and_then (λ n. Some (grow f n)) (number_of d)) p refl
-    (number s (after_file s f).held d q refl) refl refl refl
-grow-asks f d Replacing p q =
-    let s : Shape = leaf grow_command in
-    behind s (asked_in (codes "grow")) f (d ∷ []) (saving_part Replacing) (plain_step s.rules (after_file s f) d) (option_and_then (λ n. Some (grow_with f n Replacing 0)) (number_of d)) p refl
-    (number s (after_file s f).held d q refl) refl refl refl
+-- ---- options that may be left out
 
--- ---- a file, and options
+-- `NAME VALUE`, or nothing
+abbrev pub option_words : Text → Option Text → List Text
+option_words name None = []
+option_words name (Some v) = name ∷ v ∷ []
 
-pub load-asks : (f : Text) (saving : Saving) → IsPlain f → IsAsk (leaf load_command) (asked_in (codes "load")) (f ∷ saving_part saving) (Some (load f None saving 0))
-unfolding clap_on_literals
-load-asks f InPlace p = flagged (leaf load_command) (asked_in (codes "load")) f (saving_part InPlace) (Some (load f None InPlace 0)) p refl refl refl refl
-load-asks f Replacing p = flagged (leaf load_command) (asked_in (codes "load")) f (saving_part Replacing) (Some (load f None Replacing 0)) p refl refl refl refl
+-- the value is no option
+abbrev pub IsPlainIn : Option Text → Type 0
+IsPlainIn None = ⊤
+IsPlainIn (Some v) = IsPlain v
 
 -- an option right behind the file
 abbrev with_option : Shape → Text → Text → Text → Walk
 with_option s f id v = after_option s id v (after_file s f)
 
-size-steps : (f d : Text) → IsPlain d → IsSteps (leaf load_command) (after_file (leaf load_command) f) (codes "--size" ∷ d ∷ []) (with_option (leaf load_command) f (codes "size") d)
-unfolding clap_on_literals
-size-steps f d q = option-steps (leaf load_command) (after_file (leaf load_command) f).held idle 2 (codes "--size") (codes "size") d q refl refl refl
+-- an option behind words that lead to a place
+module _ (s : Shape) (from : Walk) (words : List Text) (h : Held) (position : ℕ) (word id v : Text) where
+  optioned : IsPlain v → IsSteps s from words (at h idle position) → walked s.rules [] (at h idle position) word ≡ at_option s id (at h idle position)
+      → turn_passes s [] (at h idle position) word ≡ true → IsTaken s (at_option s id (at h idle position)).held (waits id) position v
+      → IsSteps s from (words ++ word ∷ v ∷ []) (after_option s id v (at h idle position))
+  optioned q w e t u = steps s from (at h idle position) (after_option s id v (at h idle position)) words (word ∷ v ∷ []) w (option-steps s h idle position word id v q e t u)
 
-pub sized-asks : (f d : Text) (saving : Saving) → IsPlain f → IsPlain d
-    → IsAsk (leaf load_command) (asked_in (codes "load")) (f ∷ codes "--size" ∷ d ∷ saving_part saving) (option_and_then (λ n. Some (load f n saving 0)) (size_of (Some d)))
-unfolding clap_on_literals
-sized-asks f d InPlace p q = behind (leaf load_command) (asked_in (codes "load")) f (codes "--size" ∷ d ∷ []) (saving_part InPlace) (with_option (leaf load_command) f (codes "size") d)
-    (option_and_then (λ n. Some (load f n InPlace 0)) (size_of (Some d))) p refl (size-steps f d q) refl refl refl
-sized-asks f d Replacing p q = behind (leaf load_command) (asked_in (codes "load")) f (codes "--size" ∷ d ∷ []) (saving_part Replacing) (with_option (leaf load_command) f (codes "size") d)
-    (option_and_then (λ n. Some (load f n Replacing 0)) (size_of (Some d))) p refl (size-steps f d q) refl refl refl
+-- a place, with how a file is saved behind it
+abbrev IsSaved : {A : Type 0} → Shape → (List Row → A) → Walk → Saving → A → Type 0
+IsSaved s ask to saving a = (walk_passes s [] to (saving_part saving) ≡ true)
+    × (ask (finished s.rules (fold (walked s.rules []) to (saving_part saving)).held) ≡ a)
+    × (passes_at s true (fold (walked s.rules []) to (saving_part saving)) ≡ true)
 
-abbrev names_leaf : Shape
+module _ {A : Type 0} (s : Shape) (ask : List Row → A) (f : Text) (words : List Text) (to : Walk) (a : Saving → A) where
+  saved : (saving : Saving) → IsPlain f → IsTaken s nothing_held idle 1 f → IsSteps s (after_file s f) words to
+      → IsSaved s ask to InPlace (a InPlace) → IsSaved s ask to Replacing (a Replacing) → IsAsk s ask (f ∷ words ++ saving_part saving) (a saving)
+  saved InPlace p t w h k = behind s ask f words (saving_part InPlace) to (a InPlace) p t w h.0 h.1 h.2
+  saved Replacing p t w h k = behind s ask f words (saving_part Replacing) to (a Replacing) p t w k.0 k.1 k.2
+
+-- ---- a change
+
+abbrev pub shrink_leaf : Shape
+shrink_leaf = leaf (kept_command (codes "shrink"))
+
+pub shrink-asks : (f : Text) (wait : Option Text) (saving : Saving) → IsPlain f → IsPlainIn wait
+    → IsAsk shrink_leaf (asked_in (codes "shrink")) (f ∷ option_words (codes "--wait") wait ++ saving_part saving) (option_map (asked_change f change.Shrink saving) (seconds_of wait))
+unfolding clap_on_literals
+shrink-asks f None saving p q = saved shrink_leaf (asked_in (codes "shrink")) f [] (after_file shrink_leaf f) (λ v. option_map (asked_change f change.Shrink v) (seconds_of None)) saving p refl
+    (record { walk = refl; passes = refl }) (refl, refl, refl) (refl, refl, refl)
+shrink-asks f (Some w) saving p q = saved shrink_leaf (asked_in (codes "shrink")) f (codes "--wait" ∷ w ∷ []) (with_option shrink_leaf f (codes "wait") w)
+    (λ v. option_map (asked_change f change.Shrink v) (seconds_of (Some w))) saving p refl
+    (option-steps shrink_leaf (after_file shrink_leaf f).held idle 2 (codes "--wait") (codes "wait") w q refl refl refl) (refl, refl, refl) (refl, refl, refl)
+
+abbrev pub migrate_leaf : Shape
+migrate_leaf = leaf (kept_command (codes "migrate"))
+
+pub migrate-asks : (f : Text) (wait : Option Text) (saving : Saving) → IsPlain f → IsPlainIn wait
+    → IsAsk migrate_leaf (asked_in (codes "migrate")) (f ∷ option_words (codes "--wait") wait ++ saving_part saving) (option_map (asked_change f change.Migrate saving) (seconds_of wait))
+unfolding clap_on_literals
+migrate-asks f None saving p q = saved migrate_leaf (asked_in (codes "migrate")) f [] (after_file migrate_leaf f) (λ v. option_map (asked_change f change.Migrate v) (seconds_of None)) saving p refl
+    (record { walk = refl; passes = refl }) (refl, refl, refl) (refl, refl, refl)
+migrate-asks f (Some w) saving p q = saved migrate_leaf (asked_in (codes "migrate")) f (codes "--wait" ∷ w ∷ []) (with_option migrate_leaf f (codes "wait") w)
+    (λ v. option_map (asked_change f change.Migrate v) (seconds_of (Some w))) saving p refl
+    (option-steps migrate_leaf (after_file migrate_leaf f).held idle 2 (codes "--wait") (codes "wait") w q refl refl refl) (refl, refl, refl) (refl, refl, refl)
+
+abbrev pub grow_leaf : Shape
+grow_leaf = leaf grow_command
+
+-- behind the number of a growth
+abbrev at_bytes : Text → Text → Walk
+at_bytes f d = plain_step grow_leaf.rules (after_file grow_leaf f) d
+
+pub grow-asks : (f d : Text) (wait : Option Text) (saving : Saving) → IsPlain f → IsPlain d → IsPlainIn wait
+    → IsAsk grow_leaf (asked_in (codes "grow")) (f ∷ d ∷ option_words (codes "--wait") wait ++ saving_part saving)
+    (option_and_then (λ n. option_map (asked_change f (change.Grow n) saving) (seconds_of wait)) (number_of d))
+unfolding clap_on_literals
+grow-asks f d None saving p q r = saved grow_leaf (asked_in (codes "grow")) f (d ∷ []) (at_bytes f d)
+    (λ v. option_and_then (λ n. option_map (asked_change f (change.Grow n) v) (seconds_of None)) (number_of d)) saving p refl
+    (number grow_leaf (after_file grow_leaf f).held d q refl) (refl, refl, refl) (refl, refl, refl)
+grow-asks f d (Some w) saving p q r = saved grow_leaf (asked_in (codes "grow")) f (d ∷ codes "--wait" ∷ w ∷ []) (after_option grow_leaf (codes "wait") w (at_bytes f d))
+    (λ v. option_and_then (λ n. option_map (asked_change f (change.Grow n) v) (seconds_of (Some w))) (number_of d)) saving p refl
+    (optioned grow_leaf (after_file grow_leaf f) (d ∷ []) (at_bytes f d).held 3 (codes "--wait") (codes "wait") w r
+    (number grow_leaf (after_file grow_leaf f).held d q refl) refl refl refl) (refl, refl, refl) (refl, refl, refl)
+
+-- ---- a load
+
+abbrev pub load_leaf : Shape
+load_leaf = leaf load_command
+
+-- what a load is asked for, by its words
+abbrev pub loaded : Text → Option Text → Option Text → Saving → Option Asked
+loaded f size wait saving = option_and_then (λ n. option_map (load f n saving) (seconds_of wait)) (size_of size)
+
+size-steps : (f d : Text) → IsPlain d → IsSteps load_leaf (after_file load_leaf f) (codes "--size" ∷ d ∷ []) (with_option load_leaf f (codes "size") d)
+unfolding clap_on_literals
+size-steps f d q = option-steps load_leaf (after_file load_leaf f).held idle 2 (codes "--size") (codes "size") d q refl refl refl
+
+pub load-asks : (f : Text) (size wait : Option Text) (saving : Saving) → IsPlain f → IsPlainIn size → IsPlainIn wait
+    → IsAsk load_leaf (asked_in (codes "load")) (f ∷ option_words (codes "--size") size ++ (option_words (codes "--wait") wait ++ saving_part saving)) (loaded f size wait saving)
+unfolding clap_on_literals
+load-asks f None None saving p q r = saved load_leaf (asked_in (codes "load")) f [] (after_file load_leaf f) (loaded f None None) saving p refl
+    (record { walk = refl; passes = refl }) (refl, refl, refl) (refl, refl, refl)
+load-asks f (Some d) None saving p q r = saved load_leaf (asked_in (codes "load")) f (codes "--size" ∷ d ∷ []) (with_option load_leaf f (codes "size") d) (loaded f (Some d) None) saving p refl
+    (size-steps f d q) (refl, refl, refl) (refl, refl, refl)
+load-asks f None (Some w) saving p q r = saved load_leaf (asked_in (codes "load")) f (codes "--wait" ∷ w ∷ []) (with_option load_leaf f (codes "wait") w) (loaded f None (Some w)) saving p refl
+    (option-steps load_leaf (after_file load_leaf f).held idle 2 (codes "--wait") (codes "wait") w r refl refl refl) (refl, refl, refl) (refl, refl, refl)
+load-asks f (Some d) (Some w) saving p q r = saved load_leaf (asked_in (codes "load")) f (codes "--size" ∷ d ∷ codes "--wait" ∷ w ∷ [])
+    (after_option load_leaf (codes "wait") w (with_option load_leaf f (codes "size") d)) (loaded f (Some d) (Some w)) saving p refl
+    (optioned load_leaf (after_file load_leaf f) (codes "--size" ∷ d ∷ []) (with_option load_leaf f (codes "size") d).held 2 (codes "--wait") (codes "wait") w r
+    (size-steps f d q) refl refl refl) (refl, refl, refl) (refl, refl, refl)
+
+-- ---- names
+
+abbrev pub names_leaf : Shape
 names_leaf = leaf names_command
 
-pub names-asks : (f : Text) → IsPlain f → IsAsk names_leaf (asked_in (codes "names")) (f ∷ []) (Some (names f [] None))
-unfolding clap_on_literals
-names-asks f p = flagged names_leaf (asked_in (codes "names")) f [] (Some (names f [] None)) p refl refl refl refl
+-- what names are asked for, by their words
+abbrev pub listed : Text → Option Text → Option Text → Option Asked
+listed f prefix most = option_map (names f (unwrap_or prefix [])) (size_of most)
 
-pub prefix-asks : (f t : Text) → IsPlain f → IsPlain t → IsAsk names_leaf (asked_in (codes "names")) (f ∷ codes "--prefix" ∷ t ∷ []) (Some (names f t None))
+prefix-steps : (f t : Text) → IsPlain t → IsSteps names_leaf (after_file names_leaf f) (codes "--prefix" ∷ t ∷ []) (with_option names_leaf f (codes "prefix") t)
 unfolding clap_on_literals
-prefix-asks f t p q = behind names_leaf (asked_in (codes "names")) f (codes "--prefix" ∷ t ∷ []) [] (with_option names_leaf f (codes "prefix") t) (Some (names f t None)) p refl
-    (option-steps names_leaf (after_file names_leaf f).held idle 2 (codes "--prefix") (codes "prefix") t q refl refl refl) refl refl refl
+prefix-steps f t q = option-steps names_leaf (after_file names_leaf f).held idle 2 (codes "--prefix") (codes "prefix") t q refl refl refl
 
-pub most-asks : (f d : Text) → IsPlain f → IsPlain d → IsAsk names_leaf (asked_in (codes "names")) (f ∷ codes "--most" ∷ d ∷ []) (option_map (names f []) (size_of (Some d)))
+pub names-asks : (f : Text) (prefix most : Option Text) → IsPlain f → IsPlainIn prefix → IsPlainIn most
+    → IsAsk names_leaf (asked_in (codes "names")) (f ∷ option_words (codes "--prefix") prefix ++ option_words (codes "--most") most) (listed f prefix most)
 unfolding clap_on_literals
-most-asks f d p q = behind names_leaf (asked_in (codes "names")) f (codes "--most" ∷ d ∷ []) [] (with_option names_leaf f (codes "most") d) (option_map (names f []) (size_of (Some d))) p refl
-    (option-steps names_leaf (after_file names_leaf f).held idle 2 (codes "--most") (codes "most") d q refl refl refl) refl refl refl
-
-pub prefix-most-asks : (f t d : Text) → IsPlain f → IsPlain t → IsPlain d
-    → IsAsk names_leaf (asked_in (codes "names")) (f ∷ codes "--prefix" ∷ t ∷ codes "--most" ∷ d ∷ []) (option_map (names f t) (size_of (Some d)))
-unfolding clap_on_literals
-prefix-most-asks f t d p q r =
-    let one : Walk = with_option names_leaf f (codes "prefix") t in
-    behind names_leaf (asked_in (codes "names")) f (codes "--prefix" ∷ t ∷ codes "--most" ∷ d ∷ []) [] (after_option names_leaf (codes "most") d one) (option_map (names f t) (size_of (Some d))) p refl
-    (steps names_leaf (after_file names_leaf f) one (after_option names_leaf (codes "most") d one) (codes "--prefix" ∷ t ∷ []) (codes "--most" ∷ d ∷ [])
-    (option-steps names_leaf (after_file names_leaf f).held idle 2 (codes "--prefix") (codes "prefix") t q refl refl refl)
-    (option-steps names_leaf one.held idle 2 (codes "--most") (codes "most") d r refl refl refl)) refl refl refl
+names-asks f None None p q r = flagged names_leaf (asked_in (codes "names")) f [] (listed f None None) p refl refl refl refl
+names-asks f (Some t) None p q r = behind names_leaf (asked_in (codes "names")) f (codes "--prefix" ∷ t ∷ []) [] (with_option names_leaf f (codes "prefix") t) (listed f (Some t) None) p refl
+    (prefix-steps f t q) refl refl refl
+names-asks f None (Some d) p q r = behind names_leaf (asked_in (codes "names")) f (codes "--most" ∷ d ∷ []) [] (with_option names_leaf f (codes "most") d) (listed f None (Some d)) p refl
+    (option-steps names_leaf (after_file names_leaf f).held idle 2 (codes "--most") (codes "most") d r refl refl refl) refl refl refl
+names-asks f (Some t) (Some d) p q r = behind names_leaf (asked_in (codes "names")) f (codes "--prefix" ∷ t ∷ codes "--most" ∷ d ∷ []) []
+    (after_option names_leaf (codes "most") d (with_option names_leaf f (codes "prefix") t)) (listed f (Some t) (Some d)) p refl
+    (optioned names_leaf (after_file names_leaf f) (codes "--prefix" ∷ t ∷ []) (with_option names_leaf f (codes "prefix") t).held 2 (codes "--most") (codes "most") d r
+    (prefix-steps f t q) refl refl refl) refl refl refl
 
 -- ---- a run
 
@@ -268,116 +331,157 @@ truth_word true = codes "true"
 truth_word false = codes "false"
 
 -- what the words of a run of standard input say
-abbrev pub said : Text → Option Text → Option Text → Saving → Bool → Bool → RunWords
-said f mode size saving strict numbered = record {
+abbrev pub said : Text → Option Text → Option Text → Option Text → Saving → Bool → Bool → RunWords
+said f mode size wait saving strict numbered = record {
   file = Some f;
   mode = mode;
   size = size;
   script = None;
   lines = [];
   replace = Some (saving_word saving);
-  wait = None;
+  wait = wait;
   strict = Some (truth_word strict);
   numbered = Some (truth_word numbered);
 }
 
--- the flags of a run behind a place
-record IsFlagged (words : List Text) (to : Walk) (said' : Saving → Bool → Bool → RunWords) (saving : Saving) (strict numbered : Bool) : Type 0 where
-  words_pass : walk_passes run_leaf [] to (flag_words saving strict numbered) ≡ true
-  found : run_words (finished run_leaf.rules (fold (walked run_leaf.rules []) to (flag_words saving strict numbered)).held) ≡ said' saving strict numbered
-  passes : passes_at run_leaf true (fold (walked run_leaf.rules []) to (flag_words saving strict numbered)) ≡ true
+-- a place, with the flags of a run behind it
+abbrev IsFlagged : Walk → (Saving → Bool → Bool → RunWords) → Saving → Bool → Bool → Type 0
+IsFlagged to a saving strict numbered = (walk_passes run_leaf [] to (flag_words saving strict numbered) ≡ true)
+    × (run_words (finished run_leaf.rules (fold (walked run_leaf.rules []) to (flag_words saving strict numbered)).held) ≡ a saving strict numbered)
+    × (passes_at run_leaf true (fold (walked run_leaf.rules []) to (flag_words saving strict numbered)) ≡ true)
 
-run-behind : (f : Text) (words : List Text) (to : Walk) (said' : Saving → Bool → Bool → RunWords) (saving : Saving) (strict numbered : Bool) → IsPlain f
-    → IsSteps run_leaf (after_file run_leaf f) words to → IsFlagged words to said' saving strict numbered
-    → IsAsk run_leaf run_words (f ∷ words ++ flag_words saving strict numbered) (said' saving strict numbered)
-run-behind f words to said' saving strict numbered p w h =
-    behind run_leaf run_words f words (flag_words saving strict numbered) to (said' saving strict numbered) p refl w h.words_pass h.found h.passes
+all-flags : (P : Saving → Bool → Bool → Type 0) → P InPlace false false → P InPlace false true → P InPlace true false → P InPlace true true
+    → P Replacing false false → P Replacing false true → P Replacing true false → P Replacing true true → (saving : Saving) (strict numbered : Bool) → P saving strict numbered
+all-flags P a b c d e f g h InPlace false false = a
+all-flags P a b c d e f g h InPlace false true = b
+all-flags P a b c d e f g h InPlace true false = c
+all-flags P a b c d e f g h InPlace true true = d
+all-flags P a b c d e f g h Replacing false false = e
+all-flags P a b c d e f g h Replacing false true = f
+all-flags P a b c d e f g h Replacing true false = g
+all-flags P a b c d e f g h Replacing true true = h
 
-file-flagged : (f : Text) (saving : Saving) (strict numbered : Bool) → IsFlagged [] (after_file run_leaf f) (said f None None) saving strict numbered
-unfolding clap_on_literals
-file-flagged f InPlace false false = record { words_pass = refl; found = refl; passes = refl }
-file-flagged f InPlace false true = record { words_pass = refl; found = refl; passes = refl }
-file-flagged f InPlace true false = record { words_pass = refl; found = refl; passes = refl }
-file-flagged f InPlace true true = record { words_pass = refl; found = refl; passes = refl }
-file-flagged f Replacing false false = record { words_pass = refl; found = refl; passes = refl }
-file-flagged f Replacing false true = record { words_pass = refl; found = refl; passes = refl }
-file-flagged f Replacing true false = record { words_pass = refl; found = refl; passes = refl }
-file-flagged f Replacing true true = record { words_pass = refl; found = refl; passes = refl }
+-- words that lead from the file of a run to a place, and there say this beside its flags
+record IsRunPart (f : Text) (words : List Text) (to : Walk) (a : Saving → Bool → Bool → RunWords) : Type 0 where
+  path : IsSteps run_leaf (after_file run_leaf f) words to
+  flagged : (saving : Saving) (strict numbered : Bool) → IsFlagged to a saving strict numbered
 
-mode-flagged : (f m : Text) (saving : Saving) (strict numbered : Bool) → IsFlagged (codes "--mode" ∷ m ∷ []) (with_option run_leaf f (codes "mode") m) (said f (Some m) None) saving strict numbered
-unfolding clap_on_literals
-mode-flagged f m InPlace false false = record { words_pass = refl; found = refl; passes = refl }
-mode-flagged f m InPlace false true = record { words_pass = refl; found = refl; passes = refl }
-mode-flagged f m InPlace true false = record { words_pass = refl; found = refl; passes = refl }
-mode-flagged f m InPlace true true = record { words_pass = refl; found = refl; passes = refl }
-mode-flagged f m Replacing false false = record { words_pass = refl; found = refl; passes = refl }
-mode-flagged f m Replacing false true = record { words_pass = refl; found = refl; passes = refl }
-mode-flagged f m Replacing true false = record { words_pass = refl; found = refl; passes = refl }
-mode-flagged f m Replacing true true = record { words_pass = refl; found = refl; passes = refl }
+run-flagged : (f : Text) (words : List Text) (to : Walk) (a : Saving → Bool → Bool → RunWords) → IsPlain f → IsRunPart f words to a → (saving : Saving) (strict numbered : Bool)
+    → IsAsk run_leaf run_words (f ∷ words ++ flag_words saving strict numbered) (a saving strict numbered)
+run-flagged f words to a p w saving strict numbered =
+    let h = w.flagged saving strict numbered in
+    behind run_leaf run_words f words (flag_words saving strict numbered) to (a saving strict numbered) p refl w.path h.0 h.1 h.2
 
-size-flagged : (f d : Text) (saving : Saving) (strict numbered : Bool) → IsFlagged (codes "--size" ∷ d ∷ []) (with_option run_leaf f (codes "size") d) (said f None (Some d)) saving strict numbered
-unfolding clap_on_literals
-size-flagged f d InPlace false false = record { words_pass = refl; found = refl; passes = refl }
-size-flagged f d InPlace false true = record { words_pass = refl; found = refl; passes = refl }
-size-flagged f d InPlace true false = record { words_pass = refl; found = refl; passes = refl }
-size-flagged f d InPlace true true = record { words_pass = refl; found = refl; passes = refl }
-size-flagged f d Replacing false false = record { words_pass = refl; found = refl; passes = refl }
-size-flagged f d Replacing false true = record { words_pass = refl; found = refl; passes = refl }
-size-flagged f d Replacing true false = record { words_pass = refl; found = refl; passes = refl }
-size-flagged f d Replacing true true = record { words_pass = refl; found = refl; passes = refl }
+-- `--mode M` and `--size N` right behind the file, and both
+abbrev at_mode : Text → Text → Walk
+at_mode f m = with_option run_leaf f (codes "mode") m
 
-both-flagged : (f m d : Text) (saving : Saving) (strict numbered : Bool)
-    → IsFlagged (codes "--mode" ∷ m ∷ codes "--size" ∷ d ∷ []) (after_option run_leaf (codes "size") d (with_option run_leaf f (codes "mode") m)) (said f (Some m) (Some d)) saving strict numbered
-unfolding clap_on_literals
-both-flagged f m d InPlace false false = record { words_pass = refl; found = refl; passes = refl }
-both-flagged f m d InPlace false true = record { words_pass = refl; found = refl; passes = refl }
-both-flagged f m d InPlace true false = record { words_pass = refl; found = refl; passes = refl }
-both-flagged f m d InPlace true true = record { words_pass = refl; found = refl; passes = refl }
-both-flagged f m d Replacing false false = record { words_pass = refl; found = refl; passes = refl }
-both-flagged f m d Replacing false true = record { words_pass = refl; found = refl; passes = refl }
-both-flagged f m d Replacing true false = record { words_pass = refl; found = refl; passes = refl }
-both-flagged f m d Replacing true true = record { words_pass = refl; found = refl; passes = refl }
+abbrev at_size : Text → Text → Walk
+at_size f d = with_option run_leaf f (codes "size") d
 
-mode-steps : (f m : Text) → IsPlain m → IsSteps run_leaf (after_file run_leaf f) (codes "--mode" ∷ m ∷ []) (with_option run_leaf f (codes "mode") m)
+abbrev at_both : Text → Text → Text → Walk
+at_both f m d = after_option run_leaf (codes "size") d (at_mode f m)
+
+mode-steps : (f m : Text) → IsPlain m → IsSteps run_leaf (after_file run_leaf f) (codes "--mode" ∷ m ∷ []) (at_mode f m)
 unfolding clap_on_literals
 mode-steps f m q = option-steps run_leaf (after_file run_leaf f).held idle 2 (codes "--mode") (codes "mode") m q refl refl refl
 
-run-size-steps : (f d : Text) → IsPlain d → IsSteps run_leaf (after_file run_leaf f) (codes "--size" ∷ d ∷ []) (with_option run_leaf f (codes "size") d)
+run-size-steps : (f d : Text) → IsPlain d → IsSteps run_leaf (after_file run_leaf f) (codes "--size" ∷ d ∷ []) (at_size f d)
 unfolding clap_on_literals
 run-size-steps f d q = option-steps run_leaf (after_file run_leaf f).held idle 2 (codes "--size") (codes "size") d q refl refl refl
 
-both-steps : (f m d : Text) → IsPlain m → IsPlain d
-    → IsSteps run_leaf (after_file run_leaf f) (codes "--mode" ∷ m ∷ codes "--size" ∷ d ∷ []) (after_option run_leaf (codes "size") d (with_option run_leaf f (codes "mode") m))
+both-steps : (f m d : Text) → IsPlain m → IsPlain d → IsSteps run_leaf (after_file run_leaf f) (codes "--mode" ∷ m ∷ codes "--size" ∷ d ∷ []) (at_both f m d)
 unfolding clap_on_literals
-both-steps f m d q r =
-    let one : Walk = with_option run_leaf f (codes "mode") m in
-    steps run_leaf (after_file run_leaf f) one (after_option run_leaf (codes "size") d one) (codes "--mode" ∷ m ∷ []) (codes "--size" ∷ d ∷ []) (mode-steps f m q)
-    (option-steps run_leaf one.held idle 2 (codes "--size") (codes "size") d r refl refl refl)
+both-steps f m d q r = optioned run_leaf (after_file run_leaf f) (codes "--mode" ∷ m ∷ []) (at_mode f m).held 2 (codes "--size") (codes "size") d r (mode-steps f m q) refl refl refl
 
-pub run-file : (f : Text) (saving : Saving) (strict numbered : Bool) → IsPlain f → IsAsk run_leaf run_words (f ∷ flag_words saving strict numbered) (said f None None saving strict numbered)
-unfolding walk_passes
-run-file f saving strict numbered p = run-behind f [] (after_file run_leaf f) (said f None None) saving strict numbered p
-    (record { walk = refl; passes = refl }) (file-flagged f saving strict numbered)
+file-part : (f : Text) → IsRunPart f [] (after_file run_leaf f) (said f None None None)
+unfolding clap_on_literals
+file-part f = record {
+  path = record { walk = refl; passes = refl };
+  flagged = all-flags (IsFlagged (after_file run_leaf f) (said f None None None))
+      (refl, refl, refl) (refl, refl, refl) (refl, refl, refl) (refl, refl, refl)
+      (refl, refl, refl) (refl, refl, refl) (refl, refl, refl) (refl, refl, refl);
+}
 
-pub run-mode : (f m : Text) (saving : Saving) (strict numbered : Bool) → IsPlain f → IsPlain m
-    → IsAsk run_leaf run_words (f ∷ codes "--mode" ∷ m ∷ flag_words saving strict numbered) (said f (Some m) None saving strict numbered)
-run-mode f m saving strict numbered p q = run-behind f (codes "--mode" ∷ m ∷ []) (with_option run_leaf f (codes "mode") m) (said f (Some m) None) saving strict numbered p
-    (mode-steps f m q) (mode-flagged f m saving strict numbered)
+mode-part : (f m : Text) → IsPlain m → IsRunPart f (codes "--mode" ∷ m ∷ []) (at_mode f m) (said f (Some m) None None)
+unfolding clap_on_literals
+mode-part f m q = record {
+  path = mode-steps f m q;
+  flagged = all-flags (IsFlagged (at_mode f m) (said f (Some m) None None))
+      (refl, refl, refl) (refl, refl, refl) (refl, refl, refl) (refl, refl, refl)
+      (refl, refl, refl) (refl, refl, refl) (refl, refl, refl) (refl, refl, refl);
+}
 
-pub run-size : (f d : Text) (saving : Saving) (strict numbered : Bool) → IsPlain f → IsPlain d
-    → IsAsk run_leaf run_words (f ∷ codes "--size" ∷ d ∷ flag_words saving strict numbered) (said f None (Some d) saving strict numbered)
-run-size f d saving strict numbered p q = run-behind f (codes "--size" ∷ d ∷ []) (with_option run_leaf f (codes "size") d) (said f None (Some d)) saving strict numbered p
-    (run-size-steps f d q) (size-flagged f d saving strict numbered)
+size-part : (f d : Text) → IsPlain d → IsRunPart f (codes "--size" ∷ d ∷ []) (at_size f d) (said f None (Some d) None)
+unfolding clap_on_literals
+size-part f d q = record {
+  path = run-size-steps f d q;
+  flagged = all-flags (IsFlagged (at_size f d) (said f None (Some d) None))
+      (refl, refl, refl) (refl, refl, refl) (refl, refl, refl) (refl, refl, refl)
+      (refl, refl, refl) (refl, refl, refl) (refl, refl, refl) (refl, refl, refl);
+}
 
-pub run-both : (f m d : Text) (saving : Saving) (strict numbered : Bool) → IsPlain f → IsPlain m → IsPlain d
-    → IsAsk run_leaf run_words (f ∷ codes "--mode" ∷ m ∷ codes "--size" ∷ d ∷ flag_words saving strict numbered) (said f (Some m) (Some d) saving strict numbered)
-run-both f m d saving strict numbered p q r = run-behind f (codes "--mode" ∷ m ∷ codes "--size" ∷ d ∷ []) (after_option run_leaf (codes "size") d (with_option run_leaf f (codes "mode") m))
-    (said f (Some m) (Some d)) saving strict numbered p (both-steps f m d q r) (both-flagged f m d saving strict numbered)
+both-part : (f m d : Text) → IsPlain m → IsPlain d → IsRunPart f (codes "--mode" ∷ m ∷ codes "--size" ∷ d ∷ []) (at_both f m d) (said f (Some m) (Some d) None)
+unfolding clap_on_literals
+both-part f m d q r = record {
+  path = both-steps f m d q r;
+  flagged = all-flags (IsFlagged (at_both f m d) (said f (Some m) (Some d) None))
+      (refl, refl, refl) (refl, refl, refl) (refl, refl, refl) (refl, refl, refl)
+      (refl, refl, refl) (refl, refl, refl) (refl, refl, refl) (refl, refl, refl);
+}
+
+wait-part : (f w : Text) → IsPlain w → IsRunPart f (codes "--wait" ∷ w ∷ []) (with_option run_leaf f (codes "wait") w) (said f None None (Some w))
+unfolding clap_on_literals
+wait-part f w q = record {
+  path = option-steps run_leaf (after_file run_leaf f).held idle 2 (codes "--wait") (codes "wait") w q refl refl refl;
+  flagged = all-flags (IsFlagged (with_option run_leaf f (codes "wait") w) (said f None None (Some w)))
+      (refl, refl, refl) (refl, refl, refl) (refl, refl, refl) (refl, refl, refl)
+      (refl, refl, refl) (refl, refl, refl) (refl, refl, refl) (refl, refl, refl);
+}
+
+mode-wait-part : (f m w : Text) → IsPlain m → IsPlain w → IsRunPart f (codes "--mode" ∷ m ∷ codes "--wait" ∷ w ∷ []) (after_option run_leaf (codes "wait") w (at_mode f m)) (said f (Some m) None (Some w))
+unfolding clap_on_literals
+mode-wait-part f m w q r = record {
+  path = optioned run_leaf (after_file run_leaf f) (codes "--mode" ∷ m ∷ []) (at_mode f m).held 2 (codes "--wait") (codes "wait") w r (mode-steps f m q) refl refl refl;
+  flagged = all-flags (IsFlagged (after_option run_leaf (codes "wait") w (at_mode f m)) (said f (Some m) None (Some w)))
+      (refl, refl, refl) (refl, refl, refl) (refl, refl, refl) (refl, refl, refl)
+      (refl, refl, refl) (refl, refl, refl) (refl, refl, refl) (refl, refl, refl);
+}
+
+size-wait-part : (f d w : Text) → IsPlain d → IsPlain w → IsRunPart f (codes "--size" ∷ d ∷ codes "--wait" ∷ w ∷ []) (after_option run_leaf (codes "wait") w (at_size f d)) (said f None (Some d) (Some w))
+unfolding clap_on_literals
+size-wait-part f d w q r = record {
+  path = optioned run_leaf (after_file run_leaf f) (codes "--size" ∷ d ∷ []) (at_size f d).held 2 (codes "--wait") (codes "wait") w r (run-size-steps f d q) refl refl refl;
+  flagged = all-flags (IsFlagged (after_option run_leaf (codes "wait") w (at_size f d)) (said f None (Some d) (Some w)))
+      (refl, refl, refl) (refl, refl, refl) (refl, refl, refl) (refl, refl, refl)
+      (refl, refl, refl) (refl, refl, refl) (refl, refl, refl) (refl, refl, refl);
+}
+
+all-part : (f m d w : Text) → IsPlain m → IsPlain d → IsPlain w → IsRunPart f (codes "--mode" ∷ m ∷ codes "--size" ∷ d ∷ codes "--wait" ∷ w ∷ []) (after_option run_leaf (codes "wait") w (at_both f m d)) (said f (Some m) (Some d) (Some w))
+unfolding clap_on_literals
+all-part f m d w q r t = record {
+  path = optioned run_leaf (after_file run_leaf f) (codes "--mode" ∷ m ∷ codes "--size" ∷ d ∷ []) (at_both f m d).held 2 (codes "--wait") (codes "wait") w t (both-steps f m d q r) refl refl refl;
+  flagged = all-flags (IsFlagged (after_option run_leaf (codes "wait") w (at_both f m d)) (said f (Some m) (Some d) (Some w)))
+      (refl, refl, refl) (refl, refl, refl) (refl, refl, refl) (refl, refl, refl)
+      (refl, refl, refl) (refl, refl, refl) (refl, refl, refl) (refl, refl, refl);
+}
+
+pub run-asks : (f : Text) (mode size wait : Option Text) (saving : Saving) (strict numbered : Bool) → IsPlain f → IsPlainIn mode → IsPlainIn size → IsPlainIn wait
+    → IsAsk run_leaf run_words (f ∷ option_words (codes "--mode") mode ++ (option_words (codes "--size") size ++ (option_words (codes "--wait") wait ++ flag_words saving strict numbered)))
+    (said f mode size wait saving strict numbered)
+run-asks f None None None saving strict numbered p q r t = run-flagged _ _ _ _ p (file-part f) saving strict numbered
+run-asks f (Some m) None None saving strict numbered p q r t = run-flagged _ _ _ _ p (mode-part f m q) saving strict numbered
+run-asks f None (Some d) None saving strict numbered p q r t = run-flagged _ _ _ _ p (size-part f d r) saving strict numbered
+run-asks f (Some m) (Some d) None saving strict numbered p q r t = run-flagged _ _ _ _ p (both-part f m d q r) saving strict numbered
+run-asks f None None (Some w) saving strict numbered p q r t = run-flagged _ _ _ _ p (wait-part f w t) saving strict numbered
+run-asks f (Some m) None (Some w) saving strict numbered p q r t = run-flagged _ _ _ _ p (mode-wait-part f m w q t) saving strict numbered
+run-asks f None (Some d) (Some w) saving strict numbered p q r t = run-flagged _ _ _ _ p (size-wait-part f d w r t) saving strict numbered
+run-asks f (Some m) (Some d) (Some w) saving strict numbered p q r t = run-flagged _ _ _ _ p (all-part f m d w q r t) saving strict numbered
 
 -- ---- a run whose script is a file, or lines
 
 abbrev pub said_with : Text → Option Text → List Text → RunWords
-said_with f script lines = record (said f None None InPlace false false) { script = script; lines = lines }
+said_with f script lines = record (said f None None None InPlace false false) { script = script; lines = lines }
 
 pub script-asks : (f t : Text) → IsPlain f → IsPlain t → IsAsk run_leaf run_words (f ∷ t ∷ []) (said_with f (Some t) [])
 unfolding clap_on_literals

@@ -16,9 +16,13 @@ use Rattle.clap.specs.declared.error.kind.ErrorKind.TheVariants.{DisplayVersion}
 use Rattle.clap.specs.declared.builder.action.ArgAction.TheVariants.{Append, Set, SetTrue}
 use Rattle.segment_lang.specs.Words.{number_of}
 use Rattle.segment_invocation.specs.declared.invocations.Invocation.{Invocation}
-use Rattle.segment_invocation.specs.declared.invocations.Invocation.TheVariants.{Create, Run, RunWith, Check, CheckAll, Explain, Grow, GrowWith, Shrink, ShrinkWith, Migrate, MigrateWith, Stat, Draw, DrawPage, Dump, DumpCapacities, DumpJson, Names, Load, Lint, Language, Version}
+use Rattle.segment_invocation.specs.declared.invocations.Invocation.TheVariants.{Create, Run, RunWith, Check, CheckAll, Explain, Grow, Shrink, Migrate, ChangeWith, Tell, Names, Load, Lint, Language, Version}
+use Rattle.segment_invocation.specs.declared.invocations.Change.{Change}
+use Rattle.segment_invocation.specs.declared.invocations.Change.TheVariants as change
 use Rattle.segment_invocation.specs.declared.invocations.ModeName.{ModeName}
 use Rattle.segment_invocation.specs.declared.invocations.ModeName.TheVariants.{CreateOnly, OpenOnly, OpenOrCreate, OpenReadOnly, OpenCopyOnWrite}
+use Rattle.segment_invocation.specs.declared.invocations.Report.{Report}
+use Rattle.segment_invocation.specs.declared.invocations.Report.TheVariants.{Figures, Picture, Page, Dump, Capacities, Json}
 use Rattle.segment_invocation.specs.declared.invocations.Saving.{Saving}
 use Rattle.segment_invocation.specs.declared.invocations.Saving.TheVariants.{InPlace, Replacing}
 use Rattle.segment_invocation.specs.declared.invocations.Script.{Script}
@@ -124,17 +128,10 @@ pub data Asked : Type 0 where
   check_all : List Text → Bool → Asked
   explain : Text → Asked
   grow : Text → ℕ → Asked
-  grow_with : Text → ℕ → Saving → ℕ → Asked
   shrink : Text → Asked
-  shrink_with : Text → Saving → ℕ → Asked
   migrate : Text → Asked
-  migrate_with : Text → Saving → ℕ → Asked
-  stat : Text → Asked
-  draw : Text → Asked
-  draw_page : Text → Asked
-  dump : Text → Asked
-  dump_capacities : Text → Asked
-  dump_json : Text → Asked
+  change_with : Text → Change → Saving → ℕ → Asked
+  tell : Text → Report → Asked
   names : Text → Text → Option ℕ → Asked
   load : Text → Option ℕ → Saving → ℕ → Asked
   lint : Asked
@@ -158,17 +155,10 @@ asked_by (Check file) = check file.now
 asked_by (CheckAll files quiet) = check_all (map (λ s. s.now) files.items) quiet
 asked_by (Explain file) = explain file.now
 asked_by (Grow file bytes) = grow file.now bytes
-asked_by (GrowWith file bytes keeping) = grow_with file.now bytes keeping.saving keeping.wait
 asked_by (Shrink file) = shrink file.now
-asked_by (ShrinkWith file keeping) = shrink_with file.now keeping.saving keeping.wait
 asked_by (Migrate file) = migrate file.now
-asked_by (MigrateWith file keeping) = migrate_with file.now keeping.saving keeping.wait
-asked_by (Stat file) = stat file.now
-asked_by (Draw file) = draw file.now
-asked_by (DrawPage file) = draw_page file.now
-asked_by (Dump file) = dump file.now
-asked_by (DumpCapacities file) = dump_capacities file.now
-asked_by (DumpJson file) = dump_json file.now
+asked_by (ChangeWith file change keeping) = change_with file.now change keeping.saving keeping.wait
+asked_by (Tell file what) = tell file.now what
 asked_by (Names file prefix most) = names file.now prefix.now most
 asked_by (Load file size keeping) = load file.now size keeping.saving keeping.wait
 asked_by Lint = lint
@@ -207,15 +197,14 @@ abbrev pub size_of : Option Text → Option (Option ℕ)
 size_of None = Some None
 size_of (Some word) = option_map Some (number_of word)
 
--- how a run saves, by what stands for `--replace`
-abbrev pub saving_of : Option Text → Saving
-saving_of None = InPlace
-saving_of (Some word) = if bytes_eq word (codes "true") then Replacing else InPlace
-
 -- whether a flag stands there, by what stands for it
 abbrev pub is_set : Option Text → Bool
 is_set None = false
 is_set (Some word) = bytes_eq word (codes "true")
+
+-- how a file is saved, by what stands for `--replace`
+abbrev pub saving_of : Option Text → Saving
+saving_of word = if is_set word then Replacing else InPlace
 
 -- for how many seconds a file is waited for, by what stands for `--wait`
 abbrev pub seconds_of : Option Text → Option ℕ
@@ -244,9 +233,14 @@ ran file mode size origin saving wait strict numbered =
     if is_plain_run origin saving wait strict numbered then run file mode size
     else run_with file mode size origin saving wait strict numbered
 
--- another command, with its options where there are some
-abbrev pub kept_as : Asked → (Saving → ℕ → Asked) → Saving → ℕ → Asked
-kept_as plain with saving wait = if is_plain saving wait then plain else with saving wait
+-- a change without options, and one with its options where there are some
+abbrev pub plain_change : Text → Change → Asked
+plain_change file (change.Grow bytes) = grow file bytes
+plain_change file change.Shrink = shrink file
+plain_change file change.Migrate = migrate file
+
+abbrev pub asked_change : Text → Change → Saving → ℕ → Asked
+asked_change file change saving wait = if is_plain saving wait then plain_change file change else change_with file change saving wait
 
 -- the values of a word that may stand there more than once
 abbrev pub list_of : Text → List Row → List Text
@@ -263,11 +257,11 @@ with_number ask words = with_file (λ file. option_and_then (ask file) (option_a
 abbrev pub with_kept : (Saving → ℕ → Asked) → List Row → Option Asked
 with_kept ask words = option_map (ask (saving_of (first_of (codes "replace") words))) (seconds_of (first_of (codes "wait") words))
 
-abbrev pub asked_kept : (Text → Asked) → (Text → Saving → ℕ → Asked) → List Row → Option Asked
-asked_kept plain with words = with_file (λ file. with_kept (kept_as (plain file) (with file)) words) words
+abbrev pub asked_kept : Change → List Row → Option Asked
+asked_kept change words = with_file (λ file. with_kept (asked_change file change) words) words
 
 abbrev pub asked_grow : List Row → Option Asked
-asked_grow words = with_number (λ file n. with_kept (kept_as (grow file n) (grow_with file n)) words) words
+asked_grow words = with_number (λ file n. with_kept (asked_change file (change.Grow n)) words) words
 
 -- a check of these files, the first of which this is, and its flags --explain and --quiet: one file alone is explained
 abbrev pub checked_of : Text → List Text → Bool → Bool → Option Asked
@@ -282,11 +276,11 @@ asked_check words = with_file (λ file. checked_of file (list_of (codes "file") 
 
 -- a picture's file, and its flag --html
 abbrev pub asked_draw : List Row → Option Asked
-asked_draw words = with_file (λ file. Some (if is_set (first_of (codes "html") words) then draw_page file else draw file)) words
+asked_draw words = with_file (λ file. Some (tell file (if is_set (first_of (codes "html") words) then Page else Picture))) words
 
 -- a dump's file, and its flags --json and --capacities
 abbrev pub asked_dump : List Row → Option Asked
-asked_dump words = with_file (λ file. Some (if is_set (first_of (codes "json") words) then dump_json file else if is_set (first_of (codes "capacities") words) then dump_capacities file else dump file)) words
+asked_dump words = with_file (λ file. Some (tell file (if is_set (first_of (codes "json") words) then Json else if is_set (first_of (codes "capacities") words) then Capacities else Dump))) words
 
 -- the file of names, what they begin with, and how many there are at most
 abbrev pub asked_names : List Row → Option Asked
@@ -346,9 +340,9 @@ asked_in subcommand words =
     else if bytes_eq subcommand (codes "run") then asked_run words
     else if bytes_eq subcommand (codes "check") then asked_check words
     else if bytes_eq subcommand (codes "grow") then asked_grow words
-    else if bytes_eq subcommand (codes "shrink") then asked_kept shrink shrink_with words
-    else if bytes_eq subcommand (codes "migrate") then asked_kept migrate migrate_with words
-    else if bytes_eq subcommand (codes "stat") then with_file (λ file. Some (stat file)) words
+    else if bytes_eq subcommand (codes "shrink") then asked_kept change.Shrink words
+    else if bytes_eq subcommand (codes "migrate") then asked_kept change.Migrate words
+    else if bytes_eq subcommand (codes "stat") then with_file (λ file. Some (tell file Figures)) words
     else if bytes_eq subcommand (codes "draw") then asked_draw words
     else if bytes_eq subcommand (codes "dump") then asked_dump words
     else if bytes_eq subcommand (codes "names") then asked_names words
@@ -447,14 +441,18 @@ is_path (c ∷ cs) = not (c == 45)
 abbrev pub IsModePart : List Text → ModeName → Type 0
 IsModePart words mode = (words ≡ codes "--mode" ∷ mode_word mode ∷ []) ⊎ ((words ≡ []) × (mode ≡ OpenOnly))
 
--- `--size N`
-abbrev pub IsSized : List Text → ℕ → Type 0
-IsSized words size = (digits : Text) × (number_of digits ≡ Some size) × (words ≡ codes "--size" ∷ digits ∷ [])
+-- `NAME N`, which may be left out
+abbrev pub IsNumberPart : Text → List Text → Option ℕ → Type 0
+IsNumberPart name words None = words ≡ []
+IsNumberPart name words (Some n) = (digits : Text) × (number_of digits ≡ Some n) × (words ≡ name ∷ digits ∷ [])
 
--- the same, which may be left out where the mode wants none
+-- `--size N`, which may be left out where the mode wants none
 abbrev pub IsSizePart : List Text → ModeName → Option ℕ → Type 0
-IsSizePart words mode None = (words ≡ []) × (wants_size mode ≡ false)
-IsSizePart words mode (Some size) = IsSized words size
+IsSizePart words mode size = IsNumberPart (codes "--size") words size × (lacks_size mode size ≡ false)
+
+-- `--wait N`, which may be left out for no time
+abbrev pub IsWaitPart : List Text → ℕ → Type 0
+IsWaitPart words wait = (seconds : Option ℕ) × IsNumberPart (codes "--wait") words seconds × (wait ≡ unwrap_or seconds 0)
 
 -- `--replace`, which is left out where the file is emptied
 abbrev pub saving_part : Saving → List Text
@@ -486,44 +484,51 @@ abbrev pub IsPart : Text → List Text → Text → Type 0
 IsPart name words [] = words ≡ []
 IsPart name words (c ∷ cs) = IsTrue (is_path (c ∷ cs)) × (words ≡ name ∷ (c ∷ cs) ∷ [])
 
--- `--most N`, which may be left out
-abbrev pub IsMostPart : List Text → Option ℕ → Type 0
-IsMostPart words None = words ≡ []
-IsMostPart words (Some most) = (digits : Text) × (number_of digits ≡ Some most) × (words ≡ codes "--most" ∷ digits ∷ [])
-
 -- a run, with its script from standard input, or else with no other word than the script
-abbrev pub IsRunWritten : Text → ModeName → Option ℕ → Origin → Saving → Bool → Bool → List Text → Type 0
-IsRunWritten file mode size input saving strict numbered words = (modes : List Text) × (sizes : List Text) × IsModePart modes mode × IsSizePart sizes mode size
-    × (words ≡ codes "run" ∷ file ∷ modes ++ (sizes ++ flag_words saving strict numbered))
-IsRunWritten file mode size origin saving strict numbered words = (origins : List Text) × IsOriginPart origins origin
-    × (mode ≡ OpenOnly) × (size ≡ None) × (saving ≡ InPlace) × (strict ≡ false) × (numbered ≡ false) × (words ≡ codes "run" ∷ file ∷ origins)
+abbrev pub IsRunWritten : Text → ModeName → Option ℕ → Origin → Saving → ℕ → Bool → Bool → List Text → Type 0
+IsRunWritten file mode size input saving wait strict numbered words = (modes : List Text) × (sizes : List Text) × (waits : List Text)
+    × IsModePart modes mode × IsSizePart sizes mode size × IsWaitPart waits wait
+    × (words ≡ codes "run" ∷ file ∷ modes ++ (sizes ++ (waits ++ flag_words saving strict numbered)))
+IsRunWritten file mode size origin saving wait strict numbered words = (origins : List Text) × IsOriginPart origins origin
+    × (mode ≡ OpenOnly) × (size ≡ None) × (saving ≡ InPlace) × (wait ≡ 0) × (strict ≡ false) × (numbered ≡ false) × (words ≡ codes "run" ∷ file ∷ origins)
+
+-- a change and its file, and behind them its options
+abbrev pub IsChangePart : List Text → Text → Change → Type 0
+IsChangePart words file (change.Grow bytes) = (digits : Text) × (number_of digits ≡ Some bytes) × (words ≡ codes "grow" ∷ file ∷ digits ∷ [])
+IsChangePart words file change.Shrink = words ≡ codes "shrink" ∷ file ∷ []
+IsChangePart words file change.Migrate = words ≡ codes "migrate" ∷ file ∷ []
+
+abbrev pub IsChangeWritten : Text → Change → Saving → ℕ → List Text → Type 0
+IsChangeWritten file change saving wait words = IsTrue (is_path file) × (changes : List Text) × (waits : List Text)
+    × IsChangePart changes file change × IsWaitPart waits wait × (words ≡ changes ++ (waits ++ saving_part saving))
+
+-- what is told of a file: the command, and its flag
+abbrev pub report_words : Report → Text → List Text
+report_words Figures file = codes "stat" ∷ file ∷ []
+report_words Picture file = codes "draw" ∷ file ∷ []
+report_words Page file = codes "draw" ∷ file ∷ codes "--html" ∷ []
+report_words Dump file = codes "dump" ∷ file ∷ []
+report_words Capacities file = codes "dump" ∷ file ∷ codes "--capacities" ∷ []
+report_words Json file = codes "dump" ∷ file ∷ codes "--json" ∷ []
 
 -- the words behind the program's name say what is asked for
 abbrev pub IsWritten : Asked → List Text → Type 0
 IsWritten (create file size) words = IsTrue (is_path file) × (digits : Text) × (number_of digits ≡ Some size) × (words ≡ codes "create" ∷ file ∷ digits ∷ [])
-IsWritten (run file mode size) words = IsTrue (is_path file) × IsRunWritten file mode size input InPlace false false words
-IsWritten (run_with file mode size origin saving wait strict numbered) words = IsTrue (is_path file) × (wait ≡ 0) × (is_plain_run origin saving 0 strict numbered ≡ false)
-    × IsRunWritten file mode size origin saving strict numbered words
+IsWritten (run file mode size) words = IsTrue (is_path file) × IsRunWritten file mode size input InPlace 0 false false words
+IsWritten (run_with file mode size origin saving wait strict numbered) words = IsTrue (is_path file) × (is_plain_run origin saving wait strict numbered ≡ false)
+    × IsRunWritten file mode size origin saving wait strict numbered words
 IsWritten (check file) words = IsTrue (is_path file) × (words ≡ codes "check" ∷ file ∷ [])
 IsWritten (check_all files quiet) words = (file : Text) × IsTrue (is_path file) × (files ≡ file ∷ []) × (quiet ≡ true) × (words ≡ codes "check" ∷ file ∷ codes "--quiet" ∷ [])
 IsWritten (explain file) words = IsTrue (is_path file) × (words ≡ codes "check" ∷ file ∷ codes "--explain" ∷ [])
-IsWritten (grow file bytes) words = IsTrue (is_path file) × (digits : Text) × (number_of digits ≡ Some bytes) × (words ≡ codes "grow" ∷ file ∷ digits ∷ [])
-IsWritten (grow_with file bytes saving wait) words = IsTrue (is_path file) × (wait ≡ 0) × (saving ≡ Replacing) × (digits : Text) × (number_of digits ≡ Some bytes)
-    × (words ≡ codes "grow" ∷ file ∷ digits ∷ codes "--replace" ∷ [])
-IsWritten (shrink file) words = IsTrue (is_path file) × (words ≡ codes "shrink" ∷ file ∷ [])
-IsWritten (shrink_with file saving wait) words = IsTrue (is_path file) × (wait ≡ 0) × (saving ≡ Replacing) × (words ≡ codes "shrink" ∷ file ∷ codes "--replace" ∷ [])
-IsWritten (migrate file) words = IsTrue (is_path file) × (words ≡ codes "migrate" ∷ file ∷ [])
-IsWritten (migrate_with file saving wait) words = IsTrue (is_path file) × (wait ≡ 0) × (saving ≡ Replacing) × (words ≡ codes "migrate" ∷ file ∷ codes "--replace" ∷ [])
-IsWritten (stat file) words = IsTrue (is_path file) × (words ≡ codes "stat" ∷ file ∷ [])
-IsWritten (draw file) words = IsTrue (is_path file) × (words ≡ codes "draw" ∷ file ∷ [])
-IsWritten (draw_page file) words = IsTrue (is_path file) × (words ≡ codes "draw" ∷ file ∷ codes "--html" ∷ [])
-IsWritten (dump file) words = IsTrue (is_path file) × (words ≡ codes "dump" ∷ file ∷ [])
-IsWritten (dump_capacities file) words = IsTrue (is_path file) × (words ≡ codes "dump" ∷ file ∷ codes "--capacities" ∷ [])
-IsWritten (dump_json file) words = IsTrue (is_path file) × (words ≡ codes "dump" ∷ file ∷ codes "--json" ∷ [])
-IsWritten (names file prefix most) words = IsTrue (is_path file) × (prefixes : List Text) × (mosts : List Text) × IsPart (codes "--prefix") prefixes prefix × IsMostPart mosts most
+IsWritten (grow file bytes) words = IsChangeWritten file (change.Grow bytes) InPlace 0 words
+IsWritten (shrink file) words = IsChangeWritten file change.Shrink InPlace 0 words
+IsWritten (migrate file) words = IsChangeWritten file change.Migrate InPlace 0 words
+IsWritten (change_with file change saving wait) words = (is_plain saving wait ≡ false) × IsChangeWritten file change saving wait words
+IsWritten (tell file what) words = IsTrue (is_path file) × (words ≡ report_words what file)
+IsWritten (names file prefix most) words = IsTrue (is_path file) × (prefixes : List Text) × (mosts : List Text) × IsPart (codes "--prefix") prefixes prefix × IsNumberPart (codes "--most") mosts most
     × (words ≡ codes "names" ∷ file ∷ prefixes ++ mosts)
-IsWritten (load file None saving wait) words = IsTrue (is_path file) × (wait ≡ 0) × (words ≡ codes "load" ∷ file ∷ saving_part saving)
-IsWritten (load file (Some size) saving wait) words = IsTrue (is_path file) × (wait ≡ 0) × (sizes : List Text) × IsSized sizes size × (words ≡ codes "load" ∷ file ∷ sizes ++ saving_part saving)
+IsWritten (load file size saving wait) words = IsTrue (is_path file) × (sizes : List Text) × (waits : List Text) × IsNumberPart (codes "--size") sizes size × IsWaitPart waits wait
+    × (words ≡ codes "load" ∷ file ∷ sizes ++ (waits ++ saving_part saving))
 IsWritten lint words = words ≡ codes "lint" ∷ []
 IsWritten language words = words ≡ codes "language" ∷ []
 IsWritten version words = words ≡ codes "--version" ∷ []

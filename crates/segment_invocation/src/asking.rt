@@ -7,13 +7,15 @@ ghost use Rattle.clap.specs.Values.{kind_of};
 ghost use Rattle.clap.specs.Walk.{first_of, rows_of};
 ghost use Rattle.clap.specs.declared.error.kind.ErrorKind.TheVariants.{DisplayVersion, OutOfMemory as NoMemory};
 ghost use Rattle.segment_lang.specs.Words.{number_of};
-ghost use Rattle.segment_invocation.specs.Invocations.{Asked, IsAskedBy, IsWritten, IsWrongBy, Reads, asked_by, asked_check, asked_grow, asked_in, asked_kept, asked_names, asked_run, is_set, list_of, many_files, migrate, migrate_with, mode_of, no_mode, no_number, origin_by, origin_of, run_words, saving_of, seconds_of, shrink, shrink_with, size_of, two_scripts, wrong_by, wrong_filed, wrong_in, wrong_run};
+ghost use Rattle.segment_invocation.specs.Invocations.{Asked, IsAskedBy, IsWritten, IsWrongBy, Reads, asked_by, asked_change, asked_check, asked_in, asked_run, is_set, list_of, many_files, mode_of, no_mode, no_number, origin_by, origin_of, run_words, saving_of, seconds_of, size_of, two_scripts, wrong_by, wrong_in, wrong_run};
 ghost use Rattle.segment_invocation.specs.declared.invocations.Invocation.TheVariants.{Version};
 ghost use Rattle.segment_invocation.specs.declared.usage.InvocationFault.TheVariants.{OutOfMemory, Usage};
 ghost use Rattle.segment_invocation.specs.declared.usage.UsageError.TheVariants.{Words};
 
 use crate::command_line::command_line;
-use crate::invocations::{Answering, Invocation, Keeping, ModeName, Running, Saving, Script};
+use crate::invocations::{
+    Answering, Change, Invocation, Keeping, ModeName, Report, Running, Saving, Script,
+};
 use crate::nearest::nearest_mode;
 use crate::usage::{InvocationFault, UsageError};
 use clap::error::ErrorKind;
@@ -39,20 +41,6 @@ fn texts_in<'a>(alloc: Global, words: &ArgMatches<'a>, id: &str) -> Result<Vec<&
     };
     texts.extend_from_slice(values)?;
     Ok(texts)
-}
-
-/// The number of a command.
-fn number_in(words: &ArgMatches<'_>) -> Result<u64, UsageError>
-    ensures read { Reads (option_and_then number_of (first_of (codes "number") (rows_of (found_of words.now)))) result }
-    ensures wrong { IfErr result (λ e. wrong_by e ≡ Some no_number) }
-{
-    match word_of(words, "number") {
-        Some(word) => match number_of(word.as_bytes()) {
-            Some(number) => Ok(number),
-            None => Err(UsageError::Number),
-        },
-        None => Err(UsageError::Number),
-    }
 }
 
 /// The mode of a run, `open_only` where none is named.
@@ -83,13 +71,15 @@ fn count_in(words: &ArgMatches<'_>, id: &str) -> Result<Option<u64>, UsageError>
     }
 }
 
-/// How a command saves.
-fn saving_in(words: &ArgMatches<'_>) -> Saving
-    ensures { result ≡ saving_of (first_of (codes "replace") (rows_of (found_of words.now))) }
+/// The number of a command.
+#[tactic(auto, using(crate::proofs::Filed::number_read, crate::proofs::Filed::no_number_read, crate::proofs::Filed::number_unread))]
+fn number_in(words: &ArgMatches<'_>) -> Result<u64, UsageError>
+    ensures read { Reads (option_and_then number_of (first_of (codes "number") (rows_of (found_of words.now)))) result }
+    ensures wrong { IfErr result (λ e. wrong_by e ≡ Some no_number) }
 {
-    match word_of(words, "replace") {
-        Some("true") => Saving::Replacing,
-        _ => Saving::InPlace,
+    match count_in(words, "number")? {
+        Some(number) => Ok(number),
+        None => Err(UsageError::Number),
     }
 }
 
@@ -107,11 +97,13 @@ fn keeping_in(words: &ArgMatches<'_>) -> Result<Keeping, UsageError>
         (λ e. seconds_of (first_of (codes "wait") (rows_of (found_of words.now))) ≡ None) }
     ensures wrong { IfErr result (λ e. wrong_by e ≡ Some no_number) }
 {
-    let wait = count_in(words, "wait")?;
-    Ok(Keeping {
-        saving: saving_in(words),
-        wait: wait.unwrap_or(0),
-    })
+    let wait = count_in(words, "wait")?.unwrap_or(0);
+    let saving = if is_set(words, "replace") {
+        Saving::Replacing
+    } else {
+        Saving::InPlace
+    };
+    Ok(Keeping { saving, wait })
 }
 
 /// Where the script of a run comes from, that has these lines on the command line.
@@ -126,17 +118,6 @@ fn script_in<'a>(words: &ArgMatches<'a>, lines: Vec<&'a str>) -> Result<Script<'
         Some(_) => Err(UsageError::Script),
         None if lines.is_empty() => Ok(Script::Input),
         None => Ok(Script::Lines(lines)),
-    }
-}
-
-/// How a run answers.
-fn answering_in(words: &ArgMatches<'_>) -> Answering
-    ensures strict { result.strict ≡ is_set (first_of (codes "strict") (rows_of (found_of words.now))) }
-    ensures numbered { result.numbered ≡ is_set (first_of (codes "numbered") (rows_of (found_of words.now))) }
-{
-    Answering {
-        strict: is_set(words, "strict"),
-        numbered: is_set(words, "numbered"),
     }
 }
 
@@ -162,7 +143,10 @@ fn read_run<'a>(
     let running = Running {
         script: script_in(words, lines)?,
         keeping,
-        answering: answering_in(words),
+        answering: Answering {
+            strict: is_set(words, "strict"),
+            numbered: is_set(words, "numbered"),
+        },
     };
     if running.is_plain() {
         return Ok(Invocation::Run(file, mode, size));
@@ -182,112 +166,24 @@ fn read_check<'a>(
         (λ e. asked_check (rows_of (found_of words.now)) ≡ None) }
     ensures wrong { IfErr result (λ e. wrong_by e ≡ Some many_files) }
 {
-    let explains = is_set(words, "explain");
-    let is_quiet = is_set(words, "quiet");
-    if files.len() > 1 {
-        if explains {
-            return Err(UsageError::Files);
-        }
-        return Ok(Invocation::CheckAll(files, is_quiet));
+    let are_many = files.len() > 1;
+    match (is_set(words, "explain"), is_set(words, "quiet")) {
+        (true, _) if are_many => Err(UsageError::Files),
+        (true, _) => Ok(Invocation::Explain(file)),
+        (false, false) if !are_many => Ok(Invocation::Check(file)),
+        (false, is_quiet) => Ok(Invocation::CheckAll(files, is_quiet)),
     }
-    if explains {
-        return Ok(Invocation::Explain(file));
-    }
-    if is_quiet {
-        return Ok(Invocation::CheckAll(files, true));
-    }
-    Ok(Invocation::Check(file))
 }
 
-/// What the words of the command `grow` ask for, of a file.
-fn read_grow<'a>(file: &'a str, words: &ArgMatches<'a>) -> Result<Invocation<'a>, UsageError>
-    requires { first_of (codes "file") (rows_of (found_of words.now)) ≡ Some file.now }
-    ensures read { MatchResult result (λ i. asked_grow (rows_of (found_of words.now)) ≡ Some (asked_by i))
-        (λ e. asked_grow (rows_of (found_of words.now)) ≡ None) }
-    ensures wrong { IfErr result (λ e. wrong_by e ≡ Some no_number) }
+/// A change of the segment in a file, with how that file is taken and saved where an option says so.
+fn change_of<'a>(file: &'a str, change: Change, keeping: Keeping) -> Invocation<'a>
+    ensures { asked_by result ≡ asked_change file.now change keeping.saving keeping.wait }
 {
-    let bytes = number_in(words)?;
-    let keeping = keeping_in(words)?;
-    if keeping.is_plain() {
-        return Ok(Invocation::Grow(file, bytes));
-    }
-    Ok(Invocation::GrowWith(file, bytes, keeping))
-}
-
-/// What the words of the command `shrink` ask for, of a file.
-fn read_shrink<'a>(file: &'a str, words: &ArgMatches<'a>) -> Result<Invocation<'a>, UsageError>
-    requires { first_of (codes "file") (rows_of (found_of words.now)) ≡ Some file.now }
-    ensures read { MatchResult result (λ i. asked_kept shrink shrink_with (rows_of (found_of words.now)) ≡ Some (asked_by i))
-        (λ e. asked_kept shrink shrink_with (rows_of (found_of words.now)) ≡ None) }
-    ensures wrong { IfErr result (λ e. wrong_by e ≡ Some no_number) }
-{
-    let keeping = keeping_in(words)?;
-    if keeping.is_plain() {
-        return Ok(Invocation::Shrink(file));
-    }
-    Ok(Invocation::ShrinkWith(file, keeping))
-}
-
-/// What the words of the command `migrate` ask for, of a file.
-fn read_migrate<'a>(file: &'a str, words: &ArgMatches<'a>) -> Result<Invocation<'a>, UsageError>
-    requires { first_of (codes "file") (rows_of (found_of words.now)) ≡ Some file.now }
-    ensures read { MatchResult result (λ i. asked_kept migrate migrate_with (rows_of (found_of words.now)) ≡ Some (asked_by i))
-        (λ e. asked_kept migrate migrate_with (rows_of (found_of words.now)) ≡ None) }
-    ensures wrong { IfErr result (λ e. wrong_by e ≡ Some no_number) }
-{
-    let keeping = keeping_in(words)?;
-    if keeping.is_plain() {
-        return Ok(Invocation::Migrate(file));
-    }
-    Ok(Invocation::MigrateWith(file, keeping))
-}
-
-/// What the words of the command `names` ask for, of a file.
-fn read_names<'a>(file: &'a str, words: &ArgMatches<'a>) -> Result<Invocation<'a>, UsageError>
-    requires { first_of (codes "file") (rows_of (found_of words.now)) ≡ Some file.now }
-    ensures read { MatchResult result (λ i. asked_names (rows_of (found_of words.now)) ≡ Some (asked_by i))
-        (λ e. asked_names (rows_of (found_of words.now)) ≡ None) }
-    ensures wrong { IfErr result (λ e. wrong_by e ≡ Some no_number) }
-{
-    let most = count_in(words, "most")?;
-    let prefix = word_of(words, "prefix").unwrap_or("");
-    Ok(Invocation::Names(file, prefix, most))
-}
-
-/// What the words of a command ask for that has a file.
-fn read_filed<'a>(
-    alloc: Global,
-    name: &str,
-    file: &'a str,
-    words: &ArgMatches<'a>,
-    files: Vec<&'a str>,
-    lines: Vec<&'a str>,
-) -> Result<Invocation<'a>, UsageError>
-    requires file { first_of (codes "file") (rows_of (found_of words.now)) ≡ Some file.now }
-    requires files { map (λ f. f.now) files.items ≡ list_of (codes "file") (rows_of (found_of words.now)) }
-    requires lines { map (λ l. l.now) lines.items ≡ list_of (codes "line") (rows_of (found_of words.now)) }
-    requires lint { bytes_eq name.now (codes "lint") ≡ false }
-    requires language { bytes_eq name.now (codes "language") ≡ false }
-    ensures read { MatchResult result (λ i. asked_in name.now (rows_of (found_of words.now)) ≡ Some (asked_by i))
-        (λ e. asked_in name.now (rows_of (found_of words.now)) ≡ None) }
-    ensures wrong { IfErr result (λ e. wrong_by e ≡ Some (wrong_filed name.now (rows_of (found_of words.now)))) }
-{
-    match name {
-        "create" => Ok(Invocation::Create(file, number_in(words)?)),
-        "run" => read_run(alloc, file, words, lines),
-        "check" => read_check(file, words, files),
-        "grow" => read_grow(file, words),
-        "shrink" => read_shrink(file, words),
-        "migrate" => read_migrate(file, words),
-        "stat" => Ok(Invocation::Stat(file)),
-        "draw" if is_set(words, "html") => Ok(Invocation::DrawPage(file)),
-        "draw" => Ok(Invocation::Draw(file)),
-        "dump" if is_set(words, "json") => Ok(Invocation::DumpJson(file)),
-        "dump" if is_set(words, "capacities") => Ok(Invocation::DumpCapacities(file)),
-        "dump" => Ok(Invocation::Dump(file)),
-        "names" => read_names(file, words),
-        "load" => Ok(Invocation::Load(file, count_in(words, "size")?, keeping_in(words)?)),
-        _ => Err(UsageError::Command),
+    match change {
+        _ if !keeping.is_plain() => Invocation::ChangeWith(file, change, keeping),
+        Change::Grow(bytes) => Invocation::Grow(file, bytes),
+        Change::Shrink => Invocation::Shrink(file),
+        Change::Migrate => Invocation::Migrate(file),
     }
 }
 
@@ -306,13 +202,36 @@ fn read_command<'a>(
         (λ e. asked_in name.now (rows_of (found_of words.now)) ≡ None) }
     ensures wrong { IfErr result (λ e. wrong_by e ≡ Some (wrong_in name.now (rows_of (found_of words.now)))) }
 {
-    match name {
-        "lint" => Ok(Invocation::Lint),
-        "language" => Ok(Invocation::Language),
-        _ => match word_of(words, "file") {
-            Some(file) => read_filed(alloc, name, file, words, files, lines),
-            None => Err(UsageError::File),
-        },
+    match (name, word_of(words, "file")) {
+        ("lint", _) => Ok(Invocation::Lint),
+        ("language", _) => Ok(Invocation::Language),
+        (_, None) => Err(UsageError::File),
+        ("create", Some(file)) => Ok(Invocation::Create(file, number_in(words)?)),
+        ("run", Some(file)) => read_run(alloc, file, words, lines),
+        ("check", Some(file)) => read_check(file, words, files),
+        ("grow", Some(file)) => {
+            let bytes = number_in(words)?;
+            Ok(change_of(file, Change::Grow(bytes), keeping_in(words)?))
+        }
+        ("shrink", Some(file)) => Ok(change_of(file, Change::Shrink, keeping_in(words)?)),
+        ("migrate", Some(file)) => Ok(change_of(file, Change::Migrate, keeping_in(words)?)),
+        ("stat", Some(file)) => Ok(Invocation::Tell(file, Report::Figures)),
+        ("draw", Some(file)) if is_set(words, "html") => Ok(Invocation::Tell(file, Report::Page)),
+        ("draw", Some(file)) => Ok(Invocation::Tell(file, Report::Picture)),
+        ("dump", Some(file)) if is_set(words, "json") => Ok(Invocation::Tell(file, Report::Json)),
+        ("dump", Some(file)) if is_set(words, "capacities") => {
+            Ok(Invocation::Tell(file, Report::Capacities))
+        }
+        ("dump", Some(file)) => Ok(Invocation::Tell(file, Report::Dump)),
+        ("names", Some(file)) => {
+            let most = count_in(words, "most")?;
+            Ok(Invocation::Names(file, word_of(words, "prefix").unwrap_or(""), most))
+        }
+        ("load", Some(file)) => {
+            let size = count_in(words, "size")?;
+            Ok(Invocation::Load(file, size, keeping_in(words)?))
+        }
+        _ => Err(UsageError::Command),
     }
 }
 

@@ -52,6 +52,34 @@ pub enum Saving {
     Replacing,
 }
 
+/// What is told of the segment in a file.
+#[derive(Clone, Copy, Debug, PartialEq, Eq)]
+pub enum Report {
+    /// How its bytes are used, in figures.
+    Figures,
+    /// Its picture.
+    Picture,
+    /// A page for a browser.
+    Page,
+    /// Its objects as text.
+    Dump,
+    /// The same, and behind it the capacities of what has one.
+    Capacities,
+    /// Its objects as lines of JSON.
+    Json,
+}
+
+/// How the segment in a file changes without a script.
+#[derive(Clone, Copy, Debug, PartialEq, Eq)]
+pub enum Change {
+    /// It becomes larger by so many bytes.
+    Grow(u64),
+    /// It becomes as small as its last block lets it be.
+    Shrink,
+    /// It is written in this format, of which it is, or an older one.
+    Migrate,
+}
+
 /// How a run answers.
 #[derive(Clone, Copy, Debug, PartialEq, Eq)]
 pub struct Answering {
@@ -81,10 +109,7 @@ impl Keeping {
     pub(crate) fn is_plain(self) -> bool
         ensures { result ≡ is_plain self.saving self.wait }
     {
-        match self.saving {
-            Saving::InPlace => self.wait == 0,
-            Saving::Replacing => false,
-        }
+        matches!(self.saving, Saving::InPlace) && self.wait == 0
     }
 }
 
@@ -170,28 +195,14 @@ pub enum Invocation<'a> {
     Explain(&'a str),
     /// To make the segment in a file larger by so many bytes.
     Grow(&'a str, u64),
-    /// The same, as other options say.
-    GrowWith(&'a str, u64, Keeping),
     /// To make the segment in a file as small as its last block lets it be.
     Shrink(&'a str),
-    /// The same, as other options say.
-    ShrinkWith(&'a str, Keeping),
     /// To write the segment in a file, of this format or an older one, in this format.
     Migrate(&'a str),
-    /// The same, as other options say.
-    MigrateWith(&'a str, Keeping),
-    /// To tell how the bytes of the segment in a file are used, in figures.
-    Stat(&'a str),
-    /// To draw the segment in a file.
-    Draw(&'a str),
-    /// To show the segment in a file as a page for a browser.
-    DrawPage(&'a str),
-    /// To write the objects of the segment in a file as text.
-    Dump(&'a str),
-    /// To write the same, and behind it the capacities of what has one.
-    DumpCapacities(&'a str),
-    /// To write its objects as lines of JSON.
-    DumpJson(&'a str),
+    /// To do one of these three as other options say.
+    ChangeWith(&'a str, Change, Keeping),
+    /// To tell something of the segment in a file.
+    Tell(&'a str, Report),
     /// To print the names of the segment in a file that begin with a text, in their order, at most so many.
     Names(&'a str, &'a str, Option<u64>),
     /// To make a segment of such a text: of this size, or as long as the text says and cut behind its last block. It is

@@ -10,7 +10,7 @@ mod version;
 
 pub use asking::{invocation, is_verbose};
 pub use invocations::{
-    Answering, Invocation, Keeping, ModeName, Running, Saving, Script, script_text,
+    Answering, Change, Invocation, Keeping, ModeName, Report, Running, Saving, Script, script_text,
 };
 pub use nearest::Tip;
 pub use usage::{InvocationFault, UsageError};

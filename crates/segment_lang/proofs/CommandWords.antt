@@ -2,6 +2,7 @@
 use Rattle.std.proofs.Common.{◌≡◌, ℕ, ℤ, Bool, true, false, cond, List, [], ◌∷◌, Option, Some, None, ap, sym, refl, ◌∙◌}
 use Rattle.std.proofs.Common.{◌==◌, replicate, length, nat_lt, slice_index}
 use Rattle.std.specs.Option.{option_map, option_and_then}
+use Rattle.std.specs.Prelude.{is_some}
 use Rattle.raw_region.specs.Format.{current}
 use Rattle.seg_types.specs.declared.kinds.Kind.{Kind}
 use Rattle.seg_types.specs.declared.kinds.Kind.TheVariants.{Scalar, String, Vector, Map, Strings}
@@ -11,8 +12,8 @@ use Rattle.seg_types.specs.Names.{Key}
 use Rattle.seg_types.specs.Kinds.{is_value}
 use Rattle.seg_types.specs.Values.{kind_of_scalar, scalar_of, value_of_scalar}
 use Rattle.seg_types.proofs.Laws.{scalar_of-kind, scalar_of-value}
-use Rattle.seg_types.specs.Commands.{Assign, Bytes, Command, ConstructIt, Content, Elements, Literal, LineTooLong}
-use Rattle.seg_types.specs.Commands.{NoPairs, Nothing, Numbers, Put, Reading, Strings, UnknownCommand, DestroyPtr}
+use Rattle.seg_types.specs.Commands.{Assign, BadSyntax, Bytes, Command, ConstructIt, Content, Elements, Literal, LineTooLong}
+use Rattle.seg_types.specs.Commands.{NoPairs, Nothing, Numbers, Reading, Strings, UnknownCommand, DestroyPtr}
 use Rattle.segment_lang.specs.Words as said
 use Rattle.segment_lang.specs.Words.{Word, Bare, literal_of_word, number_of, words}
 use Rattle.segment_lang.specs.Language.{Language, whole}
@@ -24,14 +25,14 @@ use Rattle.segment_lang.specs.Reading.{with_key_number_literal, with_number}
 use Rattle.segment_lang.specs.Tokens.{at_end, behind_word, next_two, next_word, only_word, three_words, two_words}
 use Rattle.segment_lang.specs.Tokens.{up_to_blank}
 use Rattle.segment_lang.specs.Arguments.{Written, assigning_at, counted_values, handle_of, literals_at, making_at}
-use Rattle.segment_lang.specs.Arguments.{making_each_at, numbers_at, of_one, of_two, of_three, pair_at, putting_at}
+use Rattle.segment_lang.specs.Arguments.{making_each_at, numbers_at, of_one, of_two, of_three}
 use Rattle.segment_lang.specs.Arguments.{scalar_at, scalar_in, texts_at, written}
 use Rattle.segment_lang.proofs.WordList.{take_end, take_only, take_word}
 use Rattle.segment_lang.proofs.ArrayValues.{word-value}
-use Rattle.segment_lang.proofs.WordReaders.{both_made, map_then, swap, take_next_two, take_three, take_two, then_some}
+use Rattle.segment_lang.proofs.WordReaders.{map_then, swap, take_next_two, take_three, take_two, then_some}
 use Rattle.segment_lang.proofs.WordReaders.{then_then, under}
 use Rattle.segment_lang.proofs.FirstWords.{command_has_byte, command_is_plain}
-use Rattle.segment_lang.specs.Seen.{with_rest}
+use Rattle.segment_lang.specs.Seen.{is_wrong, with_rest}
 
 -- what words ask for
 abbrev pub asks : Reader → List ℕ → Option Command
@@ -83,30 +84,6 @@ of_key_number_literal f bytes = take_three (with_key_number_literal f (whole cur
 
 pub of_putting : (bytes : List ℕ) → asks putting bytes ≡ of_three putting bytes
 of_putting bytes = take_three (putting (whole current)) refl (λ w. refl) (λ w v. refl) (λ w v u t ws. refl) bytes
-
-put_given : (key : Key) (k v : Option Literal)
-    → option_and_then (λ k. option_map (Put key k) v) k
-    ≡ option_and_then (λ (p : Literal × Literal). Some (Put key p.0 p.1))
-    (option_and_then (λ k. option_and_then (λ v. Some (k, v)) v) k)
-put_given key None v = refl
-put_given key (Some k) None = refl
-put_given key (Some k) (Some v) = refl
-
--- the key and then the pair
-pub putting_in_parts : (bytes : List ℕ) → of_three putting bytes ≡ putting_at bytes
-unfolding putting_at pair_at three_words
-putting_in_parts bytes =
-    both_made (λ (x : Word × Word × Word). putting (whole current) (x.0 ∷ x.1 ∷ x.2 ∷ []))
-    (λ (x : Word × List ℕ) (y : Word × Word). (x.0, y.0, y.1)) (λ x. two_words x.1) (next_word bytes)
-    ∙ under _ _ (λ x.
-    swap (λ (y : Word × Word) key. option_and_then (λ k. option_map (Put key k) (literal_of_word y.1))
-    (literal_of_word y.0))
-    (two_words x.1) (key_of (whole current) x.0)
-    ∙ under _ _ (λ key.
-    under _ _ (λ (y : Word × Word). put_given key (literal_of_word y.0) (literal_of_word y.1)) (two_words x.1)
-    ∙ sym (then_then (λ (p : Literal × Literal). Some (Put key p.0 p.1)) (λ (y : Word × Word).
-    option_and_then (λ k. option_and_then (λ v. Some (k, v)) (literal_of_word y.1)) (literal_of_word y.0))
-    (two_words x.1))) (key_of (whole current) x.0)) (next_word bytes)
 
 -- ---- a handle
 
@@ -301,3 +278,13 @@ command_in_front line part rest reader e short h =
     (cond (slice_index part 0 == 0x23) Nothing (command_line (whole current) (skip_blanks part)))) (sym short)
     ∙ ap (λ line. cond (nat_lt 4096 (length line)) LineTooLong
     (cond (slice_index line 0 == 0x23) Nothing (command_line (whole current) (skip_blanks line)))) e
+
+-- ---- whether a line is a command
+
+pub no_error : {o : Option Command} {r : Reading} → true ≡ is_some o → as_reading o ≡ r → is_wrong r ≡ false
+no_error {None} h e = absurd (cc)
+no_error {Some c} h e = ap is_wrong (sym e)
+
+pub bad_syntax : {o : Option Command} {r : Reading} → false ≡ is_some o → as_reading o ≡ r → BadSyntax ≡ r
+bad_syntax {None} h e = e
+bad_syntax {Some c} h e = absurd (cc)

@@ -2,5 +2,5 @@
 
 -- words stand for no more bytes than they are spelled by
 pub use Rattle.segment_lang.proofs.WordRoom.{words_room}
--- what stands behind a command word: nothing, two words, three
-pub use Rattle.segment_lang.proofs.CommandWords.{alone_at_end, of_key_literal, of_key_number, of_putting}
+-- what stands behind a command word: nothing, one word, two, three
+pub use Rattle.segment_lang.proofs.CommandWords.{alone_at_end, of_key, of_key_literal, of_key_number, of_putting}

@@ -4,6 +4,7 @@ mod Decimals
 mod LongLines
 mod WordList
 mod BareWords
+mod Buffers
 mod TextSpelling
 mod FormTables
 mod FirstWords

@@ -1,5 +1,6 @@
 -- Readers that want two words, three, or two and those behind them.
-use Rattle.std.proofs.Common.{◌≡◌, ℕ, List, [], ◌∷◌, Option, Some, None, sym, refl, ◌∙◌}
+use Rattle.std.proofs.Common.{◌≡◌, ℕ, Bool, true, false, cond, List, [], ◌∷◌, Option, Some, None, ap, sym, refl, ◌∙◌}
+use Rattle.std.specs.Prelude.{IsSomeAnd, MatchOption, is_some}
 use Rattle.std.specs.Option.{option_map, option_and_then}
 use Rattle.segment_lang.specs.Words.{Word, words}
 use Rattle.segment_lang.specs.Tokens.{next_two, next_word, only_word, two_words, three_words}
@@ -48,6 +49,21 @@ some_map g (Some b) = refl
 pub then_some : {A B C : Type 0} (g : B → C) (f : A → Option B) (x : Option A)
     → option_and_then (λ a. option_map g (f a)) x ≡ option_and_then (λ b. Some (g b)) (option_and_then f x)
 then_some g f x = map_then g f x ∙ some_map g (option_and_then f x)
+
+-- what is there is made a command of
+pub map_made : {A B C : Type 0} (g : B → C) (f : A → B) {x : Option A} {y : Option B}
+    → MatchOption x (y ≡ None) (λ a. IsSomeAnd y (λ b. b ≡ f a)) → option_map g y ≡ option_map (λ a. g (f a)) x
+map_made g f {None} {y} h = ap (option_map g) h
+map_made g f {Some a} {None} h = absurd h
+map_made g f {Some a} {Some b} h = ap (λ b. Some (g b)) h
+
+pub some_of : {A B : Type 0} {f : A → B} {x : Option A} {y : Option B} → option_map f x ≡ y → is_some x ≡ is_some y
+some_of {x = None} h = ap is_some h
+some_of {x = Some a} h = ap is_some h
+
+pub end_some : {A : Type 0} (a : A) (b : Bool) → is_some (cond b (Some a) None) ≡ b
+end_some a true = refl
+end_some a false = refl
 
 -- ---- the readers
 

@@ -1,5 +1,5 @@
 -- What stands behind a command word, read one word after another.
-use Rattle.std.specs.Prelude.{ℕ, ℤ, false, Option, Some, None, List, [], ◌∷◌, length, map, ◌==◌, option_and_then}
+use Rattle.std.specs.Prelude.{ℕ, ℤ, Option, Some, None, List, [], ◌∷◌, length, map, ◌==◌, option_and_then}
 use Rattle.std.specs.Prelude.{unwrap_or, if◌then◌else◌}
 use Rattle.raw_region.specs.Format.{current}
 use Rattle.seg_types.specs.declared.kinds.Kind.{Kind}
@@ -8,7 +8,7 @@ use Rattle.seg_types.specs.declared.kinds.ScalarKind.{ScalarKind}
 use Rattle.seg_types.specs.declared.values.ScalarValue.{ScalarValue}
 use Rattle.seg_types.specs.Names.{Key}
 use Rattle.seg_types.specs.Values.{scalar_of}
-use Rattle.seg_types.specs.Commands.{Assign, Command, Content, Literal, Put, Truth}
+use Rattle.seg_types.specs.Commands.{Assign, Command, Content, Literal}
 use Rattle.segment_lang.specs.Words.{Word, Bare, literal_of_word, number_of, words}
 use Rattle.segment_lang.specs.Language.{Language, whole}
 use Rattle.segment_lang.specs.Reading.{Reader, all, content, counted_kind, for_kind, key_of, new_key, items, quoted_of}
@@ -99,26 +99,6 @@ assigning_at bytes = do
   key ← key_of (whole current) x.0
   values ← literals_at x.1
   Some (Assign key values)
-
--- the two values that the only two words are
-unfoldable pub pair_at : List ℕ → Option (Literal × Literal)
-pair_at bytes = do
-  x ← two_words bytes
-  at ← literal_of_word x.0
-  value ← literal_of_word x.1
-  Some (at, value)
-
--- the two values that the words are, whatever they are where the words are not two values
-abbrev pub pair_in : List ℕ → Literal × Literal
-pair_in bytes = unwrap_or (pair_at bytes) (Truth false, Truth false)
-
--- a key, and the two values of a pair
-unfoldable pub putting_at : List ℕ → Option Command
-putting_at bytes = do
-  x ← next_word bytes
-  key ← key_of (whole current) x.0
-  pair ← pair_at x.1
-  Some (Put key pair.0 pair.1)
 
 -- the texts that all words are
 unfoldable pub texts_at : List ℕ → Option (List (List ℕ))

@@ -1,6 +1,6 @@
 -- What the types of the code stand for.
 use Rattle.std.specs.Prelude.{ℕ, ◌+◌, ◌*◌, ◌%◌, List, [], ◌∷◌, Option, option_and_then, option_map, map, find}
-use Rattle.std.specs.Prelude.{◌≤◌, length, replicate, ⊤}
+use Rattle.std.specs.Prelude.{◌≤◌, Bool, true, false, length, replicate, ⊤}
 use Rattle.raw_region.specs.Format.{current}
 use Rattle.seg_types.specs.Commands as asked
 use Rattle.seg_types.specs.Keys.{index_key_seen, key_seen, new_key_seen}
@@ -19,22 +19,21 @@ use Rattle.segment_lang.specs.declared.literals.Literal.TheVariants.{Whole, Trut
 use Rattle.segment_lang.specs.declared.commands.Content.{Content}
 use Rattle.segment_lang.specs.declared.commands.Content.TheVariants.{Scalars, Elements, String as StringContent}
 use Rattle.segment_lang.specs.declared.commands.Content.TheVariants.{Strings as StringsContent, NoPairs}
-use Rattle.segment_lang.specs.declared.commands.Command.{Command}
-use Rattle.segment_lang.specs.declared.commands.Command.TheVariants.{Construct, ConstructIt, Find, FindOrConstruct}
-use Rattle.segment_lang.specs.declared.commands.Command.TheVariants.{Destroy, DestroyPtr, Show, Info, Get, Set, Push}
-use Rattle.segment_lang.specs.declared.commands.Command.TheVariants.{Pop, Insert, Erase, Reserve, Shrink, Clear, Assign}
-use Rattle.segment_lang.specs.declared.commands.Command.TheVariants.{Append, Put, Lookup, Remove, ListNames, ListKinds}
-use Rattle.segment_lang.specs.declared.commands.Command.TheVariants.{Blocks, Size, Free, NumNamed, NumUnique}
-use Rattle.segment_lang.specs.declared.commands.Command.TheVariants.{ReserveNamed, ReserveUnique, ShrinkIndexes}
-use Rattle.segment_lang.specs.declared.commands.Command.TheVariants.{ZeroFree, Sanity, AllDeallocated}
+use Rattle.segment_lang.specs.declared.commands.Deed.{Deed}
+use Rattle.segment_lang.specs.declared.commands.Deed.TheVariants.{Construct, ConstructIt, Find, FindOrConstruct, Destroy}
+use Rattle.segment_lang.specs.declared.commands.Deed.TheVariants.{DestroyPtr, Show, Info, Set, Insert, Erase, Reserve}
+use Rattle.segment_lang.specs.declared.commands.Deed.TheVariants.{Shrink, Clear, Assign, Append, Lookup, Remove, ListNames}
+use Rattle.segment_lang.specs.declared.commands.Deed.TheVariants.{ListKinds, Blocks, Free, NumNamed, NumUnique}
+use Rattle.segment_lang.specs.declared.commands.Deed.TheVariants.{ReserveNamed, ReserveUnique, ShrinkIndexes, ZeroFree}
+use Rattle.segment_lang.specs.declared.commands.Deed.TheVariants.{Sanity, AllDeallocated}
 use Rattle.segment_lang.specs.declared.commands.Lead.{Lead}
 use Rattle.segment_lang.specs.declared.commands.Lead.TheVariants as lead
-use Rattle.segment_lang.specs.declared.commands.Reading.{Reading}
-use Rattle.segment_lang.specs.declared.commands.Reading.TheVariants.{Nothing, Asked, Wrong}
 use Rattle.seg_types.specs.declared.refusals.LineError.{LineError}
 use Rattle.seg_types.specs.declared.refusals.LineError.TheVariants.{UnknownCommand, LineTooLong, BadSyntax}
 use Rattle.segment_lang.specs.declared.forms.CommandForm.{CommandForm}
 use Rattle.segment_lang.specs.declared.forms.CommandForm.TheVariants as form
+use Rattle.segment_lang.specs.declared.forms.DeedForm.{DeedForm}
+use Rattle.segment_lang.specs.declared.forms.DeedForm.TheVariants as deed
 
 abbrev pub word_of : Word → said.Word
 word_of (Bare w) = said.Bare w.now
@@ -71,42 +70,37 @@ content_of (StringContent t) = asked.Bytes t
 content_of (StringsContent ts) = asked.Strings ts
 content_of (NoPairs key value) = asked.NoPairs key value
 
-abbrev pub command_of : Command → asked.Command
-command_of (Construct key content) = asked.Construct (new_key_seen key) (content_of content)
-command_of (ConstructIt key count values) = asked.ConstructIt (new_key_seen key) values.kind count values.numbers
-command_of (Find kind key) = asked.Find (index_key_seen key) kind
-command_of (FindOrConstruct key content) = asked.FindOrConstruct (index_key_seen key) (content_of content)
-command_of (Destroy key) = asked.Destroy (index_key_seen key)
-command_of (DestroyPtr n) = asked.DestroyPtr n
-command_of (Show key) = asked.Show (key_seen key)
-command_of (Info key) = asked.Info (key_seen key)
-command_of (Get key i) = asked.Get (key_seen key) i
-command_of (Set key i value) = asked.Set (key_seen key) i (literal_of value)
-command_of (Push key value) = asked.Push (key_seen key) (literal_of value)
-command_of (Pop key) = asked.Pop (key_seen key)
-command_of (Insert key i value) = asked.Insert (key_seen key) i (literal_of value)
-command_of (Erase key i) = asked.Erase (key_seen key) i
-command_of (Reserve key n) = asked.Reserve (key_seen key) n
-command_of (Shrink key) = asked.Shrink (key_seen key)
-command_of (Clear key) = asked.Clear (key_seen key)
-command_of (Assign key values) = asked.Assign (key_seen key) values
-command_of (Append key t) = asked.Append (key_seen key) t
-command_of (Put key pair) = asked.Put (key_seen key) pair.0 pair.1
-command_of (Lookup key at) = asked.Lookup (key_seen key) (literal_of at)
-command_of (Remove key at) = asked.Remove (key_seen key) (literal_of at)
-command_of ListNames = asked.ListNames
-command_of ListKinds = asked.ListKinds
-command_of Blocks = asked.ListBlocks
-command_of Size = asked.Size
-command_of Free = asked.Free
-command_of NumNamed = asked.NumNamed
-command_of NumUnique = asked.NumUnique
-command_of (ReserveNamed n) = asked.ReserveNamed n
-command_of (ReserveUnique n) = asked.ReserveUnique n
-command_of ShrinkIndexes = asked.ShrinkIndexes
-command_of ZeroFree = asked.ZeroFree
-command_of Sanity = asked.Sanity
-command_of AllDeallocated = asked.AllDeallocated
+abbrev pub deed_of : Deed → asked.Command
+deed_of (Construct key content) = asked.Construct (new_key_seen key) (content_of content)
+deed_of (ConstructIt key count values) = asked.ConstructIt (new_key_seen key) values.kind count values.numbers
+deed_of (Find kind key) = asked.Find (index_key_seen key) kind
+deed_of (FindOrConstruct key content) = asked.FindOrConstruct (index_key_seen key) (content_of content)
+deed_of (Destroy key) = asked.Destroy (index_key_seen key)
+deed_of (DestroyPtr n) = asked.DestroyPtr n
+deed_of (Show key) = asked.Show (key_seen key)
+deed_of (Info key) = asked.Info (key_seen key)
+deed_of (Set key i value) = asked.Set (key_seen key) i (literal_of value)
+deed_of (Insert key i value) = asked.Insert (key_seen key) i (literal_of value)
+deed_of (Erase key i) = asked.Erase (key_seen key) i
+deed_of (Reserve key n) = asked.Reserve (key_seen key) n
+deed_of (Shrink key) = asked.Shrink (key_seen key)
+deed_of (Clear key) = asked.Clear (key_seen key)
+deed_of (Assign key values) = asked.Assign (key_seen key) values
+deed_of (Append key t) = asked.Append (key_seen key) t
+deed_of (Lookup key at) = asked.Lookup (key_seen key) (literal_of at)
+deed_of (Remove key at) = asked.Remove (key_seen key) (literal_of at)
+deed_of ListNames = asked.ListNames
+deed_of ListKinds = asked.ListKinds
+deed_of Blocks = asked.ListBlocks
+deed_of Free = asked.Free
+deed_of NumNamed = asked.NumNamed
+deed_of NumUnique = asked.NumUnique
+deed_of (ReserveNamed n) = asked.ReserveNamed n
+deed_of (ReserveUnique n) = asked.ReserveUnique n
+deed_of ShrinkIndexes = asked.ShrinkIndexes
+deed_of ZeroFree = asked.ZeroFree
+deed_of Sanity = asked.Sanity
+deed_of AllDeallocated = asked.AllDeallocated
 
 -- a line that is no command
 abbrev pub wrong_reading : LineError → asked.Reading
@@ -114,48 +108,52 @@ wrong_reading UnknownCommand = asked.UnknownCommand
 wrong_reading LineTooLong = asked.LineTooLong
 wrong_reading BadSyntax = asked.BadSyntax
 
-abbrev pub reading_of : Reading → asked.Reading
-reading_of Nothing = asked.Nothing
-reading_of (Asked c) = asked.Asked (command_of c)
-reading_of (Wrong e) = wrong_reading e
+abbrev pub is_wrong : asked.Reading → Bool
+is_wrong asked.Nothing = false
+is_wrong (asked.Asked c) = false
+is_wrong r = true
+
+-- the form of what stands behind the word of a deed
+abbrev pub deed_reader_of : DeedForm → Reader
+deed_reader_of deed.Construct = making asked.Construct new_key
+deed_reader_of deed.ConstructIt = making_each
+deed_reader_of deed.Find = finding
+deed_reader_of deed.FindOrConstruct = making asked.FindOrConstruct name_key
+deed_reader_of deed.Destroy = with_key asked.Destroy name_key
+deed_reader_of deed.DestroyPtr = destroying_ptr
+deed_reader_of deed.Show = with_key asked.Show key_of
+deed_reader_of deed.Info = with_key asked.Info key_of
+deed_reader_of deed.Set = with_key_number_literal asked.Set
+deed_reader_of deed.Insert = with_key_number_literal asked.Insert
+deed_reader_of deed.Erase = with_key_number asked.Erase
+deed_reader_of deed.Reserve = with_key_number asked.Reserve
+deed_reader_of deed.Shrink = with_key asked.Shrink key_of
+deed_reader_of deed.Clear = with_key asked.Clear key_of
+deed_reader_of deed.Assign = assigning
+deed_reader_of deed.Append = appending
+deed_reader_of deed.Lookup = with_key_literal asked.Lookup
+deed_reader_of deed.Remove = with_key_literal asked.Remove
+deed_reader_of deed.ListNames = alone asked.ListNames
+deed_reader_of deed.ListKinds = alone asked.ListKinds
+deed_reader_of deed.Blocks = alone asked.ListBlocks
+deed_reader_of deed.Free = alone asked.Free
+deed_reader_of deed.NumNamed = alone asked.NumNamed
+deed_reader_of deed.NumUnique = alone asked.NumUnique
+deed_reader_of deed.ReserveNamed = with_number asked.ReserveNamed
+deed_reader_of deed.ReserveUnique = with_number asked.ReserveUnique
+deed_reader_of deed.ShrinkIndexes = alone asked.ShrinkIndexes
+deed_reader_of deed.ZeroFree = alone asked.ZeroFree
+deed_reader_of deed.Sanity = alone asked.Sanity
+deed_reader_of deed.AllDeallocated = alone asked.AllDeallocated
 
 -- the form of what stands behind a command word
 abbrev pub reader_of : CommandForm → Reader
-reader_of form.Construct = making asked.Construct new_key
-reader_of form.ConstructIt = making_each
-reader_of form.Find = finding
-reader_of form.FindOrConstruct = making asked.FindOrConstruct name_key
-reader_of form.Destroy = with_key asked.Destroy name_key
-reader_of form.DestroyPtr = destroying_ptr
-reader_of form.Show = with_key asked.Show key_of
-reader_of form.Info = with_key asked.Info key_of
-reader_of form.Get = with_key_number asked.Get
-reader_of form.Set = with_key_number_literal asked.Set
-reader_of form.Push = with_key_literal asked.Push
-reader_of form.Pop = with_key asked.Pop key_of
-reader_of form.Insert = with_key_number_literal asked.Insert
-reader_of form.Erase = with_key_number asked.Erase
-reader_of form.Reserve = with_key_number asked.Reserve
-reader_of form.Shrink = with_key asked.Shrink key_of
-reader_of form.Clear = with_key asked.Clear key_of
-reader_of form.Assign = assigning
-reader_of form.Append = appending
-reader_of form.Put = putting
-reader_of form.Lookup = with_key_literal asked.Lookup
-reader_of form.Remove = with_key_literal asked.Remove
-reader_of form.ListNames = alone asked.ListNames
-reader_of form.ListKinds = alone asked.ListKinds
-reader_of form.Blocks = alone asked.ListBlocks
 reader_of form.Size = alone asked.Size
-reader_of form.Free = alone asked.Free
-reader_of form.NumNamed = alone asked.NumNamed
-reader_of form.NumUnique = alone asked.NumUnique
-reader_of form.ReserveNamed = with_number asked.ReserveNamed
-reader_of form.ReserveUnique = with_number asked.ReserveUnique
-reader_of form.ShrinkIndexes = alone asked.ShrinkIndexes
-reader_of form.ZeroFree = alone asked.ZeroFree
-reader_of form.Sanity = alone asked.Sanity
-reader_of form.AllDeallocated = alone asked.AllDeallocated
+reader_of form.Get = with_key_number asked.Get
+reader_of form.Push = with_key_literal asked.Push
+reader_of form.Put = putting
+reader_of form.Pop = with_key asked.Pop key_of
+reader_of (form.Deed d) = deed_reader_of d
 
 -- what a command word of a form asks for, with what stands behind it
 abbrev pub reading_by : CommandForm → List ℕ → asked.Reading

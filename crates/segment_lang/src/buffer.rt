@@ -1,69 +1,84 @@
-//! A text in place, which takes no memory.
+//! Values in place, which take no memory.
 
-ghost use Rattle.std.specs.Prelude.{◌≡◌, ◌≤◌, ◌<◌, ◌++◌, ◌∷◌, ◌==◌, [], List, ℕ, length, take};
+ghost use Rattle.std.specs.Prelude.{◌≡◌, ◌≤◌, ◌<◌, ◌++◌, ◌∷◌, ◌==◌, [], List, length, take};
 
 use std::marker::Model;
 
-/// Up to 4096 bytes, as many as a line has. What stands behind them means nothing.
+/// Up to `N` values. What stands behind them means nothing.
 #[derive(Drop)]
-pub struct Text {
-    bytes: [u8; 4096],
+pub struct Buffer<T, const N: usize> {
+    values: [T; N],
     len: usize,
 }
 
-impl Model for Text {
-    ghost Value = { List ℕ };
+/// A text of up to 4096 bytes, as many as a line has.
+pub type Text = Buffer<u8, 4096>;
 
-    ghost view = { λ t. take t.len t.bytes };
+impl<T, const N: usize> Model for Buffer<T, N> {
+    ghost Value = { List T };
 
-    ghost invariant = { λ t. t.len ≤ 4096 };
+    ghost view = { λ b. take b.len b.values };
+
+    ghost invariant = { λ b. b.len ≤ N };
 }
 
-impl Text {
-    /// No bytes.
+impl<T: Copy + Default, const N: usize> Buffer<T, N> {
+    /// No values.
     pub fn new() -> Self
         ensures { result ≡ [] }
     {
-        Text {
-            bytes: [0; 4096],
+        Buffer {
+            values: [T::default(); N],
             len: 0,
         }
     }
+}
 
-    /// Takes all bytes out. It costs nothing: what it held is not looked at again.
+impl<T: Copy, const N: usize> Buffer<T, N> {
+    /// Takes all values out. It costs nothing: what it held is not looked at again.
     pub fn clear(&mut self)
         ensures { self.new ≡ [] }
     {
         self.len = 0;
     }
 
-    /// How many bytes it has.
+    /// How many values it has.
     pub fn len(&self) -> usize
         ensures { result ≡ length self.now }
     {
         self.len
     }
 
-    /// Whether it has no bytes.
+    /// Whether it has no values.
     pub fn is_empty(&self) -> bool
         ensures { result ≡ (length self.now == 0) }
     {
         self.len == 0
     }
 
-    /// The bytes.
-    pub fn as_slice(&self) -> &[u8]
+    /// The values.
+    pub fn as_slice(&self) -> &[T]
         ensures { result.now ≡ self.now }
     {
-        &self.bytes[..self.len]
+        &self.values[..self.len]
     }
 
-    /// Adds a byte at the end.
-    pub fn push(&mut self, byte: u8)
-        requires { length self.old < 4096 }
-        ensures { self.new ≡ self.old ++ byte ∷ [] }
+    /// Adds a value at the end.
+    pub fn push(&mut self, value: T)
+        requires { length self.old < N }
+        ensures { self.new ≡ self.old ++ value ∷ [] }
     {
-        self.bytes[self.len] = byte;
+        self.values[self.len] = value;
         self.len += 1;
+    }
+
+    /// Adds values at the end, and drops those for which there is no room.
+    pub fn extend(&mut self, more: &[T])
+        ensures { self.new ≡ take N (self.old ++ more.now) }
+    {
+        let count = (N - self.len).min(more.len());
+        let end = self.len + count;
+        self.values[self.len..end].copy_from_slice(&more[..count]);
+        self.len = end;
     }
 }

@@ -3,7 +3,6 @@
 use crate::forms::CommandForm;
 use crate::lists::{Literals, Texts};
 use crate::literals::Literal;
-use crate::pairs::Pair;
 use crate::values::Values;
 use crate::words::Quoted;
 use seg_types::{Handle, IndexKey, Key, Kind, LineError, NewKey, ScalarKind, ScalarValue};
@@ -33,9 +32,9 @@ pub enum Content<'a> {
     },
 }
 
-/// What a line asks for.
+/// What a line asks for, where it is done once all of the line is read. The other commands are those of [`CommandForm`].
 #[derive(Drop)]
-pub enum Command<'a> {
+pub enum Deed<'a> {
     /// Make an object.
     Construct {
         /// The key that it gets.
@@ -74,13 +73,6 @@ pub enum Command<'a> {
     Show(Key<'a>),
     /// Print what an object is.
     Info(Key<'a>),
-    /// Print one element of an object.
-    Get {
-        /// The object.
-        key: Key<'a>,
-        /// Which element, counted from 0.
-        index: u64,
-    },
     /// Write one element of an object.
     Set {
         /// The object.
@@ -90,15 +82,6 @@ pub enum Command<'a> {
         /// What it becomes.
         value: Literal<'a>,
     },
-    /// Add an element at the end of a vector.
-    Push {
-        /// The vector.
-        key: Key<'a>,
-        /// The new element.
-        value: Literal<'a>,
-    },
-    /// Take the last element off a vector and print it.
-    Pop(Key<'a>),
     /// Put an element into a vector.
     Insert {
         /// The vector.
@@ -140,13 +123,6 @@ pub enum Command<'a> {
         /// The bytes.
         text: Quoted<'a>,
     },
-    /// Put a pair into a map, in the place of the one with the same key.
-    Put {
-        /// The map.
-        key: Key<'a>,
-        /// The pair.
-        pair: Pair<'a>,
-    },
     /// Print the value that stands at a key of a map.
     Lookup {
         /// The map.
@@ -167,8 +143,6 @@ pub enum Command<'a> {
     ListKinds,
     /// Print the blocks and gaps by offset.
     Blocks,
-    /// Print the segment's size in bytes.
-    Size,
     /// Print how many bytes are free.
     Free,
     /// Print how many named objects there are.
@@ -197,16 +171,5 @@ pub enum Lead<'a> {
     /// With a command word of a form. What stands behind the word is to be read.
     Form(CommandForm, &'a [u8]),
     /// With no command word, or it is too long.
-    Wrong(LineError),
-}
-
-/// What a line means.
-#[derive(Drop)]
-pub enum Reading<'a> {
-    /// Nothing: it is a comment or has blanks only, and has no answer.
-    Nothing,
-    /// A command.
-    Asked(Command<'a>),
-    /// No command, and why not.
     Wrong(LineError),
 }

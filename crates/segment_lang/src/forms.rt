@@ -1,32 +1,45 @@
 //! Command words, and the form of what stands behind each.
 
 ghost use Rattle.std.specs.Prelude.{◌≡◌, ◌<◌, [], IsTrue, Some, None, if◌then◌else◌, length, option_and_then};
-ghost use Rattle.std.specs.Prelude.{option_map, map, slice_index_or};
+ghost use Rattle.std.specs.Prelude.{is_some, option_map, map, slice_index_or};
 ghost use Rattle.std.specs.List.{list_all};
 ghost use Rattle.raw_region.specs.Format.{current};
 ghost use Rattle.segment_lang.specs.Words.{is, words};
 ghost use Rattle.segment_lang.specs.Language.{whole};
 ghost use Rattle.segment_lang.specs.Reading.{form_of};
-ghost use Rattle.segment_lang.specs.Seen.{command_of, found_in, place_of, reader_of, with_rest};
+ghost use Rattle.segment_lang.specs.Seen.{deed_of, deed_reader_of, found_in, place_of, reader_of, with_rest};
 ghost use Rattle.segment_lang.specs.Tokens.{behind_word, is_unbroken, up_to_blank};
 
 use crate::buffer::Text;
-use crate::commands::Command;
-use crate::elements::{
-    read_append, read_assign, read_clear, read_erase, read_insert, read_pop, read_push,
-    read_reserve, read_shrink,
-};
-use crate::pairs::{read_lookup, read_put, read_remove};
+use crate::commands::Deed;
+use crate::elements::{read_append, read_assign, read_erase, read_insert, read_reserve, read_set};
+use crate::pairs::{key_and_pair, read_lookup, read_remove};
 use crate::readers::{
-    read_alone, read_construct, read_construct_it, read_destroy, read_destroy_ptr, read_find,
-    read_find_or_construct, read_get, read_info, read_reserve_named, read_reserve_unique, read_set,
-    read_show,
+    is_alone, key_and_literal, key_and_number, only_key, only_number, read_alone, read_construct,
+    read_construct_it, read_destroy, read_destroy_ptr, read_find, read_find_or_construct,
 };
 use crate::words::ends_word;
 
 /// How what stands behind a command word is written.
 #[derive(Clone, Copy, Debug, PartialEq, Eq)]
 pub enum CommandForm {
+    /// Nothing: the word alone is the command.
+    Size,
+    /// A key and a number.
+    Get,
+    /// A key and a value.
+    Push,
+    /// A key and two values.
+    Put,
+    /// A key.
+    Pop,
+    /// As a deed has it.
+    Deed(DeedForm),
+}
+
+/// How what stands behind the command word of a deed is written.
+#[derive(Clone, Copy, Debug, PartialEq, Eq)]
+pub enum DeedForm {
     /// A kind with a count, a key and what an object of the kind is made with: one value, any number of them or none.
     Construct,
     /// A kind with a count, a key and as many values.
@@ -43,14 +56,8 @@ pub enum CommandForm {
     Show,
     /// A key.
     Info,
-    /// A key and a number.
-    Get,
     /// A key, a number and a value.
     Set,
-    /// A key and a value.
-    Push,
-    /// A key.
-    Pop,
     /// A key, a number and a value.
     Insert,
     /// A key and a number.
@@ -65,8 +72,6 @@ pub enum CommandForm {
     Assign,
     /// A key and a text.
     Append,
-    /// A key and two values.
-    Put,
     /// A key and a value.
     Lookup,
     /// A key and a value.
@@ -77,8 +82,6 @@ pub enum CommandForm {
     ListKinds,
     /// Nothing: the word alone is the command.
     Blocks,
-    /// Nothing: the word alone is the command.
-    Size,
     /// Nothing: the word alone is the command.
     Free,
     /// Nothing: the word alone is the command.
@@ -101,69 +104,84 @@ pub enum CommandForm {
 
 /// The command words, each with its form, by the place that `place_of` gives them.
 static FORMS: [&[(&[u8], CommandForm)]; 32] = [
-    &[(b"remove", CommandForm::Remove)],
+    &[(b"remove", CommandForm::Deed(DeedForm::Remove))],
     &[
-        (b"clear", CommandForm::Clear),
-        (b"append", CommandForm::Append),
+        (b"clear", CommandForm::Deed(DeedForm::Clear)),
+        (b"append", CommandForm::Deed(DeedForm::Append)),
     ],
     &[(b"push", CommandForm::Push)],
     &[],
     &[
-        (b"reserve", CommandForm::Reserve),
-        (b"free", CommandForm::Free),
-        (b"reserve_named", CommandForm::ReserveNamed),
-        (b"reserve_unique", CommandForm::ReserveUnique),
+        (b"reserve", CommandForm::Deed(DeedForm::Reserve)),
+        (b"free", CommandForm::Deed(DeedForm::Free)),
+        (b"reserve_named", CommandForm::Deed(DeedForm::ReserveNamed)),
+        (
+            b"reserve_unique",
+            CommandForm::Deed(DeedForm::ReserveUnique),
+        ),
     ],
     &[],
     &[
-        (b"lookup", CommandForm::Lookup),
-        (b"zero_free", CommandForm::ZeroFree),
+        (b"lookup", CommandForm::Deed(DeedForm::Lookup)),
+        (b"zero_free", CommandForm::Deed(DeedForm::ZeroFree)),
     ],
-    &[(b"sanity", CommandForm::Sanity)],
+    &[(b"sanity", CommandForm::Deed(DeedForm::Sanity))],
     &[(b"put", CommandForm::Put)],
-    &[(b"all_deallocated", CommandForm::AllDeallocated)],
+    &[(
+        b"all_deallocated",
+        CommandForm::Deed(DeedForm::AllDeallocated),
+    )],
     &[],
     &[
-        (b"set", CommandForm::Set),
-        (b"erase", CommandForm::Erase),
-        (b"unique", CommandForm::ListKinds),
+        (b"set", CommandForm::Deed(DeedForm::Set)),
+        (b"erase", CommandForm::Deed(DeedForm::Erase)),
+        (b"unique", CommandForm::Deed(DeedForm::ListKinds)),
     ],
     &[],
-    &[(b"show", CommandForm::Show), (b"info", CommandForm::Info)],
+    &[
+        (b"show", CommandForm::Deed(DeedForm::Show)),
+        (b"info", CommandForm::Deed(DeedForm::Info)),
+    ],
     &[],
     &[(b"size", CommandForm::Size)],
     &[(b"pop", CommandForm::Pop)],
     &[],
     &[],
-    &[(b"assign", CommandForm::Assign)],
+    &[(b"assign", CommandForm::Deed(DeedForm::Assign))],
     &[],
     &[],
     &[
-        (b"destroy", CommandForm::Destroy),
-        (b"destroy_ptr", CommandForm::DestroyPtr),
+        (b"destroy", CommandForm::Deed(DeedForm::Destroy)),
+        (b"destroy_ptr", CommandForm::Deed(DeedForm::DestroyPtr)),
     ],
     &[
-        (b"construct", CommandForm::Construct),
-        (b"construct_it", CommandForm::ConstructIt),
+        (b"construct", CommandForm::Deed(DeedForm::Construct)),
+        (b"construct_it", CommandForm::Deed(DeedForm::ConstructIt)),
     ],
     &[],
     &[],
     &[
-        (b"find", CommandForm::Find),
-        (b"find_or_construct", CommandForm::FindOrConstruct),
+        (b"find", CommandForm::Deed(DeedForm::Find)),
+        (
+            b"find_or_construct",
+            CommandForm::Deed(DeedForm::FindOrConstruct),
+        ),
     ],
-    &[(b"insert", CommandForm::Insert)],
+    &[(b"insert", CommandForm::Deed(DeedForm::Insert))],
     &[
-        (b"blocks", CommandForm::Blocks),
-        (b"num_named", CommandForm::NumNamed),
-        (b"num_unique", CommandForm::NumUnique),
+        (b"blocks", CommandForm::Deed(DeedForm::Blocks)),
+        (b"num_named", CommandForm::Deed(DeedForm::NumNamed)),
+        (b"num_unique", CommandForm::Deed(DeedForm::NumUnique)),
     ],
     &[],
-    &[(b"list", CommandForm::ListNames)],
+    &[(b"list", CommandForm::Deed(DeedForm::ListNames))],
     &[
         (b"get", CommandForm::Get),
-        (b"shrink", CommandForm::Shrink),
-        (b"shrink_indexes", CommandForm::ShrinkIndexes),
+        (b"shrink", CommandForm::Deed(DeedForm::Shrink)),
+        (
+            b"shrink_indexes",
+            CommandForm::Deed(DeedForm::ShrinkIndexes),
+        ),
     ],
 ];
 
@@ -231,49 +249,54 @@ pub fn split_form(line: &[u8]) -> Option<(CommandForm, &[u8])>
     find_form(&FORMS, line)
 }
 
-/// The command of what stands behind a command word of this form.
-pub fn read_command<'a>(
-    form: CommandForm,
-    bytes: &'a [u8],
-    scratch: &'a mut Text,
-) -> Option<Command<'a>>
-    ensures { option_map command_of result ≡ option_and_then (reader_of form (whole current)) (words bytes.now) }
+/// The deed that what stands behind a command word of this form asks for.
+pub fn read_deed<'a>(form: DeedForm, bytes: &'a [u8], scratch: &'a mut Text) -> Option<Deed<'a>>
+    ensures { option_map deed_of result ≡ option_and_then (deed_reader_of form (whole current)) (words bytes.now) }
 {
     match form {
-        CommandForm::Construct => read_construct(bytes, scratch),
-        CommandForm::ConstructIt => read_construct_it(bytes, scratch),
-        CommandForm::Find => read_find(bytes, scratch),
-        CommandForm::FindOrConstruct => read_find_or_construct(bytes, scratch),
-        CommandForm::Destroy => read_destroy(bytes, scratch),
-        CommandForm::DestroyPtr => read_destroy_ptr(bytes),
-        CommandForm::Show => read_show(bytes, scratch),
-        CommandForm::Info => read_info(bytes, scratch),
-        CommandForm::Get => read_get(bytes, scratch),
-        CommandForm::Set => read_set(bytes, scratch),
-        CommandForm::Push => read_push(bytes, scratch),
-        CommandForm::Pop => read_pop(bytes, scratch),
-        CommandForm::Insert => read_insert(bytes, scratch),
-        CommandForm::Erase => read_erase(bytes, scratch),
-        CommandForm::Reserve => read_reserve(bytes, scratch),
-        CommandForm::Shrink => read_shrink(bytes, scratch),
-        CommandForm::Clear => read_clear(bytes, scratch),
-        CommandForm::Assign => read_assign(bytes, scratch),
-        CommandForm::Append => read_append(bytes, scratch),
-        CommandForm::Put => read_put(bytes, scratch),
-        CommandForm::Lookup => read_lookup(bytes, scratch),
-        CommandForm::Remove => read_remove(bytes, scratch),
-        CommandForm::ListNames => read_alone(Command::ListNames, bytes),
-        CommandForm::ListKinds => read_alone(Command::ListKinds, bytes),
-        CommandForm::Blocks => read_alone(Command::Blocks, bytes),
-        CommandForm::Size => read_alone(Command::Size, bytes),
-        CommandForm::Free => read_alone(Command::Free, bytes),
-        CommandForm::NumNamed => read_alone(Command::NumNamed, bytes),
-        CommandForm::NumUnique => read_alone(Command::NumUnique, bytes),
-        CommandForm::ReserveNamed => read_reserve_named(bytes),
-        CommandForm::ReserveUnique => read_reserve_unique(bytes),
-        CommandForm::ShrinkIndexes => read_alone(Command::ShrinkIndexes, bytes),
-        CommandForm::ZeroFree => read_alone(Command::ZeroFree, bytes),
-        CommandForm::Sanity => read_alone(Command::Sanity, bytes),
-        CommandForm::AllDeallocated => read_alone(Command::AllDeallocated, bytes),
+        DeedForm::Construct => read_construct(bytes, scratch),
+        DeedForm::ConstructIt => read_construct_it(bytes, scratch),
+        DeedForm::Find => read_find(bytes, scratch),
+        DeedForm::FindOrConstruct => read_find_or_construct(bytes, scratch),
+        DeedForm::Destroy => read_destroy(bytes, scratch),
+        DeedForm::DestroyPtr => read_destroy_ptr(bytes),
+        DeedForm::Show => only_key(bytes, scratch).map(Deed::Show),
+        DeedForm::Info => only_key(bytes, scratch).map(Deed::Info),
+        DeedForm::Set => read_set(bytes, scratch),
+        DeedForm::Insert => read_insert(bytes, scratch),
+        DeedForm::Erase => read_erase(bytes, scratch),
+        DeedForm::Reserve => read_reserve(bytes, scratch),
+        DeedForm::Shrink => only_key(bytes, scratch).map(Deed::Shrink),
+        DeedForm::Clear => only_key(bytes, scratch).map(Deed::Clear),
+        DeedForm::Assign => read_assign(bytes, scratch),
+        DeedForm::Append => read_append(bytes, scratch),
+        DeedForm::Lookup => read_lookup(bytes, scratch),
+        DeedForm::Remove => read_remove(bytes, scratch),
+        DeedForm::ListNames => read_alone(Deed::ListNames, bytes),
+        DeedForm::ListKinds => read_alone(Deed::ListKinds, bytes),
+        DeedForm::Blocks => read_alone(Deed::Blocks, bytes),
+        DeedForm::Free => read_alone(Deed::Free, bytes),
+        DeedForm::NumNamed => read_alone(Deed::NumNamed, bytes),
+        DeedForm::NumUnique => read_alone(Deed::NumUnique, bytes),
+        DeedForm::ReserveNamed => only_number(bytes).map(Deed::ReserveNamed),
+        DeedForm::ReserveUnique => only_number(bytes).map(Deed::ReserveUnique),
+        DeedForm::ShrinkIndexes => read_alone(Deed::ShrinkIndexes, bytes),
+        DeedForm::ZeroFree => read_alone(Deed::ZeroFree, bytes),
+        DeedForm::Sanity => read_alone(Deed::Sanity, bytes),
+        DeedForm::AllDeallocated => read_alone(Deed::AllDeallocated, bytes),
+    }
+}
+
+/// Whether what stands behind a command word has the word's form.
+pub fn is_command(form: CommandForm, bytes: &[u8], scratch: &mut Text) -> bool
+    ensures { result ≡ is_some (option_and_then (reader_of form (whole current)) (words bytes.now)) }
+{
+    match form {
+        CommandForm::Size => is_alone(bytes),
+        CommandForm::Get => key_and_number(bytes, scratch).is_some(),
+        CommandForm::Push => key_and_literal(bytes, scratch).is_some(),
+        CommandForm::Put => key_and_pair(bytes, scratch).is_some(),
+        CommandForm::Pop => only_key(bytes, scratch).is_some(),
+        CommandForm::Deed(form) => read_deed(form, bytes, scratch).is_some(),
     }
 }

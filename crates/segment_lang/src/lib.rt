@@ -31,18 +31,18 @@ mod texts;
 // Laws of the definitions.
 mod theorems;
 
-pub use buffer::Text;
-pub use commands::{Command, Content, Lead, Reading};
+pub use buffer::{Buffer, Text};
+pub use commands::{Content, Deed, Lead};
 pub use errors::{put_line_error, put_refusal};
-pub use forms::{CommandForm, read_command};
+pub use forms::{CommandForm, DeedForm, read_deed};
 pub use kinds::kind_of_word;
-pub use line::{LONGEST_LINE, lead_of, parse_line, without_return};
+pub use line::{LONGEST_LINE, lead_of, line_error, without_return};
 pub use lists::{Literals, Texts};
 pub use literals::{Literal, literal_of, scalar_of};
 pub use numbers::{WholeNumber, number_of, whole_of};
-pub use pairs::{Pair, key_and_pair};
+pub use pairs::key_and_pair;
 pub use pieces::{Piece, put_pieces};
-pub use readers::{is_alone, key_and_literal, key_and_number};
+pub use readers::{is_alone, key_and_literal, key_and_number, only_key};
 pub use seg_types::LineError;
 pub use texts::{
     digit_text, put_kind, put_name, put_number, put_number_line, put_text, put_value,

@@ -1,16 +1,16 @@
 //! Lines.
 
-ghost use Rattle.std.specs.Prelude.{◌≡◌, ◌==◌, slice_index, if◌then◌else◌};
+ghost use Rattle.std.specs.Prelude.{◌≡◌, ◌==◌, MatchOption, false, slice_index, if◌then◌else◌};
 ghost use Rattle.raw_region.specs.Format.{current};
 ghost use Rattle.segment_lang.specs.Language.{whole};
 ghost use Rattle.seg_types.specs.Commands.{Nothing};
 ghost use Rattle.segment_lang.specs.Reading.{command_line, reading, skip_blanks, without_return};
-ghost use Rattle.segment_lang.specs.Seen.{reading_led, reading_of};
+ghost use Rattle.segment_lang.specs.Seen.{is_wrong, reading_led, wrong_reading};
 
 use crate::blanks::skip_blanks;
 use crate::buffer::Text;
-use crate::commands::{Lead, Reading};
-use crate::forms::{read_command, split_form};
+use crate::commands::Lead;
+use crate::forms::{is_command, split_form};
 use seg_types::LineError;
 
 /// The longest line without its end, in bytes.
@@ -72,17 +72,21 @@ pub fn lead_of(line: &[u8]) -> Lead<'_>
     }
 }
 
-/// What a line means. A name that is spelled with escapes is decoded into `scratch`, whatever it held; all else is lent
-/// from the line.
-pub fn parse_line<'a>(line: &'a [u8], scratch: &'a mut Text) -> Reading<'a>
-    ensures { reading_of result ≡ reading (whole current) line.now }
+/// Why a line is no command, if it has one and it is none. A name that is spelled with escapes is decoded into `scratch`,
+/// whatever it held.
+pub fn line_error(line: &[u8], scratch: &mut Text) -> Option<LineError>
+    ensures { MatchOption result (is_wrong (reading (whole current) line.now) ≡ false)
+        (λ error. wrong_reading error ≡ reading (whole current) line.now) }
 {
     match lead_of(line) {
-        Lead::Nothing => Reading::Nothing,
-        Lead::Form(form, rest) => match read_command(form, rest, scratch) {
-            Some(command) => Reading::Asked(command),
-            None => Reading::Wrong(LineError::BadSyntax),
-        },
-        Lead::Wrong(error) => Reading::Wrong(error),
+        Lead::Nothing => None,
+        Lead::Form(form, rest) => {
+            if is_command(form, rest, scratch) {
+                None
+            } else {
+                Some(LineError::BadSyntax)
+            }
+        }
+        Lead::Wrong(error) => Some(error),
     }
 }

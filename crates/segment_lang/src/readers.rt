@@ -8,11 +8,11 @@ ghost use Rattle.segment_lang.specs.Reading.{finding, key_of, name_key, new_key,
 ghost use Rattle.segment_lang.specs.Reading.{with_key_number, with_key_number_literal, with_number};
 ghost use Rattle.segment_lang.specs.Tokens.{at_end, only_word};
 ghost use Rattle.segment_lang.specs.Arguments.{handle_of, making_at, making_each_at, of_one, of_three, of_two};
-ghost use Rattle.segment_lang.specs.Seen.{command_of, literal_of};
+ghost use Rattle.segment_lang.specs.Seen.{deed_of, literal_of};
 
 use crate::blanks::at_end;
 use crate::buffer::Text;
-use crate::commands::Command;
+use crate::commands::Deed;
 use crate::contents::read_content;
 use crate::keys::{handle_of, index_key, index_key_for, key_of, new_key_for};
 use crate::kinds::{counted_kind, kind_of_word};
@@ -25,34 +25,34 @@ use seg_types::{Key, Kind};
 /// A kind with a count, a key and what an object of the kind is made with: one value, any number of them or none.
 #[tactic(auto, unfolding(crate::specs::Arguments::making_at))]
 #[inline(never)]
-pub fn read_construct<'a>(bytes: &'a [u8], scratch: &'a mut Text) -> Option<Command<'a>>
-    ensures { option_map command_of result ≡ making_at asked.Construct new_key bytes.now }
+pub fn read_construct<'a>(bytes: &'a [u8], scratch: &'a mut Text) -> Option<Deed<'a>>
+    ensures { option_map deed_of result ≡ making_at asked.Construct new_key bytes.now }
 {
     let (kind, key, rest) = next_two(bytes)?;
     let (kind, count) = counted_kind(kind)?;
     let key = new_key_for(kind, key, scratch)?;
     let content = read_content(kind, count, rest)?;
-    Some(Command::Construct { key, content })
+    Some(Deed::Construct { key, content })
 }
 
 /// A kind with a count, an entry of an index and what an object of the kind is made with.
 #[tactic(auto, unfolding(crate::specs::Arguments::making_at))]
 #[inline(never)]
-pub fn read_find_or_construct<'a>(bytes: &'a [u8], scratch: &'a mut Text) -> Option<Command<'a>>
-    ensures { option_map command_of result ≡ making_at asked.FindOrConstruct name_key bytes.now }
+pub fn read_find_or_construct<'a>(bytes: &'a [u8], scratch: &'a mut Text) -> Option<Deed<'a>>
+    ensures { option_map deed_of result ≡ making_at asked.FindOrConstruct name_key bytes.now }
 {
     let (kind, key, rest) = next_two(bytes)?;
     let (kind, count) = counted_kind(kind)?;
     let key = index_key_for(kind, key, scratch)?;
     let content = read_content(kind, count, rest)?;
-    Some(Command::FindOrConstruct { key, content })
+    Some(Deed::FindOrConstruct { key, content })
 }
 
 /// A kind with a count, a key and as many values.
 #[tactic(auto, unfolding(crate::specs::Arguments::making_each_at))]
 #[inline(never)]
-pub fn read_construct_it<'a>(bytes: &'a [u8], scratch: &'a mut Text) -> Option<Command<'a>>
-    ensures { option_map command_of result ≡ making_each_at bytes.now }
+pub fn read_construct_it<'a>(bytes: &'a [u8], scratch: &'a mut Text) -> Option<Deed<'a>>
+    ensures { option_map deed_of result ≡ making_each_at bytes.now }
 {
     let (kind, key, rest) = next_two(bytes)?;
     let (kind, count) = counted_kind(kind)?;
@@ -61,73 +61,47 @@ pub fn read_construct_it<'a>(bytes: &'a [u8], scratch: &'a mut Text) -> Option<C
         return None;
     };
     let values = read_values(kind, count, rest)?;
-    Some(Command::ConstructIt { key, count, values })
+    Some(Deed::ConstructIt { key, count, values })
 }
 
 /// A kind and an entry of an index.
 #[inline(never)]
-pub fn read_find<'a>(bytes: &'a [u8], scratch: &'a mut Text) -> Option<Command<'a>>
-    ensures { option_map command_of result ≡ of_two finding bytes.now }
+pub fn read_find<'a>(bytes: &'a [u8], scratch: &'a mut Text) -> Option<Deed<'a>>
+    ensures { option_map deed_of result ≡ of_two finding bytes.now }
 {
     let (kind, key) = two_words(bytes)?;
     let kind = kind_of_word(kind)?;
     let key = index_key_for(kind, key, scratch)?;
-    Some(Command::Find { kind, key })
+    Some(Deed::Find { kind, key })
 }
 
 /// An entry of an index.
 #[inline(never)]
-pub fn read_destroy<'a>(bytes: &'a [u8], scratch: &'a mut Text) -> Option<Command<'a>>
-    ensures { option_map command_of result ≡ of_one (with_key asked.Destroy name_key) bytes.now }
+pub fn read_destroy<'a>(bytes: &'a [u8], scratch: &'a mut Text) -> Option<Deed<'a>>
+    ensures { option_map deed_of result ≡ of_one (with_key asked.Destroy name_key) bytes.now }
 {
     let word = only_word(bytes)?;
-    let Some(key) = index_key(word, scratch) else {
-        return None;
-    };
-    Some(Command::Destroy(key))
+    index_key(word, scratch).map(Deed::Destroy)
 }
 
 /// A handle.
 #[inline(never)]
-pub fn read_destroy_ptr(bytes: &[u8]) -> Option<Command<'_>>
-    ensures { option_map command_of result
+pub fn read_destroy_ptr(bytes: &[u8]) -> Option<Deed<'_>>
+    ensures { option_map deed_of result
         ≡ option_map asked.DestroyPtr (option_and_then handle_of (only_word bytes.now)) }
 {
     let word = only_word(bytes)?;
-    let handle = handle_of(word)?;
-    Some(Command::DestroyPtr(handle))
+    handle_of(word).map(Deed::DestroyPtr)
 }
 
 /// A key, whatever it is read for.
-#[inline(always)]
+#[inline(never)]
 pub fn only_key<'a>(bytes: &'a [u8], scratch: &'a mut Text) -> Option<Key<'a>>
     ensures { (f : AskedKey → asked.Command) → option_map (λ key. f (key_seen key)) result
         ≡ of_one (with_key f key_of) bytes.now }
 {
     let word = only_word(bytes)?;
     key_of(word, scratch)
-}
-
-/// A key, of an object that is shown.
-#[inline(never)]
-pub fn read_show<'a>(bytes: &'a [u8], scratch: &'a mut Text) -> Option<Command<'a>>
-    ensures { option_map command_of result ≡ of_one (with_key asked.Show key_of) bytes.now }
-{
-    let Some(key) = only_key(bytes, scratch) else {
-        return None;
-    };
-    Some(Command::Show(key))
-}
-
-/// A key, of an object of which is told what it is.
-#[inline(never)]
-pub fn read_info<'a>(bytes: &'a [u8], scratch: &'a mut Text) -> Option<Command<'a>>
-    ensures { option_map command_of result ≡ of_one (with_key asked.Info key_of) bytes.now }
-{
-    let Some(key) = only_key(bytes, scratch) else {
-        return None;
-    };
-    Some(Command::Info(key))
 }
 
 /// A key and a number, whatever they are read for.
@@ -171,49 +145,12 @@ pub fn key_number_literal<'a>(
     Some((key, index, value))
 }
 
-/// A key and a number.
-#[inline(never)]
-pub fn read_get<'a>(bytes: &'a [u8], scratch: &'a mut Text) -> Option<Command<'a>>
-    ensures { option_map command_of result ≡ of_two (with_key_number asked.Get) bytes.now }
-{
-    let (key, index) = key_and_number(bytes, scratch)?;
-    Some(Command::Get { key, index })
-}
-
-/// A key, a number and a value.
-#[inline(never)]
-pub fn read_set<'a>(bytes: &'a [u8], scratch: &'a mut Text) -> Option<Command<'a>>
-    ensures { option_map command_of result ≡ of_three (with_key_number_literal asked.Set) bytes.now }
-{
-    let (key, index, value) = key_number_literal(bytes, scratch)?;
-    Some(Command::Set { key, index, value })
-}
-
 /// A number, whatever it is read for.
-#[inline(always)]
-fn only_number(bytes: &[u8]) -> Option<u64>
+pub fn only_number(bytes: &[u8]) -> Option<u64>
     ensures { (f : ℕ → asked.Command) → option_map f result ≡ of_one (with_number f) bytes.now }
 {
     let word = only_word(bytes)?;
     number(word)
-}
-
-/// A number, of entries in the index of names.
-#[inline(never)]
-pub fn read_reserve_named(bytes: &[u8]) -> Option<Command<'_>>
-    ensures { option_map command_of result ≡ of_one (with_number asked.ReserveNamed) bytes.now }
-{
-    let count = only_number(bytes)?;
-    Some(Command::ReserveNamed(count))
-}
-
-/// A number, of entries in the index of unique kinds.
-#[inline(never)]
-pub fn read_reserve_unique(bytes: &[u8]) -> Option<Command<'_>>
-    ensures { option_map command_of result ≡ of_one (with_number asked.ReserveUnique) bytes.now }
-{
-    let count = only_number(bytes)?;
-    Some(Command::ReserveUnique(count))
 }
 
 /// Whether nothing stands behind a command word.
@@ -223,12 +160,12 @@ pub fn is_alone(bytes: &[u8]) -> bool
     at_end(bytes)
 }
 
-/// The command, where nothing stands behind its word.
-pub fn read_alone<'a>(command: Command<'a>, bytes: &[u8]) -> Option<Command<'a>>
-    ensures { option_map command_of result ≡ (if at_end bytes.now then Some (command_of command.entry) else None) }
+/// The deed, where nothing stands behind its word.
+pub fn read_alone<'a>(deed: Deed<'a>, bytes: &[u8]) -> Option<Deed<'a>>
+    ensures { option_map deed_of result ≡ (if at_end bytes.now then Some (deed_of deed.entry) else None) }
 {
     if !is_alone(bytes) {
         return None;
     }
-    Some(command)
+    Some(deed)
 }

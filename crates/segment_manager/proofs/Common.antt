@@ -19,7 +19,8 @@ use Rattle.std.specs.Prelude.{IsErrAnd}
 pub use denote.Ref.{Bor}
 pub use Rattle.raw_region.proofs.Laws.{Has-same, Same-part, Same-trans, Same-word, SameBut-Same, SamePlace-trans}
 unfoldable pub use Rattle.raw_region.specs.Format.{current}
-pub use Rattle.raw_region.specs.Memory.{AreZero, Cut, Has, Memory, Same, SameBut, SamePlace, bytes_of, part, read}
+pub use Rattle.raw_region.specs.Memory.{AreZero, Cut, Has, Memory, Same, SameBut, SamePlace, are_bytes, bytes_of, part}
+pub use Rattle.raw_region.specs.Memory.{read}
 unfoldable pub use Rattle.raw_region.specs.Memory.{word_at}
 pub use Rattle.offset_link.proofs.Laws.{Same-link}
 pub use Rattle.offset_link.specs.Link.{link_at}
@@ -66,22 +67,21 @@ pub use Rattle.seg_vector.specs.Vector.{IsContainerAt, OwnedText, capacity_for_o
 unfoldable pub use Rattle.seg_vector.specs.Vector.{grown_table}
 pub use Rattle.seg_vector.specs.VectorCalls.{Assigns, IsOutside, IsSomeVector, IsVectorGrown, IsVectorNow}
 pub use Rattle.seg_vector.specs.VectorCalls.{IsWithoutSpace}
-pub use Rattle.seg_vector.specs.declared.places.Place.{Place, Place as ContainerPlace}
+pub use Rattle.best_fit.specs.declared.places.Place.{Place}
 pub use Rattle.seg_map.specs.Changing.{Erases, IsBesideMap, IsErased, IsFull, IsPut, IsPutAgain, Puts, Releases}
 pub use Rattle.seg_map.specs.Map.{is_key, is_rising, node_len, pair_at, put_pair, remove_pair}
 pub use Rattle.seg_map.specs.Numbers.{IsNumberPairAt, NumberPair, is_number_pair}
 pub use Rattle.seg_map.specs.Places.{FindsItem, FindsItemBefore, FindsLastItem, FindsValue, HoldsMap, IsPairIn}
 pub use Rattle.seg_map.specs.Places.{IsSomeMap, first_pair, item_of, nodes_of_pairs, value_of_pair}
-pub use Rattle.seg_map.specs.declared.places.Place.{Place as MapPlace}
 pub use Rattle.seg_index.proofs.Laws.{prepared}
 pub use Rattle.seg_index.specs.Growth.{AddKeeps, Adds, CanGrow, GivesBack, IsGrowth, KeepsRest, beside_table}
 pub use Rattle.seg_index.specs.Held.{HasIndex, IsIndexOf, capacity_at, entry_count, place_of}
 pub use Rattle.seg_index.specs.declared.index.Index.TheVariants.{Named, Unique}
 pub use Rattle.seg_index.specs.declared.keys.Lookup.TheVariants.{Absent, Found}
-pub use Rattle.seg_index.specs.{Capacities.IsReserved, declared.index.Index.Index, declared.keys.Key.Key as Entry}
+pub use Rattle.seg_index.specs.{Capacities.IsReserved, declared.index.Index.Index, declared.keys.Entry.Entry}
 pub use Rattle.seg_index.specs.{Capacities.IsRoomy, Capacities.IsShrunk, Growth.without_link, Index.grown_capacity}
 pub use Rattle.seg_index.specs.{Growth.grown_bytes, Index.IsIndexAt, Keys.name_len_at, Lookups.IsPlace}
-pub use Rattle.seg_index.specs.{Growth.unlinked, declared.keys.Key.TheVariants.Code, declared.keys.Key.TheVariants.Name}
+pub use Rattle.seg_index.specs.{Growth.unlinked, declared.keys.Entry.TheVariants.Code, declared.keys.Entry.TheVariants.Name}
 pub use Rattle.segment_manager.specs.Answers.{Answer, Done, Element, Made, Number, Refused, TextElement, Truth}
 pub use Rattle.segment_manager.specs.objects.Begun.{Begins, IsAbsentAt, IsBegun, IsBegunAlone, IsBegunEntry, IsHeaded}
 pub use Rattle.segment_manager.specs.objects.Begun.{IsLoose, IsLooseAlone, IsLooseEntry, IsNotBegun, IsReadyFor}
@@ -89,7 +89,7 @@ pub use Rattle.segment_manager.specs.objects.Begun.{IsTakenKey, IsWanted, LeadsT
 pub use Rattle.segment_manager.specs.Calls.{IsTileOfIndex, elements_at, elements_of, kind_at}
 pub use Rattle.segment_manager.specs.containers.Changeable.{IsChangeable, IsToChange, IsUnchangeable}
 pub use Rattle.segment_manager.specs.containers.Contents.{Contents, bytes_at, has_values, has_sizes, sizes_at, sizes_of}
-pub use Rattle.segment_manager.specs.containers.Contents.{IsRefilled, are_bytes, container_at, contents_of, has_storage}
+pub use Rattle.segment_manager.specs.containers.Contents.{IsRefilled, container_at, contents_of, has_storage}
 pub use Rattle.segment_manager.specs.containers.Contents.{container_place, place_of_kind, sizes_at_kind, sizes_of_kind}
 pub use Rattle.segment_manager.specs.Denotes.{Denotes, IsHeader, IsObjectAt, IsValueAt, handles, padded_name}
 pub use Rattle.segment_manager.specs.objects.Destroyed.{Becomes, Empties, HoldsObject, emptied}
@@ -113,7 +113,7 @@ pub use Rattle.segment_manager.specs.objects.Instances.{IsInstance, IsMissing, S
 pub use Rattle.segment_manager.specs.indexes.Iterating.{GoesOn, GoesOnNames, NameWalk, Walk, is_own, is_own_span}
 pub use Rattle.segment_manager.specs.Keeping.{HasPlaces, KeepsWhere, LacksKey}
 pub use Rattle.segment_manager.specs.indexes.Listed.{HasEntries, HasEntry, IsAnonymousAt, IsListed}
-pub use Rattle.segment_manager.specs.containers.Maps.{HasPairs, ReleasesPairs, map_at, numbers_in, numbers_of}
+pub use Rattle.segment_manager.specs.containers.Maps.{HasPairs, ReleasesPairs, numbers_in, numbers_of}
 pub use Rattle.segment_manager.specs.containers.Maps.{pair_above, pair_at_end, pair_below, pair_from, pair_up_to}
 pub use Rattle.segment_manager.specs.containers.Maps.{told_of, told_of_map, value_or_absent}
 pub use Rattle.segment_manager.specs.objects.NewObjects.{IsNewKeyOf, IsOfKind, IsRequested, IsRestored, IsUnmet}

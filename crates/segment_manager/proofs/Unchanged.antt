@@ -15,7 +15,7 @@ perform-reads : {d : Directory} {changing : Bool} (other : Bool) → changing �
     → Leaves d changing other p → (perform d l p).1 ≡ d
 perform-reads other e l p by_refusal = refl
 perform-reads other e l p by_same = refl
-perform-reads other e l p (by_change o k) = absurd (false≢true (sym e))
+perform-reads other e l p (by_change o a k) = absurd (false≢true (sym e))
 perform-reads other e l p (by_other k) = absurd (false≢true (sym e))
 perform-reads {d} other e l p (by_request {need = need} {next = next} k) = asked-reads (met l need)
     (λ x. perform d (resized l x) (next x)) (λ x. perform-reads other e (resized l x) (next x) (k x))

@@ -9,7 +9,7 @@ use Rattle.seg_map.specs.{Map.pair_at, Numbers.NumberPair}
 use Rattle.best_fit.specs.Extents.{handle}
 use Rattle.segment_manager.specs.containers.Contents.{sizes_at}
 use Rattle.best_fit.specs.{Heap.KeepsGaps, Heap.live_of, Table.Table}
-use Rattle.seg_vector.specs.declared.places.Place.{Place}
+use Rattle.best_fit.specs.declared.places.Place.{Place}
 use Rattle.seg_vector.specs.{TextsCalls.new_array, TextsCalls.placed_text}
 use Rattle.seg_vector.specs.Vector.{OwnedText, capacity_for_one, grown_table}
 use Rattle.segment_manager.specs.Directory.{Object, Directory, Texts, live, object_at}

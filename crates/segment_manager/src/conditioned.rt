@@ -7,5 +7,6 @@ pub use crate::blocks::tiles::next_tile;
 pub use crate::containers::any_elements::set_any;
 pub use crate::containers::walking_pairs::{first_pair, next_pair};
 pub use crate::objects::finding::{named_at, unique_at};
+pub use crate::objects::targets::object_here;
 pub use crate::objects::telling::{instance_here, named_instance, unique_instance};
 pub use crate::segment::{adopt, segment_of};

@@ -35,6 +35,9 @@ pub const NAME_CLASS_AT: u64 = 8;
 /// The length of a head. Behind it stands the name with zeros up to a multiple of 8, and behind that the value.
 pub const HEAD_LEN: u64 = 16;
 
+/// The bytes of a container in its object: a link to its storage or its root, and two words more.
+pub const CONTAINER_LEN: u64 = 24;
+
 /// What a word is in parts of: the upper half of a word counts so many.
 pub const HALF: u64 = 0x1_0000_0000;
 

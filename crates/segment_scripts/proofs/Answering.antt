@@ -21,8 +21,8 @@ use Rattle.segment_manager.specs.Plan.{perform}
 use Rattle.segment_manager.specs.Step.{effect, step}
 use Rattle.segment_manager.proofs.CommandLaws.{answered-reads}
 use Rattle.segment_manager.proofs.Laws.{step-reads}
-use Rattle.segment_lang.specs.declared.commands.Command.{Command as CodeCommand}
-use Rattle.segment_lang.specs.Seen.{command_of}
+use Rattle.segment_lang.specs.declared.commands.Deed.{Deed}
+use Rattle.segment_lang.specs.Seen.{deed_of}
 use Rattle.segment_scripts.specs.declared.replies.Answer.{Answer as Reply}
 use Rattle.segment_scripts.specs.declared.replies.Answer.TheVariants as said
 use Rattle.segment_scripts.specs.Replies.{Replies, answer_seen, shown_at, shown_of, told_at, told_of}
@@ -152,24 +152,24 @@ pub replies-plain : {A : Type 0} (f : A → Answer) → ((a : A) → is_untouche
 replies-plain f plain {old} {new} {c} {reply} result e other same h refused none =
     replies-call f plain result e other same h refused (finds-none old new c none)
 
--- ---- a command as the line that was read has it
+-- ---- a deed as the line that was read has it
 
-module _ {old new : State} {command x : CodeCommand} {reply : Reply} (is : command ≡ x) where
-  pub replies-as : Replies old new (command_of x) reply → Replies old new (command_of command) reply
-  replies-as = subst (λ y. Replies old new (command_of y) reply) (sym is)
+module _ {old new : State} {deed x : Deed} {reply : Reply} (is : deed ≡ x) where
+  pub replies-as : Replies old new (deed_of x) reply → Replies old new (deed_of deed) reply
+  replies-as = subst (λ y. Replies old new (deed_of y) reply) (sym is)
 
   pub replies-command : {A : Type 0} (f : A → Answer) → ((a : A) → is_untouched (f a) ≡ false) → (result : Result A Refusal)
-      → is_changing (command_of x) ≡ true → is_zero_free (command_of x) ≡ false → ((d : Directory) → answer_seen d reply ≡ answer_of f result)
-      → IsStep old new (command_of x) (answer_of f result) → KeepsRefused old new result
-      → ((d : Directory) → finds_nothing d (command_of x) ≡ false) → Replies old new (command_of command) reply
+      → is_changing (deed_of x) ≡ true → is_zero_free (deed_of x) ≡ false → ((d : Directory) → answer_seen d reply ≡ answer_of f result)
+      → IsStep old new (deed_of x) (answer_of f result) → KeepsRefused old new result
+      → ((d : Directory) → finds_nothing d (deed_of x) ≡ false) → Replies old new (deed_of deed) reply
   replies-command f plain result e other same h refused none =
       replies-as (replies-plain f plain result e other same h refused none)
 
   -- one that may find nothing to do
   pub replies-found : {A : Type 0} (f : A → Answer) → ((a : A) → is_untouched (f a) ≡ false) → (result : Result A Refusal)
-      → is_changing (command_of x) ≡ true → is_zero_free (command_of x) ≡ false → ((d : Directory) → answer_seen d reply ≡ answer_of f result)
-      → IsStep old new (command_of x) (answer_of f result) → KeepsRefused old new result
-      → KeepsFound old new (command_of x) → Replies old new (command_of command) reply
+      → is_changing (deed_of x) ≡ true → is_zero_free (deed_of x) ≡ false → ((d : Directory) → answer_seen d reply ≡ answer_of f result)
+      → IsStep old new (deed_of x) (answer_of f result) → KeepsRefused old new result
+      → KeepsFound old new (deed_of x) → Replies old new (deed_of deed) reply
   replies-found f plain result e other same h refused found = replies-as (replies-call f plain result e other same h refused found)
 
 -- ---- what is found

@@ -1,21 +1,7 @@
 -- A line of which no more than so many bytes are kept.
-use Rattle.std.proofs.Common.{◌≡◌, ℕ, ◌+◌, ◌-◌, ◌<◌, ◌≤◌, min, List, ◌++◌, length, take, ◌⊎◌, inl, inr, sym, ap, ◌∙◌, arith}
+use Rattle.std.proofs.Common.{◌≡◌, ℕ, ◌<◌, ◌≤◌, List, ◌++◌, length, take, ◌⊎◌, inl, inr, sym, ap, ◌∙◌, arith}
 use Rattle.std.proofs.lemmas.Bool.{cases_lt}
-use Rattle.std.proofs.lemmas.List.{take_all, take_at, take_min, length-take-le, take-append-le}
-use Rattle.std.proofs.lemmas.Slice.{take-put_mid}
-use Rattle.std.proofs.Math.Seq.{take-append-add}
-use borrow.Rule.Slice.PartMut.{put_mid}
-
--- of more bytes those are kept for which there is room behind the line
-pub room_filled : (n i k count : ℕ) (bytes line more part : List ℕ) → take i bytes ≡ line → i ≤ n → length bytes ≡ n → count ≡ min (n - i) (length more) → part ≡ take count more
-    → take (i + count) (put_mid i k bytes part) ≡ take n (line ++ more)
-room_filled n i k count bytes line more part e h size is from =
-    let long : length line ≡ i = sym (ap length e) ∙ length-take-le i bytes (omega arith) in
-    let fits : length part ≡ count = ap length from ∙ length-take-le count more (omega arith) in
-    let room : length line + (n - i) ≡ n = omega arith in
-    take-put_mid i k bytes part (i + count) (omega arith) (omega arith) ∙ ap (λ (l : List ℕ). l ++ part) e
-    ∙ ap (λ (l : List ℕ). line ++ l) (from ∙ ap (λ (c : ℕ). take c more) is ∙ take_min (n - i) more)
-    ∙ sym (take-append-add line more (n - i)) ∙ ap (λ (m : ℕ). take m (line ++ more)) room
+use Rattle.std.proofs.lemmas.List.{take_all, take_at, length-take-le, take-append-le}
 
 pub at_most_or_more : (a b : ℕ) → (a ≤ b) ⊎ (b < a)
 at_most_or_more a b = elim (cases_lt b a) [ inl h ↦ inr h | inr h ↦ inl h ]

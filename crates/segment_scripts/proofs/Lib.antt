@@ -1,4 +1,3 @@
-mod Exits
 mod LineLaws
 mod LineEnds
 mod Kept

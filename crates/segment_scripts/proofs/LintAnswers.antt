@@ -1,17 +1,18 @@
 -- What a lint answers, by what a line reads as.
-use Rattle.std.proofs.Common.{◌≡◌, ℕ, ◌+◌, Bool, true, List, [], Ok, refl, sym, ap, subst, ◌∙◌, arith}
+use Rattle.std.proofs.Common.{◌≡◌, ℕ, ◌+◌, Bool, true, false, List, [], Ok, refl, sym, ap, subst, ◌∙◌, arith}
 use Rattle.std.specs.Prelude.{Result, min}
 use Rattle.std.proofs.lemmas.List.{append-nil}
 use Rattle.raw_region.specs.Device.{Took, Writes}
 use Rattle.raw_region.specs.Format.{current}
 use Rattle.raw_region.specs.declared.device.DeviceFault.{DeviceFault}
-use Rattle.seg_types.specs.Commands.{Command, Nothing, Asked}
+use Rattle.seg_types.specs.Commands as asked
+use Rattle.seg_types.specs.Commands.{Reading, Nothing, Asked}
 use Rattle.seg_types.specs.declared.refusals.LineError.{LineError}
 use Rattle.seg_types.specs.declared.refusals.LineError.TheVariants.{UnknownCommand, LineTooLong, BadSyntax}
 use Rattle.segment_lang.specs.Language.{whole}
 use Rattle.segment_lang.specs.Reading.{reading, without_return}
-use Rattle.segment_lang.specs.Seen.{wrong_reading}
-use Rattle.segment_scripts.specs.Linting.{Place, finding_text, is_at, is_missed, lint_line, misses_line, respond, tells}
+use Rattle.segment_lang.specs.Seen.{is_wrong, wrong_reading}
+use Rattle.segment_scripts.specs.Linting.{Place, finding_text, is_at, lint_line, misses_line, respond, tells}
 use Rattle.segment_scripts.specs.Writing.{WritesFor}
 use Rattle.segment_scripts.specs.declared.language.CommandRow.{CommandRow}
 
@@ -50,17 +51,22 @@ module _ (line : ℕ) (found : Bool) (rows : List CommandRow) (after : ℕ) (byt
       counted = omega arith;
     }
 
-missed : (e : LineError) → true ≡ is_missed (wrong_reading e)
+missed : (e : LineError) → true ≡ is_wrong (wrong_reading e)
 missed UnknownCommand = refl
 missed LineTooLong = refl
 missed BadSyntax = refl
 
 -- a line that is told of is no command
 pub told_missed : (e : LineError) (bytes : List ℕ) → wrong_reading e ≡ reading (whole current) bytes → true ≡ misses_line bytes
-told_missed e bytes h = missed e ∙ ap is_missed h
+told_missed e bytes h = missed e ∙ ap is_wrong h
 
-pub nothing : (bytes : List ℕ) → Nothing ≡ reading (whole current) bytes → (at : Place) → lint_line at bytes ≡ ([], next at)
-nothing bytes h at = ap (respond (next at) bytes) (sym h)
-
-pub asked : (bytes : List ℕ) (c : Command) → Asked c ≡ reading (whole current) bytes → (at : Place) → lint_line at bytes ≡ ([], next at)
-asked bytes c h at = ap (respond (next at) bytes) (sym h)
+-- a line that is a command, or has none
+pub quiet : (bytes : List ℕ) → is_wrong (reading (whole current) bytes) ≡ false → (at : Place) → lint_line at bytes ≡ ([], next at)
+quiet bytes h at = silent (reading (whole current) bytes) h
+  where
+    silent : (r : Reading) → is_wrong r ≡ false → respond (next at) bytes r ≡ ([], next at)
+    silent Nothing h = refl
+    silent (Asked c) h = refl
+    silent asked.UnknownCommand h = absurd (cc)
+    silent asked.LineTooLong h = absurd (cc)
+    silent asked.BadSyntax h = absurd (cc)

@@ -3,10 +3,6 @@ use Rattle.std.proofs.Common.{◌≡◌, ℕ, Bool, true, false, if◌then◌els
 use Rattle.raw_region.specs.Device.{Took, Writes}
 use Rattle.seg_types.specs.Names.{Key}
 use Rattle.seg_types.specs.Commands.{Command, Reading, Asked, Pop, ZeroFree, is_changing}
-use Rattle.seg_types.specs.declared.keys.Key.{Key as CodeKey}
-use Rattle.segment_lang.specs.declared.commands.Command.{Command as CodeCommand}
-use Rattle.segment_lang.specs.declared.commands.Command.TheVariants.{Get as CodeGet, Pop as CodePop}
-use Rattle.segment_lang.specs.Seen.{command_of}
 use Rattle.segment_manager.specs.declared.modes.Mode.{Mode}
 use Rattle.segment_manager.specs.declared.modes.Mode.TheVariants.{Write, ReadOnly, CopyOnWrite}
 use Rattle.segment_manager.specs.Directory.{Directory}
@@ -20,7 +16,7 @@ use Rattle.segment_scripts.specs.ZeroGaps.{changes_nothing, is_zero_free}
 use Rattle.segment_scripts.specs.declared.replies.Answer.{Answer as Reply}
 use Rattle.segment_scripts.specs.Answer.{answer_text}
 use Rattle.segment_scripts.specs.Changes.{Executes}
-use Rattle.segment_scripts.specs.Replies.{Replies, answer_seen, has_element}
+use Rattle.segment_scripts.specs.Replies.{Replies, answer_seen}
 use Rattle.segment_scripts.specs.declared.answered.Answered.{Answered}
 use Rattle.segment_scripts.specs.Refusing.{AnswersFor, Tells, is_refusal, refuses}
 use Rattle.segment_scripts.specs.Run.{respond}
@@ -138,8 +134,3 @@ module _ {E : Type 0} {took took' : Took} {result : Result Answered E} {asked : 
   pub responds-replied : {old new : State} {c : Command} {reply : Reply} → Asked c ≡ asked → Replies old new c reply → AnswersFor took took' result (StandsFor new.cut.bytes) (λ d. answer_seen d reply)
       → Responds old new took took' result asked
   responds-replied {old} {new} {c} {reply} e done w = responds c e (executed old new c reply asked e done) (answers-before {said = λ d. answer_seen d reply} (λ d. (step old.mode d c).1) w done.denotes done.answers)
-
-pub no_element : (c : CodeCommand) → ((key : CodeKey) (i : ℕ) → c ≡ CodeGet key i → ⊥) → ((key : CodeKey) → c ≡ CodePop key → ⊥) → has_element (command_of c) ≡ false
-no_element (CodeGet key i) m n = absurd (m key i refl)
-no_element (CodePop key) m n = absurd (n key refl)
-no_element c m n = refl

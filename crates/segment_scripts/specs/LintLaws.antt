@@ -4,8 +4,9 @@ use Rattle.std.specs.Prelude.{min}
 use Rattle.std.proofs.lemmas.List.{length-take-le}
 use Rattle.raw_region.specs.Format.{current}
 use Rattle.segment_lang.specs.Language.{whole}
+use Rattle.segment_lang.specs.Seen.{is_wrong}
 use Rattle.segment_scripts.specs.LongLines.{too_long}
-use Rattle.segment_scripts.specs.Linting.{Place, is_missed, lint_line, misses_line, respond}
+use Rattle.segment_scripts.specs.Linting.{Place, lint_line, misses_line, respond}
 
 pub lint_line-long : (at : Place) (line : List ℕ) → 4097 < length line → lint_line at line ≡ lint_line at (take 4098 line)
 lint_line-long at line h =
@@ -16,4 +17,4 @@ lint_line-long at line h =
 pub misses_line-long : (line : List ℕ) → 4097 < length line → misses_line line ≡ misses_line (take 4098 line)
 misses_line-long line h =
     let long = length-take-le 4098 line (omega arith) in
-    ap is_missed (too_long (whole current) line h ∙ sym (too_long (whole current) (take 4098 line) (omega arith)))
+    ap is_wrong (too_long (whole current) line h ∙ sym (too_long (whole current) (take 4098 line) (omega arith)))

@@ -6,6 +6,7 @@ use Rattle.seg_types.specs.declared.refusals.LineError.{LineError}
 use Rattle.seg_types.specs.declared.refusals.LineError.TheVariants as wrong
 use Rattle.segment_lang.specs.Language.{whole}
 use Rattle.segment_lang.specs.Reading.{reading, without_return}
+use Rattle.segment_lang.specs.Seen.{is_wrong}
 use Rattle.segment_lang.specs.Texts.{line_error_text}
 use Rattle.segment_lang.specs.Words.{is_blank}
 use Rattle.segment_scripts.specs.CommandRows.{usage_of}
@@ -63,16 +64,9 @@ is_at line found rows at = (line ≡ at.line) × (found ≡ at.found) × (rows �
 abbrev pub tells : Place → LineError → List ℕ → List ℕ × Place
 tells at e line = (finding_text at.rows at.line e (without_return line), record at { found = true })
 
--- the reading is no command
-abbrev pub is_missed : Reading → Bool
-is_missed Nothing = false
-is_missed (Asked c) = false
-is_missed UnknownCommand = true
-is_missed LineTooLong = true
-is_missed BadSyntax = true
-
+-- the line is no command
 abbrev pub misses_line : List ℕ → Bool
-misses_line line = is_missed (reading (whole current) line)
+misses_line line = is_wrong (reading (whole current) line)
 
 abbrev pub respond : Place → List ℕ → Reading → List ℕ × Place
 respond at line Nothing = ([], at)

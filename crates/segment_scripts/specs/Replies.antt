@@ -1,5 +1,5 @@
 -- What a command is answered by a call, and the step of the directory machine that this is.
-use Rattle.std.specs.Prelude.{◌≡◌, ◌≤◌, ℕ, ◌+◌, Bool, true, false, Option, Some, None, List, [], ◌∷◌, length, slice_get, ⊤, IsTrue}
+use Rattle.std.specs.Prelude.{◌≡◌, ◌≤◌, ℕ, ◌+◌, true, false, Option, Some, None, List, [], ◌∷◌, length, slice_get, ⊤, IsTrue}
 use Rattle.best_fit.specs.Extents.{spans}
 use Rattle.seg_types.specs.declared.kinds.Kind.TheVariants.{Map, Scalar, String, Strings as StringsKind, Vector}
 use Rattle.seg_types.specs.declared.refusals.Refusal.TheVariants.{NotFound, OutOfRange, WrongKind}
@@ -94,12 +94,6 @@ IsMeant (asked.Insert key i l) = bytes_taken (l ∷ []) ≤ 4097
 IsMeant (asked.Assign key ls) = bytes_taken ls ≤ 4097
 IsMeant (asked.Append key bs) = length bs ≤ 4096
 IsMeant c = ⊤
-
--- a command that answers an element, which is written while the segment lends it
-abbrev pub has_element : Command → Bool
-has_element (asked.Get key i) = true
-has_element (asked.Pop key) = true
-has_element c = false
 
 -- The call is one step of the directory machine, and the reply stands for its answer in the directory behind it.
 -- Nothing changes where the command only reads, finds that there is nothing to do or is refused before it asks for a

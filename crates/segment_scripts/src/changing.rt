@@ -2,12 +2,11 @@
 ghost use Rattle.std.specs.Prelude.{◌≡◌, ◌≤◌, OnErr, length, map};
 ghost use Rattle.seg_types.specs.declared.kinds.Kind.TheVariants.{String as StringKind, Strings as StringsKind};
 ghost use Rattle.seg_types.specs.declared.kinds.Kind.TheVariants.{Vector as VectorOf};
-ghost use Rattle.seg_types.specs.Commands.{Append, Assign, Clear, Put, Quoted as AskedQuoted, Reserve, Shrink};
+ghost use Rattle.seg_types.specs.Commands.{Append, Assign, Quoted as AskedQuoted};
 ghost use Rattle.seg_types.specs.Keys.{key_seen};
 ghost use Rattle.seg_types.specs.Names.{ByHandle};
 ghost use Rattle.segment_manager.specs.objects.Located.{IsObject};
-ghost use Rattle.segment_manager.specs.Keeping.{HasPlaces, KeepsWhere};
-ghost use Rattle.segment_manager.specs.State.{IsStep, IsStepOfKind, KeepsRefused, done_answer, truth_answer};
+ghost use Rattle.segment_manager.specs.State.{IsStep, IsStepOfKind, KeepsRefused, done_answer};
 ghost use Rattle.segment_scripts.specs.Changes.{IsChangeable};
 ghost use Rattle.segment_scripts.specs.Replies.{bytes_taken};
 
@@ -15,9 +14,9 @@ use crate::machine::Room;
 use crate::rows::{Row, Rows, literal_row, on_row, only_text};
 use crate::text_rows::{FEW, TextRow, literal_texts};
 use seg_types::{Key, Kind, Refusal, Scalar, ScalarKind};
-use segment_lang::{Literals, Pair, Quoted, Text};
+use segment_lang::{Literals, Quoted, Text};
 use segment_manager::{Object, Segment};
-use segment_values::{object_to_change, put_pair};
+use segment_values::object_to_change;
 
 /// Makes values those of the vector of a key, or one text the bytes of the string of a key.
 ///
@@ -154,57 +153,4 @@ pub fn append(
     ensures refused { OnErr result (segment.new ≡ segment.old) }
 {
     segment.string_append(key, text.bytes(scratch))
-}
-
-/// Makes room in the vector or string of a key.
-///
-/// # Errors
-///
-/// As the segment's call. Nothing changes.
-#[inline(never)]
-pub fn reserve(segment: &mut Segment, key: &Key, count: u64) -> Result<(), Refusal>
-    ensures step { IsStep segment.old segment.new (Reserve (key_seen key.now) count) (done_answer result) }
-    ensures refused { OnErr result (segment.new ≡ segment.old) }
-    ensures enough { KeepsWhere segment.old segment.new (HasPlaces (key_seen key.now) count) }
-{
-    segment.reserve(key, count)
-}
-
-/// Gives back the room of the vector or string of a key that no element uses.
-///
-/// # Errors
-///
-/// As the segment's call. Nothing changes.
-#[inline(never)]
-pub fn shrink(segment: &mut Segment, key: &Key) -> Result<(), Refusal>
-    ensures step { IsStep segment.old segment.new (Shrink (key_seen key.now)) (done_answer result) }
-    ensures refused { OnErr result (segment.new ≡ segment.old) }
-{
-    segment.shrink(key)
-}
-
-/// Takes all elements out of the vector or string of a key.
-///
-/// # Errors
-///
-/// As the segment's call. Nothing changes.
-#[inline(never)]
-pub fn clear(segment: &mut Segment, key: &Key) -> Result<(), Refusal>
-    ensures step { IsStep segment.old segment.new (Clear (key_seen key.now)) (done_answer result) }
-    ensures refused { OnErr result (segment.new ≡ segment.old) }
-{
-    segment.clear(key)
-}
-
-/// Puts the pair that a line writes into the map of a key, and answers whether its key is new.
-///
-/// # Errors
-///
-/// As `put_pair`. Nothing changes.
-pub fn put_written_pair(segment: &mut Segment, key: &Key, pair: Pair<'_>) -> Result<bool, Refusal>
-    ensures step { IsStep segment.old segment.new (Put (key_seen key.now) pair.entry.0 pair.entry.1) (truth_answer result) }
-    ensures refused { OnErr result (segment.new ≡ segment.old) }
-{
-    let (at, value) = pair.literals();
-    put_pair(segment, key, &at, &value)
 }

@@ -11,7 +11,6 @@ mod language;
 mod linting;
 mod listing;
 mod machine;
-mod open_line;
 mod popping;
 mod printing;
 mod replies;

@@ -9,9 +9,7 @@ use crate::answered::Answered;
 use crate::language::CommandRow;
 use crate::machine::{Machine, Scratch};
 use raw_region::{DeviceFault, Sink};
-use segment_lang::{
-    LONGEST_LINE, LineError, Piece, Reading, parse_line, put_pieces, without_return,
-};
+use segment_lang::{LONGEST_LINE, LineError, Piece, line_error, put_pieces, without_return};
 
 /// Reads the lines of a script, and tells which are no commands: their number, the column, the error, and what is
 /// expected.
@@ -58,14 +56,13 @@ impl<'a> Machine for Lint<'a> {
         out: &mut W,
     ) -> Result<Answered, DeviceFault> {
         self.line = self.line.saturating_add(1);
-        match parse_line(line, &mut scratch.name) {
-            Reading::Wrong(error) => {
+        match line_error(line, &mut scratch.name) {
+            Some(error) => {
                 self.has_found = true;
                 let told = put_finding(self.rows, self.line, error, without_return(line), out);
                 Answered::Refused.once(told)
             }
-            Reading::Asked(_) => Ok(Answered::Done),
-            Reading::Nothing => Ok(Answered::Done),
+            None => Ok(Answered::Done),
         }
     }
 

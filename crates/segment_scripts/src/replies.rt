@@ -1,17 +1,17 @@
 //! What a command is answered: each is executed by one call of the segment, for some by the kind of the object.
-ghost use Rattle.std.specs.Prelude.{◌≡◌, false};
-ghost use Rattle.segment_lang.specs.Seen.{command_of};
+ghost use Rattle.std.specs.Prelude.{◌≡◌};
+ghost use Rattle.segment_lang.specs.Seen.{deed_of};
 ghost use Rattle.segment_manager.specs.Directory.{Directory};
 ghost use Rattle.segment_manager.specs.objects.Found.{found_answer, pair_answer};
 ghost use Rattle.segment_manager.specs.containers.Maps.{any_value_answer};
 ghost use Rattle.segment_manager.specs.State.{done_answer, gone_answer, handle_answer, scalar_answer, truth_answer};
-ghost use Rattle.segment_scripts.specs.Replies.{IsMeant, Replies, answer_seen, has_element};
+ghost use Rattle.segment_scripts.specs.Replies.{IsMeant, Replies, answer_seen};
 
-use crate::changing::{append, assign, clear, put_written_pair, reserve, shrink};
+use crate::changing::{append, assign};
 use crate::constructing::{construct, construct_it, find_or_construct};
 use crate::machine::Room;
 use seg_types::{Handle, Key, Refusal, ScalarValue};
-use segment_lang::Command;
+use segment_lang::Deed;
 use segment_manager::Segment;
 use segment_values::{Spot, add, erase, erase_pair, look_up, set};
 
@@ -46,60 +46,51 @@ pub enum Answer<'a> {
     Refused(Refusal),
 }
 
-/// Executes a command that reads no element and takes none out, and answers it. What the line escapes or
-/// lists is put into `room`.
+/// Does a deed, and answers it. What the line escapes or lists is put into `room`.
 #[inline(never)]
-pub fn reply<'a>(segment: &mut Segment, command: Command<'a>, room: &mut Room) -> Answer<'a>
-    requires meant { IsMeant (command_of command) }
-    requires short { has_element (command_of command) ≡ false }
-    ensures { Replies segment.old segment.new (command_of command.entry) result }
+pub fn reply<'a>(segment: &mut Segment, deed: Deed<'a>, room: &mut Room) -> Answer<'a>
+    requires { IsMeant (deed_of deed) }
+    ensures { Replies segment.old segment.new (deed_of deed.entry) result }
 {
-    match command {
-        Command::Construct { key, content } => made(construct(segment, &key, content, room)),
-        Command::ConstructIt { key, count, values } => {
+    match deed {
+        Deed::Construct { key, content } => made(construct(segment, &key, content, room)),
+        Deed::ConstructIt { key, count, values } => {
             made(construct_it(segment, &key, count, values))
         }
-        Command::Find { kind, key } => looked_up(segment.find_kind(&key.into_key(), kind)),
-        Command::FindOrConstruct { key, content } => {
+        Deed::Find { kind, key } => looked_up(segment.find_kind(&key.into_key(), kind)),
+        Deed::FindOrConstruct { key, content } => {
             found(find_or_construct(segment, &key, content, room))
         }
-        Command::Destroy(key) => truth(segment.destroy(&key)),
-        Command::DestroyPtr(handle) => gone(segment.destroy_ptr(handle)),
-        Command::Show(key) => Answer::Shown(key),
-        Command::Info(key) => Answer::Told(key),
-        Command::Get { .. } => unreachable!(),
-        Command::Set { key, index, value } => {
+        Deed::Destroy(key) => truth(segment.destroy(&key)),
+        Deed::DestroyPtr(handle) => gone(segment.destroy_ptr(handle)),
+        Deed::Show(key) => Answer::Shown(key),
+        Deed::Info(key) => Answer::Told(key),
+        Deed::Set { key, index, value } => {
             done(set(segment, &key, index, &value, &mut room.text))
         }
-        Command::Push { key, value } => {
-            done(add(segment, &key, Spot::End, &value, &mut room.text))
-        }
-        Command::Pop(_) => unreachable!(),
-        Command::Insert { key, index, value } => {
+        Deed::Insert { key, index, value } => {
             done(add(segment, &key, Spot::Before(index), &value, &mut room.text))
         }
-        Command::Erase { key, index } => done(erase(segment, &key, index)),
-        Command::Reserve { key, count } => done(reserve(segment, &key, count)),
-        Command::Shrink(key) => done(shrink(segment, &key)),
-        Command::Clear(key) => done(clear(segment, &key)),
-        Command::Assign { key, values } => done(assign(segment, &key, values, room)),
-        Command::Append { key, text } => done(append(segment, &key, text, &mut room.text)),
-        Command::Put { key, pair } => truth(put_written_pair(segment, &key, pair)),
-        Command::Lookup { key, at } => value_found(look_up(segment, &key, &at)),
-        Command::Remove { key, at } => truth(erase_pair(segment, &key, &at)),
-        Command::ListNames => Answer::Names,
-        Command::ListKinds => Answer::Kinds,
-        Command::Blocks => Answer::Blocks,
-        Command::Size => Answer::Number(segment.size()),
-        Command::Free => Answer::Number(segment.free()),
-        Command::NumNamed => Answer::Number(segment.num_named()),
-        Command::NumUnique => Answer::Number(segment.num_unique()),
-        Command::ReserveNamed(count) => done(segment.reserve_named(count)),
-        Command::ReserveUnique(count) => done(segment.reserve_unique(count)),
-        Command::ShrinkIndexes => done(segment.shrink_indexes()),
-        Command::ZeroFree => done(segment.zero_free()),
-        Command::Sanity => Answer::Truth(segment.sanity()),
-        Command::AllDeallocated => Answer::Truth(segment.all_deallocated()),
+        Deed::Erase { key, index } => done(erase(segment, &key, index)),
+        Deed::Reserve { key, count } => done(segment.reserve(&key, count)),
+        Deed::Shrink(key) => done(segment.shrink(&key)),
+        Deed::Clear(key) => done(segment.clear(&key)),
+        Deed::Assign { key, values } => done(assign(segment, &key, values, room)),
+        Deed::Append { key, text } => done(append(segment, &key, text, &mut room.text)),
+        Deed::Lookup { key, at } => value_found(look_up(segment, &key, &at)),
+        Deed::Remove { key, at } => truth(erase_pair(segment, &key, &at)),
+        Deed::ListNames => Answer::Names,
+        Deed::ListKinds => Answer::Kinds,
+        Deed::Blocks => Answer::Blocks,
+        Deed::Free => Answer::Number(segment.free()),
+        Deed::NumNamed => Answer::Number(segment.num_named()),
+        Deed::NumUnique => Answer::Number(segment.num_unique()),
+        Deed::ReserveNamed(count) => done(segment.reserve_named(count)),
+        Deed::ReserveUnique(count) => done(segment.reserve_unique(count)),
+        Deed::ShrinkIndexes => done(segment.shrink_indexes()),
+        Deed::ZeroFree => done(segment.zero_free()),
+        Deed::Sanity => Answer::Truth(segment.sanity()),
+        Deed::AllDeallocated => Answer::Truth(segment.all_deallocated()),
     }
 }
 

@@ -1,5 +1,5 @@
 //! The values of a line as a type has them, in place.
-ghost use Rattle.std.specs.Prelude.{◌≡◌, ◌≤◌, ◌<◌, ◌++◌, ◌∷◌, [], List, IsTrue, MatchResult, Ok, Err, length, map, take, true};
+ghost use Rattle.std.specs.Prelude.{◌≡◌, ◌≤◌, IsTrue, MatchResult, Ok, Err, length, map, true};
 ghost use Rattle.std.specs.List.{AllByRecursion};
 ghost use Rattle.seg_types.specs.Kinds.{is_value};
 ghost use Rattle.seg_types.specs.Values.{kind_of_scalar, value_of_scalar};
@@ -9,64 +9,13 @@ ghost use Rattle.segment_scripts.specs.Replies.{bytes_taken};
 
 use seg_types::theorems::scalar_is_number;
 use seg_types::{Refusal, Scalar, ScalarValue, Written};
-use segment_lang::{Literal, Literals, Text, Values};
-use std::marker::Model;
-
-/// The most values that a line has: each takes a byte, and another parts it from the next.
-const MOST: usize = 2048;
+use segment_lang::{Buffer, Literal, Literals, Text, Values};
 
 /// The longest spelling of a scalar, in bytes.
 const LONGEST: usize = 8;
 
-/// Values of a type, as many as a line may have.
-#[derive(Drop)]
-pub struct Row<T: Scalar> {
-    values: [T; 2048],
-    len: usize,
-}
-
-impl<T: Scalar> Model for Row<T> {
-    ghost Value = { List T };
-
-    ghost view = { λ r. take r.len r.values };
-
-    ghost invariant = { λ r. r.len ≤ 2048 };
-}
-
-impl<T: Scalar> Row<T> {
-    /// No values.
-    pub fn new() -> Self
-        ensures { result ≡ [] }
-    {
-        Row {
-            values: [zero::<T>(); MOST],
-            len: 0,
-        }
-    }
-
-    /// Takes all values out. It costs nothing: what stands in their places is not looked at again.
-    pub fn clear(&mut self)
-        ensures { self.new ≡ [] }
-    {
-        self.len = 0;
-    }
-
-    /// The values.
-    pub fn as_slice(&self) -> &[T]
-        ensures { result.now ≡ self.now }
-    {
-        &self.values[..self.len]
-    }
-
-    /// Adds a value at the end.
-    pub fn push(&mut self, value: T)
-        requires { length self.old < 2048 }
-        ensures { self.new ≡ self.old ++ value ∷ [] }
-    {
-        self.values[self.len] = value;
-        self.len += 1;
-    }
-}
+/// Values of a type, as many as a line may have: each takes a byte, and another parts it from the next.
+pub type Row<T> = Buffer<T, 2048>;
 
 /// A row for each type that values of a line may have.
 #[derive(Drop)]
@@ -103,15 +52,6 @@ impl Rows {
             i64s: Row::new(),
             u64s: Row::new(),
         }
-    }
-}
-
-/// A value for the places of a row that have none of the line.
-fn zero<T: Scalar>() -> T {
-    let bytes = [0; LONGEST];
-    match scalar_is_number::<T>(&bytes[..T::SIZE as usize]) {
-        Some(value) => value,
-        None => unreachable!(),
     }
 }
 

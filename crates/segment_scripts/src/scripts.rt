@@ -14,16 +14,19 @@ use crate::ends::{End, Until};
 use crate::faults::RunFault;
 use crate::followers::{Follower, Nobody};
 use crate::machine::{Machine, Room, Scratch};
-use crate::open_line::OpenLine;
 use memchr::memchr_iter;
 use raw_region::{DeviceFault, Sink, Source};
-use segment_lang::Text;
+use segment_lang::{Buffer, Text};
 
 /// How many bytes of a script are read at once, at most.
 const PIECE: usize = 65536;
 
 /// The most bytes that a script may have.
 const SCRIPT_LIMIT: usize = 16777216;
+
+/// The first 4098 bytes of a line that has not ended yet, or all of them where it has fewer: a longer line is answered by
+/// these alone.
+type OpenLine = Buffer<u8, 4098>;
 
 /// Where the first line end is. It looks at 32 bytes first, since most lines are short.
 fn line_end(bytes: &[u8]) -> Option<usize>

@@ -18,8 +18,8 @@ use crate::replies::{done, reply, truth};
 use crate::showing::put_got;
 use raw_region::{DeviceFault, Sink};
 use segment_lang::{
-    Command, CommandForm, Lead, LineError, Piece, is_alone, key_and_literal, key_and_number,
-    key_and_pair, lead_of, put_number_line, put_pieces, read_command,
+    CommandForm, DeedForm, Lead, LineError, Piece, is_alone, key_and_literal, key_and_number,
+    key_and_pair, lead_of, only_key, put_number_line, put_pieces, read_deed,
 };
 use segment_manager::Segment;
 use segment_values::{Spot, add, put_pair};
@@ -46,7 +46,8 @@ impl Machine for Segment {
                 CommandForm::Get => answer_get(self, rest, scratch, out),
                 CommandForm::Push => answer_push(self, rest, scratch, out),
                 CommandForm::Put => answer_put(self, rest, scratch, out),
-                _ => answer_form(self, form, rest, scratch, out),
+                CommandForm::Pop => answer_pop(self, rest, scratch, out),
+                CommandForm::Deed(form) => answer_deed(self, form, rest, scratch, out),
             },
             Lead::Wrong(error) => put_wrong(error, out),
         }
@@ -141,28 +142,41 @@ fn answer_put<W: Sink>(
     }
 }
 
-/// Answers a command word of any form, with what stands behind it.
+/// Answers `pop`, with what stands behind it.
 #[inline(never)]
-fn answer_form<W: Sink>(
+fn answer_pop<W: Sink>(
     segment: &mut Segment,
-    form: CommandForm,
+    rest: &[u8],
+    scratch: &mut Scratch,
+    out: &mut W,
+) -> Result<Answered, DeviceFault>
+    requires { (W.history out.old).failures < 2 ^ 64 - 1 }
+    ensures { Responds segment.old segment.new (W.history out.old) (W.history out.new) result (reading_by form.Pop rest.now) }
+{
+    match only_key(rest, &mut scratch.name) {
+        Some(key) => pop(segment, &key, out),
+        None => put_wrong(LineError::BadSyntax, out),
+    }
+}
+
+/// Answers the command word of a deed, with what stands behind it.
+#[inline(never)]
+fn answer_deed<W: Sink>(
+    segment: &mut Segment,
+    kind: DeedForm,
     rest: &[u8],
     scratch: &mut Scratch,
     out: &mut W,
 ) -> Result<Answered, DeviceFault>
     requires room { (W.history out.old).failures < 2 ^ 64 - 1 }
-    requires meant { (c : AskedCommand) → Asked c ≡ reading_by form rest.now → IsMeant c }
-    ensures { Responds segment.old segment.new (W.history out.old) (W.history out.new) result (reading_by form rest.now) }
+    requires meant { (c : AskedCommand) → Asked c ≡ reading_by (form.Deed kind) rest.now → IsMeant c }
+    ensures { Responds segment.old segment.new (W.history out.old) (W.history out.new) result (reading_by (form.Deed kind) rest.now) }
 {
-    match read_command(form, rest, &mut scratch.name) {
-        Some(command) => match command {
-            Command::Get { key, index } => put_got(segment, &key, index, out),
-            Command::Pop(key) => pop(segment, &key, out),
-            _ => {
-                let answer = reply(segment, command, &mut scratch.room);
-                put_answer(segment, answer, out)
-            }
-        },
+    match read_deed(kind, rest, &mut scratch.name) {
+        Some(deed) => {
+            let answer = reply(segment, deed, &mut scratch.room);
+            put_answer(segment, answer, out)
+        }
         None => put_wrong(LineError::BadSyntax, out),
     }
 }

@@ -1,8 +1,8 @@
 -- The texts of an object's elements are those of its value, whatever their layout.
-use Rattle.std.proofs.Common.{◌≡◌, ℕ, suc, ℤ, Bool, true, false, ◌&&◌, List, [], ◌∷◌, ◌++◌, length, map, Option, Some}
-use Rattle.std.proofs.Common.{None, Result, Ok, Err, if◌then◌else◌, slice_get, refl, sym, ap, subst, ◌∙◌}
+use Rattle.std.proofs.Common.{◌≡◌, ℕ, zero, suc, ℤ, Bool, true, false, ◌&&◌, List, [], ◌∷◌, length, map, Option, Some}
+use Rattle.std.proofs.Common.{None, Result, Ok, Err, if◌then◌else◌, slice_get, refl, sym, ap, ◌∙◌}
 use Rattle.best_fit.specs.Table.{Table}
-use Rattle.seg_types.specs.declared.kinds.Kind.TheVariants.{Scalar, String, Strings as StringsKind, Vector}
+use Rattle.seg_types.specs.declared.kinds.Kind.TheVariants.{Map, Scalar, String, Strings as StringsKind}
 use Rattle.seg_types.specs.declared.kinds.ScalarKind.{ScalarKind}
 use Rattle.seg_types.specs.declared.refusals.Refusal.{Refusal}
 use Rattle.seg_types.specs.declared.refusals.Refusal.TheVariants.{NotFound, OutOfRange, WrongKind}
@@ -12,8 +12,8 @@ use Rattle.seg_map.specs.Places.{item_of}
 use Rattle.seg_vector.specs.Vector.{OwnedText}
 use Rattle.segment_manager.specs.declared.modes.Mode.{Mode}
 use Rattle.segment_manager.specs.declared.objects.targets.Object.{Object as Located}
-use Rattle.segment_manager.specs.Answers.{Element, TextElement}
-use Rattle.segment_manager.specs.Calls.{HasScalars, elements_of}
+use Rattle.segment_manager.specs.Answers.{Answer, Element, Refused, TextElement}
+use Rattle.segment_manager.specs.Calls.{elements_of, scalar_reply}
 use Rattle.segment_manager.specs.containers.Contents.{bytes_at, sizes_at, sizes_of, text_bytes}
 use Rattle.segment_manager.specs.Directory.{Value, Numbers, Elements, Bytes, Pairs, Texts, Object, Directory}
 use Rattle.segment_manager.specs.Directory.{count_of, kind_of, live, object_at}
@@ -21,14 +21,15 @@ use Rattle.segment_manager.specs.objects.Located.{IsLocated}
 use Rattle.segment_manager.specs.Parts.{part_of, parts_until}
 use Rattle.segment_manager.specs.Plan.{Plan, Refuse, Reply, perform, with}
 use Rattle.segment_manager.specs.State.{Answers, State, StandsFor}
-use Rattle.segment_manager.specs.Step.{effect, get, is_read_only, step_of_kind}
-use Rattle.segment_manager.proofs.CommandLaws.{IsElements, IsTexts, answered-reads, texts-if, vector-if}
+use Rattle.segment_manager.specs.Step.{effect, get, is_read_only, step, step_of_kind}
+use Rattle.segment_manager.proofs.CommandLaws.{IsTexts, answered-reads, texts-if}
 use Rattle.segment_manager.proofs.Laws.{said-at}
-use Rattle.segment_manager.proofs.PartLaws.{parts-same}
-use Rattle.segment_values.specs.Asked.{element_part, element_text, length_in, string_part, text_part}
-use Rattle.segment_values.specs.Contents.{bytes_in, content_of, count_of_content}
-use Rattle.segment_values.specs.Layouts.{Spelling, count_at, laid_at, laid_from, laid_object, laid_out, object_count}
-use Rattle.segment_values.proofs.Laid.{laid-made, parts-laid}
+use Rattle.segment_values.specs.Asked.{length_in}
+use Rattle.segment_values.specs.Contents as content
+use Rattle.segment_values.specs.Contents.{Content, bytes_in, content_of, count_of_content}
+use Rattle.segment_values.specs.Layouts.{Spelling, content_part, count_at, laid_at, laid_object, laid_out, object_count}
+use Rattle.segment_values.specs.Layouts.{object_part, part_at}
+use Rattle.segment_values.proofs.Laid.{parts-laid}
 use Rattle.seg_types.specs.declared.refusals.Refusal.TheVariants as refusal
 use Rattle.seg_types.specs.Commands as asked
 
@@ -37,6 +38,20 @@ length-made g [] = refl
 length-made g (x ∷ xs) = ap (λ n. suc n) (length-made g xs)
 
 -- ---- one element
+
+-- the text of what is answered for an element, and nothing where there is none
+abbrev pub element_text : Spelling → ℕ → Answer → List ℕ
+element_text s i (Element k z) = s.scalar i k z
+element_text s i (TextElement bs) = s.text i bs
+element_text s i answer = []
+
+abbrev pub string_text : Spelling → ℕ → Result (List ℕ) Refusal → List ℕ
+string_text s i (Ok bs) = s.text i bs
+string_text s i (Err r) = []
+
+at-value : (sp : Spelling) (i : ℕ) (d : Directory) (key : Key) (o : Object) (v : Value) → object_at d key ≡ Some o → o.value ≡ v
+    → part_at sp d key i ≡ content_part sp (content_of v) i
+at-value sp i d key o v e f = ap (part_of (object_part sp i)) e ∙ ap (λ (w : Value). content_part sp (content_of w) i) f
 
 abbrev going_on : (Object → Plan) → Option Object → Plan
 going_on next r = with (elim r as (λ _. Result Object Refusal) [ None ↦ Err NotFound | Some o ↦ Ok o ]) next
@@ -50,31 +65,34 @@ element-if : (sp : Spelling) (i : ℕ) (d : Directory) (k : ScalarKind) (r : Opt
 element-if sp i d k None = refl
 element-if sp i d k (Some z) = refl
 
--- numbers, alone or in a vector, by how they are read and by their texts
-record IsRow (v : Value) (k : ScalarKind) (zs : List ℤ) : Type 0 where
-  gets : (d : Directory) (i : ℕ) → get d v i ≡ element_of d k (slice_get zs i)
-  laid : (sp : Spelling) → laid_out sp (content_of v) ≡ laid_from (λ j z. sp.scalar j k z) 0 zs
+abbrev elements_of_object : Option Object → Result ScalarKind Refusal
+elements_of_object r = elim r as (λ _. Result ScalarKind Refusal) [ None ↦ Err NotFound | Some o ↦ elements_of (kind_of o.value) ]
 
-numbers-row : (k : ScalarKind) (zs : List ℤ) → IsRow (Numbers k zs) k zs
-numbers-row k zs = record { gets = λ d i. refl; laid = λ sp. refl }
+abbrev reply_for : Mode → Directory → Key → ℕ → Result ScalarKind Refusal → Answer
+reply_for mode d key i r = elim r as (λ _. Answer) [ Err why ↦ Refused why | Ok k ↦ (step mode d (asked.Get key i)).0 ]
 
-vector-row : (k : ScalarKind) (zs : List ℤ) (t : Table) → IsRow (Elements k zs t) k zs
-vector-row k zs t = record { gets = λ d i. refl; laid = λ sp. refl }
+-- a number, alone or in a vector
+module _ (sp : Spelling) (mode : Mode) (d : Directory) (key : Key) (i : ℕ) (o : Object) (e : object_at d key ≡ Some o) where
+  number-part : (v : Value) (k : ScalarKind) (zs : List ℤ) → o.value ≡ v → elements_of (kind_of v) ≡ Ok k → get d v i ≡ element_of d k (slice_get zs i)
+      → content_part sp (content_of v) i ≡ part_of (sp.scalar i k) (slice_get zs i)
+      → element_text sp i (scalar_reply mode d key (asked.Get key i)) ≡ part_at sp d key i
+  number-part v k zs f has gets laid =
+      ap (λ (r : Option Object). element_text sp i (reply_for mode d key i (elements_of_object r))) e
+      ∙ ap (λ (w : Value). element_text sp i (reply_for mode d key i (elements_of (kind_of w)))) f
+      ∙ ap (λ (r : Result ScalarKind Refusal). element_text sp i (reply_for mode d key i r)) has
+      ∙ ap (element_text sp i) (answered-reads mode d (asked.Get key i) refl)
+      ∙ ap (λ (r : Option Object). element_text sp i (perform d (live d) (going_on (λ o. get d o.value i) r)).0) e
+      ∙ ap (λ (w : Value). element_text sp i (perform d (live d) (get d w i)).0) f
+      ∙ ap (λ (p : Plan). element_text sp i (perform d (live d) p).0) gets
+      ∙ element-if sp i d k (slice_get zs i) ∙ sym (at-value sp i d key o v e f ∙ laid)
 
-element-is : (sp : Spelling) (mode : Mode) (d : Directory) (key : Key) (o : Object) (k : ScalarKind) (zs : List ℤ) (i : ℕ) → object_at d key ≡ Some o → IsRow o.value k zs
-    → element_part sp mode d key i ≡ part_of (sp.scalar i k) (slice_get zs i)
-element-is sp mode d key o k zs i e row =
-    ap (element_text sp i) (answered-reads mode d (asked.Get key i) refl)
-    ∙ ap (λ (r : Option Object). element_text sp i (perform d (live d) (going_on (λ o. get d o.value i) r)).0) e
-    ∙ ap (λ (p : Plan). element_text sp i (perform d (live d) p).0) (row.gets d i)
-    ∙ element-if sp i d k (slice_get zs i)
-
--- all of them
-row-laid : (sp : Spelling) (mode : Mode) (d : Directory) (key : Key) (o : Object) (k : ScalarKind) (zs : List ℤ) → object_at d key ≡ Some o → IsRow o.value k zs
-    → parts_until (element_part sp mode d key) (length zs) ≡ laid_object sp o
-row-laid sp mode d key o k zs e row =
-    parts-same (element_part sp mode d key) (λ i. part_of (sp.scalar i k) (slice_get zs i)) (length zs) (λ i. element-is sp mode d key o k zs i e row)
-    ∙ parts-laid (λ i z. sp.scalar i k z) zs ∙ sym (row.laid sp)
+  value-part : (v : Value) → o.value ≡ v → (kind_of v ≡ String → ⊥) → (kind_of v ≡ StringsKind → ⊥) → ((k l : ScalarKind) → kind_of v ≡ Map k l → ⊥)
+      → element_text sp i (scalar_reply mode d key (asked.Get key i)) ≡ part_at sp d key i
+  value-part (Numbers k zs) f string strings map = number-part (Numbers k zs) k zs f refl refl refl
+  value-part (Elements k zs t) f string strings map = number-part (Elements k zs t) k zs f refl refl refl
+  value-part (Bytes bs t) f string strings map = absurd (string refl)
+  value-part (Texts ps t) f string strings map = absurd (strings refl)
+  value-part (Pairs k l ps) f string strings map = absurd (map k l refl)
 
 -- ---- texts
 
@@ -106,7 +124,7 @@ asked-step mode d key i =
     ap (λ p. (perform d (live d) p).0) (read-only (is_read_only mode && false) (going_on (λ o. for_texts d key i o.value) (object_at d key)) (never (is_read_only mode)))
 
 text-is : (sp : Spelling) (mode : Mode) (d : Directory) (key : Key) (o : Object) (ps : List OwnedText) (t : Table) (i : ℕ) → object_at d key ≡ Some o → o.value ≡ Texts ps t
-    → text_part sp mode d key i ≡ part_of (owned_text sp i) (slice_get ps i)
+    → element_text sp i (step_of_kind mode d key StringsKind (asked.Get key i)).0 ≡ part_of (owned_text sp i) (slice_get ps i)
 text-is sp mode d key o ps t i e f =
     ap (element_text sp i) (asked-step mode d key i)
     ∙ ap (λ (r : Option Object). element_text sp i (perform d (live d) (going_on (λ o. for_texts d key i o.value) r)).0) e
@@ -115,11 +133,10 @@ text-is sp mode d key o ps t i e f =
     ∙ ap (λ (v : Value). element_text sp i (perform d (live d) (get d v i)).0) f
     ∙ text-if sp i d (slice_get ps i)
 
-texts-laid : (sp : Spelling) (mode : Mode) (d : Directory) (key : Key) (o : Object) (ps : List OwnedText) (t : Table) → object_at d key ≡ Some o → o.value ≡ Texts ps t
-    → parts_until (text_part sp mode d key) (length ps) ≡ laid_object sp o
-texts-laid sp mode d key o ps t e f =
-    parts-same (text_part sp mode d key) (λ i. part_of (owned_text sp i) (slice_get ps i)) (length ps) (λ i. text-is sp mode d key o ps t i e f)
-    ∙ parts-laid (owned_text sp) ps ∙ sym (laid-made sp.text bytes_in 0 ps) ∙ ap (λ v. laid_out sp (content_of v)) (sym f)
+got-made : (f : List ℕ → List ℕ) (ps : List OwnedText) (i : ℕ) → part_of f (slice_get (map bytes_in ps) i) ≡ part_of (λ (p : OwnedText). f p.bytes) (slice_get ps i)
+got-made f [] i = refl
+got-made f (p ∷ ps) zero = refl
+got-made f (p ∷ ps) (suc i) = got-made f ps i
 
 -- ---- the kinds
 
@@ -144,9 +161,6 @@ bytes-if v e = absurd (cc)
 
 abbrev pub sizes_of_object : Option Object → Result (ℕ × ℕ) Refusal
 sizes_of_object r = elim r as (λ _. Result (ℕ × ℕ) Refusal) [ None ↦ Err NotFound | Some o ↦ sizes_of o.value ]
-
-abbrev elements_of_object : Option Object → Result ScalarKind Refusal
-elements_of_object r = elim r as (λ _. Result ScalarKind Refusal) [ None ↦ Err NotFound | Some o ↦ elements_of (kind_of o.value) ]
 
 abbrev bytes_of_object : Option Object → Result (List ℕ) Refusal
 bytes_of_object r = elim r as (λ _. Result (List ℕ) Refusal) [ None ↦ Err NotFound | Some o ↦ text_bytes o.value ]
@@ -195,47 +209,41 @@ module _ (s : State) (o : Located) (l : IsLocated s (ByHandle o.handle) o) where
         ∙ sym (ap count_of_object f.is);
   }
 
-  -- its elements are of the kind that it says
-  pub scalars-at : (k : ScalarKind) → elements_of o.kind ≡ Ok k → HasScalars s (ByHandle o.handle)
-  scalars-at k e = (k, record { answers = λ d st. sym e ∙ ap elements_of (kind-said d st) ∙ sym (ap elements_of_object (said-at s (ByHandle o.handle) o l d st).is) })
+  -- the element at a place, by how it is read
+  pub scalar-part : (sp : Spelling) (i : ℕ) → (o.kind ≡ String → ⊥) → (o.kind ≡ StringsKind → ⊥) → ((k l : ScalarKind) → o.kind ≡ Map k l → ⊥) → (d : Directory) → StandsFor s.cut.bytes d
+      → element_text sp i (scalar_reply s.mode d (ByHandle o.handle) (asked.Get (ByHandle o.handle) i)) ≡ part_at sp d (ByHandle o.handle) i
+  scalar-part sp i string strings map d st =
+      let f = said-at s (ByHandle o.handle) o l d st in
+      let same = kind-said d st in
+      value-part sp s.mode d (ByHandle o.handle) i f.object f.is f.object.value refl (λ e. string (same ∙ e)) (λ e. strings (same ∙ e)) (λ k l e. map k l (same ∙ e))
 
-  module _ (sp : Spelling) (n : ℕ) (counted : Answers s (λ d. count_at d (ByHandle o.handle)) n) where
-    count-said : (d : Directory) (st : StandsFor s.cut.bytes d) → n ≡ object_count (said-at s (ByHandle o.handle) o l d st).object
-    count-said d st = counted.answers d st ∙ ap count_of_object (said-at s (ByHandle o.handle) o l d st).is
+  pub text-part : (sp : Spelling) (i : ℕ) → o.kind ≡ StringsKind → (d : Directory) → StandsFor s.cut.bytes d
+      → element_text sp i (step_of_kind s.mode d (ByHandle o.handle) StringsKind (asked.Get (ByHandle o.handle) i)).0 ≡ part_at sp d (ByHandle o.handle) i
+  text-part sp i e d st =
+      let f = said-at s (ByHandle o.handle) o l d st in
+      let v : IsTexts f.object.value = texts-if f.object.value (sym (kind-said d st) ∙ e) in
+      text-is sp s.mode d (ByHandle o.handle) f.object v.texts v.table i f.is v.is
+      ∙ sym (at-value sp i d (ByHandle o.handle) f.object (Texts v.texts v.table) f.is v.is ∙ got-made (sp.text i) v.texts i)
 
-    row-said : (d : Directory) (st : StandsFor s.cut.bytes d) (k : ScalarKind) (zs : List ℤ) → n ≡ length zs → IsRow (said-at s (ByHandle o.handle) o l d st).object.value k zs
-        → parts_until (element_part sp s.mode d (ByHandle o.handle)) n ≡ laid_at sp d (ByHandle o.handle)
-    row-said d st k zs long row =
-        let f = said-at s (ByHandle o.handle) o l d st in
-        ap (parts_until (element_part sp s.mode d (ByHandle o.handle))) long ∙ row-laid sp s.mode d (ByHandle o.handle) f.object k zs f.is row ∙ sym (ap (part_of (laid_object sp)) f.is)
-
-    -- scalars
-    pub scalars-said : (k : ScalarKind) → o.kind ≡ Scalar k → (d : Directory) → StandsFor s.cut.bytes d → parts_until (element_part sp s.mode d (ByHandle o.handle)) n ≡ laid_at sp d (ByHandle o.handle)
-    scalars-said k e d st =
-        let f = said-at s (ByHandle o.handle) o l d st in
-        let v : IsNumbers k f.object.value = numbers-if k f.object.value (sym (kind-said d st) ∙ e) in
-        row-said d st k v.numbers (count-said d st ∙ ap (λ w. count_of_content (content_of w)) v.is) (subst (λ w. IsRow w k v.numbers) (sym v.is) (numbers-row k v.numbers))
-
-    -- a vector of them
-    pub vector-said : (k : ScalarKind) → o.kind ≡ Vector k → (d : Directory) → StandsFor s.cut.bytes d → parts_until (element_part sp s.mode d (ByHandle o.handle)) n ≡ laid_at sp d (ByHandle o.handle)
-    vector-said k e d st =
-        let f = said-at s (ByHandle o.handle) o l d st in
-        let v : IsElements k f.object.value = vector-if k f.object.value (sym (kind-said d st) ∙ e) in
-        row-said d st k v.numbers (count-said d st ∙ ap (λ w. count_of_content (content_of w)) v.is)
-        (subst (λ w. IsRow w k v.numbers) (sym v.is) (vector-row k v.numbers v.table))
-
-    -- a vector of strings
-    pub strings-said : o.kind ≡ StringsKind → (d : Directory) → StandsFor s.cut.bytes d → parts_until (text_part sp s.mode d (ByHandle o.handle)) n ≡ laid_at sp d (ByHandle o.handle)
-    strings-said e d st =
-        let f = said-at s (ByHandle o.handle) o l d st in
-        let v : IsTexts f.object.value = texts-if f.object.value (sym (kind-said d st) ∙ e) in
-        let long : n ≡ length v.texts = count-said d st ∙ ap (λ w. count_of_content (content_of w)) v.is ∙ length-made bytes_in v.texts in
-        ap (parts_until (text_part sp s.mode d (ByHandle o.handle))) long ∙ texts-laid sp s.mode d (ByHandle o.handle) f.object v.texts v.table f.is v.is ∙ sym (ap (part_of (laid_object sp)) f.is)
-
-  -- a string
-  pub string-said : (sp : Spelling) → o.kind ≡ String → (d : Directory) → StandsFor s.cut.bytes d → string_part sp (bytes_at d (ByHandle o.handle)) ≡ laid_at sp d (ByHandle o.handle)
-  string-said sp e d st =
+  pub string-part : (sp : Spelling) (i : ℕ) → o.kind ≡ String → (d : Directory) → StandsFor s.cut.bytes d → string_text sp i (bytes_at d (ByHandle o.handle)) ≡ part_at sp d (ByHandle o.handle) i
+  string-part sp i e d st =
       let f = said-at s (ByHandle o.handle) o l d st in
       let v : IsBytes f.object.value = bytes-if f.object.value (sym (kind-said d st) ∙ e) in
-      ap (λ (r : Option Object). string_part sp (bytes_of_object r)) f.is ∙ ap (λ w. string_part sp (text_bytes w)) v.is
-      ∙ sym (ap (part_of (laid_object sp)) f.is ∙ ap (λ w. laid_out sp (content_of w)) v.is)
+      ap (λ (r : Option Object). string_text sp i (bytes_of_object r)) f.is ∙ ap (λ (w : Value). string_text sp i (text_bytes w)) v.is
+      ∙ sym (at-value sp i d (ByHandle o.handle) f.object (Bytes v.bytes v.table) f.is v.is)
+
+-- ---- all of them
+
+all-parts : (sp : Spelling) (c : Content) → parts_until (content_part sp c) (count_of_content c) ≡ laid_out sp c
+all-parts sp (content.Scalars k zs) = parts-laid (λ i z. sp.scalar i k z) zs
+all-parts sp (content.Vector k zs) = parts-laid (λ i z. sp.scalar i k z) zs
+all-parts sp (content.String bs) = refl
+all-parts sp (content.Map k v ps) = parts-laid (λ i p. sp.pair i k v p) ps
+all-parts sp (content.Strings ts) = parts-laid sp.text ts
+
+found-parts : (sp : Spelling) (r : Option Object) → parts_until (λ i. part_of (object_part sp i) r) (count_of_object r) ≡ part_of (laid_object sp) r
+found-parts sp None = refl
+found-parts sp (Some o) = all-parts sp (content_of o.value)
+
+pub parts-at : (sp : Spelling) (d : Directory) (key : Key) → parts_until (part_at sp d key) (count_at d key) ≡ laid_at sp d key
+parts-at sp d key = found-parts sp (object_at d key)

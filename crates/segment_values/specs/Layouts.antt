@@ -1,5 +1,5 @@
 -- How the elements of an object are laid out in a text.
-use Rattle.std.specs.Prelude.{ℕ, suc, ℤ, List, [], ◌∷◌, ◌++◌, Some, None}
+use Rattle.std.specs.Prelude.{ℕ, suc, ℤ, List, [], ◌∷◌, ◌++◌, Some, None, slice_get}
 use Rattle.seg_types.specs.declared.kinds.ScalarKind.{ScalarKind}
 use Rattle.seg_types.specs.Names.{Key}
 use Rattle.segment_manager.specs.Directory.{Directory, Object, object_at}
@@ -37,3 +37,20 @@ object_count o = count_of_content (content_of o.value)
 
 abbrev pub count_at : Directory → Key → ℕ
 count_at d key = elim (object_at d key) [ None ↦ 0 | Some o ↦ object_count o ]
+
+-- ---- one element
+
+-- the text of the element at a place, and nothing where there is none
+abbrev pub content_part : Spelling → Content → ℕ → List ℕ
+content_part s (Scalars k zs) i = part_of (s.scalar i k) (slice_get zs i)
+content_part s (Vector k zs) i = part_of (s.scalar i k) (slice_get zs i)
+content_part s (String bs) i = s.text i bs
+content_part s (Map k v ps) i = part_of (s.pair i k v) (slice_get ps i)
+content_part s (Strings ts) i = part_of (s.text i) (slice_get ts i)
+
+-- that of an object
+abbrev pub object_part : Spelling → ℕ → Object → List ℕ
+object_part s i o = content_part s (content_of o.value) i
+
+abbrev pub part_at : Spelling → Directory → Key → ℕ → List ℕ
+part_at s d key i = part_of (object_part s i) (object_at d key)

@@ -1,16 +1,17 @@
 //! What an object has: its elements, one after another, whatever their layout.
 ghost use Rattle.std.specs.Prelude.{◌≡◌, ◌-◌, ◌^◌, ◌<◌, option_map, true};
+ghost use Rattle.seg_types.specs.declared.kinds.Kind.TheVariants.{Map as MapOf};
+ghost use Rattle.seg_types.specs.declared.kinds.ScalarKind.{ScalarKind as AnyScalarKind};
 ghost use Rattle.seg_types.specs.Names.{ByHandle};
 ghost use Rattle.seg_types.specs.Values.{kind_of_scalar, value_of_scalar};
-ghost use Rattle.segment_manager.specs.Calls.{HasScalars};
-ghost use Rattle.segment_manager.specs.containers.Contents.{bytes_at, sizes_at};
+ghost use Rattle.segment_manager.specs.containers.Contents.{sizes_at};
 ghost use Rattle.segment_manager.specs.containers.Maps.{pair_above};
 ghost use Rattle.segment_manager.specs.containers.Walks.{IsMap, item_of_kinds, item_seen, pairs_at};
 ghost use Rattle.segment_manager.specs.objects.Located.{IsLocated, IsObject};
 ghost use Rattle.segment_manager.specs.State.{Answers, StandsFor};
 ghost use Rattle.segment_manager.specs.Parts.{parts_until};
-ghost use Rattle.segment_values.specs.Asked.{element_part, length_in, pair_part, string_part, text_part};
-ghost use Rattle.segment_values.specs.Layouts.{count_at, laid_at};
+ghost use Rattle.segment_values.specs.Asked.{length_in, pair_part};
+ghost use Rattle.segment_values.specs.Layouts.{count_at, laid_at, part_at};
 ghost use Rattle.segment_values.specs.Writing.{WritesFor};
 
 use crate::layouts::Layout;
@@ -56,15 +57,12 @@ pub fn put_content<L: Layout, W: Sink>(
     ensures { WritesFor (W.history out.old) (W.history out.new) result (StandsFor segment.now.cut.bytes) (λ d. laid_at (L.spelling layout.now) d (ByHandle object.handle)) }
 {
     match object.kind {
-        Kind::Scalar(_) => put_elements(layout, segment, object, count, out),
-        Kind::Vector(_) => put_elements(layout, segment, object, count, out),
-        Kind::String => put_string(layout, segment, object, out),
-        Kind::Strings => put_strings(layout, segment, object, count, out),
         Kind::Map(keys, values) => put_pairs(layout, segment, object, keys, values, count, out),
+        _ => put_elements(layout, segment, object, count, out),
     }
 }
 
-/// Writes as many scalars of an object.
+/// Writes as many scalars or texts of an object.
 fn put_elements<L: Layout, W: Sink>(
     layout: &L,
     segment: &Segment,
@@ -73,9 +71,9 @@ fn put_elements<L: Layout, W: Sink>(
     out: &mut W,
 ) -> Result<(), DeviceFault>
     requires writer { (W.history out.old).failures < 2 ^ 64 - 1 }
-    requires object { IsObject object segment.now }
-    requires elements { HasScalars segment.now (ByHandle object.handle) }
-    ensures { WritesFor (W.history out.old) (W.history out.new) result (StandsFor segment.now.cut.bytes) (λ d. parts_until (element_part (L.spelling layout.now) segment.now.mode d (ByHandle object.handle)) count) }
+    requires object { IsLocated segment.now (ByHandle object.handle) object }
+    requires kind { (keys values : AnyScalarKind) → object.kind ≡ MapOf keys values → ⊥ }
+    ensures { WritesFor (W.history out.old) (W.history out.new) result (StandsFor segment.now.cut.bytes) (λ d. parts_until (part_at (L.spelling layout.now) d (ByHandle object.handle)) count) }
 {
     'elements: for index in 0..count {
         put_element(layout, segment, object, index, out)?;
@@ -83,7 +81,7 @@ fn put_elements<L: Layout, W: Sink>(
     Ok(())
 }
 
-/// Writes the scalar at an index, and nothing where there is none.
+/// Writes the scalar or the text at an index, and nothing where there is none. A string is one text.
 fn put_element<L: Layout, W: Sink>(
     layout: &L,
     segment: &Segment,
@@ -92,66 +90,23 @@ fn put_element<L: Layout, W: Sink>(
     out: &mut W,
 ) -> Result<(), DeviceFault>
     requires writer { (W.history out.old).failures < 2 ^ 64 - 1 }
-    requires object { IsObject object segment.now }
-    requires elements { HasScalars segment.now (ByHandle object.handle) }
-    ensures { WritesFor (W.history out.old) (W.history out.new) result (StandsFor segment.now.cut.bytes) (λ d. element_part (L.spelling layout.now) segment.now.mode d (ByHandle object.handle) index) }
+    requires object { IsLocated segment.now (ByHandle object.handle) object }
+    requires kind { (keys values : AnyScalarKind) → object.kind ≡ MapOf keys values → ⊥ }
+    ensures { WritesFor (W.history out.old) (W.history out.new) result (StandsFor segment.now.cut.bytes) (λ d. part_at (L.spelling layout.now) d (ByHandle object.handle) index) }
 {
-    match segment.get_any(&object, index) {
-        Ok(value) => layout.put_scalar(index, value, out),
-        Err(_) => Ok(()),
-    }
-}
-
-/// Writes the text of a string, and nothing where the object is none.
-fn put_string<L: Layout, W: Sink>(
-    layout: &L,
-    segment: &Segment,
-    object: Object,
-    out: &mut W,
-) -> Result<(), DeviceFault>
-    requires writer { (W.history out.old).failures < 2 ^ 64 - 1 }
-    requires object { IsObject object segment.now }
-    ensures { WritesFor (W.history out.old) (W.history out.new) result (StandsFor segment.now.cut.bytes) (λ d. string_part (L.spelling layout.now) (bytes_at d (ByHandle object.handle))) }
-{
-    match segment.string_bytes(&object) {
-        Ok(bytes) => layout.put_text(0, bytes, out),
-        Err(_) => Ok(()),
-    }
-}
-
-/// Writes as many texts of a vector of strings.
-fn put_strings<L: Layout, W: Sink>(
-    layout: &L,
-    segment: &Segment,
-    object: Object,
-    count: u64,
-    out: &mut W,
-) -> Result<(), DeviceFault>
-    requires writer { (W.history out.old).failures < 2 ^ 64 - 1 }
-    requires object { IsObject object segment.now }
-    ensures { WritesFor (W.history out.old) (W.history out.new) result (StandsFor segment.now.cut.bytes) (λ d. parts_until (text_part (L.spelling layout.now) segment.now.mode d (ByHandle object.handle)) count) }
-{
-    'texts: for index in 0..count {
-        put_one_of_strings(layout, segment, object, index, out)?;
-    }
-    Ok(())
-}
-
-/// Writes the text at an index in a vector of strings, and nothing where there is none.
-fn put_one_of_strings<L: Layout, W: Sink>(
-    layout: &L,
-    segment: &Segment,
-    object: Object,
-    index: u64,
-    out: &mut W,
-) -> Result<(), DeviceFault>
-    requires writer { (W.history out.old).failures < 2 ^ 64 - 1 }
-    requires object { IsObject object segment.now }
-    ensures { WritesFor (W.history out.old) (W.history out.new) result (StandsFor segment.now.cut.bytes) (λ d. text_part (L.spelling layout.now) segment.now.mode d (ByHandle object.handle) index) }
-{
-    match segment.texts_get(&object, index) {
-        Ok(text) => layout.put_text(index, text, out),
-        Err(_) => Ok(()),
+    match object.kind {
+        Kind::String => match segment.string_bytes(&object) {
+            Ok(bytes) => layout.put_text(index, bytes, out),
+            Err(_) => Ok(()),
+        },
+        Kind::Strings => match segment.texts_get(&object, index) {
+            Ok(text) => layout.put_text(index, text, out),
+            Err(_) => Ok(()),
+        },
+        _ => match segment.get_any(&object, index) {
+            Ok(value) => layout.put_scalar(index, value, out),
+            Err(_) => Ok(()),
+        },
     }
 }
 

@@ -10,7 +10,6 @@ mod objects;
 mod pairs;
 mod reads;
 mod vectors;
-mod writes;
 
 pub use arrays::construct_array;
 pub use contents::{count_of, length_of, put_content};
@@ -20,4 +19,3 @@ pub use objects::object_to_change;
 pub use pairs::{erase_pair, look_up, put_pair};
 pub use reads::read_elements;
 pub use vectors::{Spot, add, erase};
-pub use writes::write_elements;

@@ -55,7 +55,7 @@ fn read_object<T: Scalar>(
 }
 
 /// Where the elements of such an object stand in the image.
-pub(crate) fn row_run<T: Scalar>(segment: &Segment, object: &Object) -> ElementRun
+fn row_run<T: Scalar>(segment: &Segment, object: &Object) -> ElementRun
     requires object { IsLocated segment.now (ByHandle object.now.handle) object.now }
     requires kind { is_row T.kind object.now.kind ≡ true }
     ensures { HasRow segment.now object.now T.kind result }
@@ -68,7 +68,7 @@ pub(crate) fn row_run<T: Scalar>(segment: &Segment, object: &Object) -> ElementR
 }
 
 /// Whether objects of a kind are arrays of scalars of the type, or vectors of them.
-pub(crate) fn is_row<T: Scalar>(kind: Kind) -> bool
+fn is_row<T: Scalar>(kind: Kind) -> bool
     ensures { result ≡ is_row T.kind kind }
 {
     Kind::Vector(T::kind()).code() == kind.code() || Kind::Scalar(T::kind()).code() == kind.code()
@@ -115,7 +115,7 @@ fn value_or<T: Scalar>(bytes: &[u8], other: T) -> T
 }
 
 /// Whether so many elements have `count` from `first` on.
-pub(crate) fn has_range(len: u64, first: u64, count: u64) -> bool
+fn has_range(len: u64, first: u64, count: u64) -> bool
     ensures { result ≡ nat_le (first + count) len }
 {
     first <= len && count <= len - first

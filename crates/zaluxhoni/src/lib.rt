@@ -1,7 +1,8 @@
 //! The library in one place: what a program needs that keeps typed objects under names in a file.
 //!
 //! A program opens or makes a [`SegmentFile`] over the files of the system ([`HostDisk`]), constructs and finds objects
-//! in its [`Segment`] by their names ([`named`]), and saves it. `crates/examples` has programs that do so.
+//! in its [`Segment`] by their names ([`named`]), and saves it; no other may write the file meanwhile. One that only reads
+//! a file gets its segment by [`read`]. `crates/examples` has programs that do so.
 //!
 //! Every call on a segment takes whatever the segment holds, and answers or refuses. A few ask for something else
 //! before they are called, say so under `# Conditions`, and which call does the same without:
@@ -37,8 +38,8 @@ pub use seg_types::{
     Scalar, ScalarKind, ScalarValue,
 };
 pub use seg_vector::{Place, SegVec};
-pub use segment_disk::{Disk, HostDisk};
-pub use segment_file::{FileError, SegmentFile};
+pub use segment_disk::{Disk, HostDisk, HostHold};
+pub use segment_file::{FileError, SegmentFile, check, migrate, read};
 pub use segment_manager::{
     AnonymousInstance, CreateError, CreateRefused, Destination, IndexDestination, Instance,
     Instances, Mode, Names, Objects, RelocateRefused, Segment, Span, Target, Tiles, UniqueInstance,

@@ -1,14 +1,14 @@
 //! A tree of the gaps that is written anew, over a window whose tags are good.
 ghost use Rattle.std.specs.Prelude.{◌≡◌, ◌+◌, ◌%◌, ◌≤◌, IsTrue, List, [], ◌∷◌, ◌++◌, length, None};
 ghost use Rattle.raw_region.specs.Format.{current};
-ghost use Rattle.raw_region.specs.Memory.{SameBut, SamePlace, bytes_of};
+ghost use Rattle.raw_region.specs.Memory.{AreBytes, SameBut, SamePlace, bytes_of};
 ghost use Rattle.block_tags.specs.Format.{is_legal_size};
 ghost use Rattle.block_tags.specs.Tiles.{has_tags};
 ghost use Rattle.offset_link.specs.Link.{link_at};
 ghost use Rattle.best_fit.specs.Extents.{Gap};
 ghost use Rattle.best_fit.specs.GapNodes.{gaps_in};
 ghost use Rattle.best_fit.specs.GapTrees.{HasTree, Regrown, node_of};
-ghost use Rattle.best_fit.specs.Rebuilding.{AreBytes, IsNextGap, IsRebuilt};
+ghost use Rattle.best_fit.specs.Rebuilding.{IsNextGap, IsRebuilt};
 
 use crate::heap::Heap;
 use crate::heap::nodes::{FREE_TREE, Gaps, RIGHT, set_link};
@@ -16,7 +16,7 @@ use crate::walking;
 use block_tags::{TAG, first, next};
 use link_tree::insert;
 use offset_link::load;
-use raw_region::Window;
+use raw_region::{Window, hold_bytes};
 
 impl Heap {
     /// The heap of a window that has blocks and gaps, and no tree of the gaps: the tree is written into the gaps, and
@@ -101,8 +101,3 @@ fn hold_window(window: &Window)
 {
     hold_bytes(window.bytes(0, window.size()));
 }
-
-/// Elements of type `u8` are below 256. Nothing is done.
-fn hold_bytes(bytes: &[u8])
-    ensures { AreBytes bytes.now }
-{}

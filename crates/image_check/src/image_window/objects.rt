@@ -7,10 +7,7 @@ ghost use Rattle.image_check.specs.ObjectTests.{padding_at, value_offset};
 
 use super::ImageWindow;
 use crate::checking::Visits;
-use segment_manager::layout::{HEAD_LEN, NAME_CLASS_AT};
-
-/// A number in the low half of a word.
-pub(crate) const HALF: u64 = 4294967296;
+use segment_manager::layout::{HALF, HEAD_LEN, NAME_CLASS_AT};
 
 /// The place of an object that was visited.
 #[derive(Clone, Copy)]

@@ -1186,27 +1186,58 @@ static void files(void) {
     TEXT(text.at, text.len, "is a folder");
 }
 
-/* Rows of elements and of pairs. */
+/* Values behind the last element: all of them or none. */
+static void extended(void) {
+    zx_segment s = ZX_CLOSED_HANDLE;
+    zx_key v = zx_name("v"), t = zx_name("t"), none = zx_name("none");
+    int32_t few[5] = { 7, -8, 9, 10, 11 }, row[5];
+    static const int64_t many[200] = { 0 };
+    bool truth = true;
+    zx_values three = zx_i32s(few, 3), null = zx_i32s(0, 0);
+    DONE(zx_create(&s, 1024));
+    IS(made_vector(&s, v, zx_i32s(few, 0)), 192);
+    DONE(zx_extend(&s, &v, &three));
+    IS(places(&s, v, 3), 4);
+    zx_values one = zx_i32s(few, 1), empty = zx_i32s(few, 0);
+    DONE(zx_extend(&s, &v, &one));
+    IS(places(&s, v, 4), 4);
+    DONE(zx_extend(&s, &v, &one));
+    IS(places(&s, v, 5), 8);
+    DONE(zx_extend(&s, &v, &empty));
+    IS(places(&s, v, 5), 8);
+    DONE(zx_read_i32s(&s, &v, 0, row, 5));
+    IS(row[0] == 7 && row[1] == -8 && row[2] == 9 && row[3] == 7 && row[4] == 7, true);
+    zx_values truths = zx_bools(&truth, 1), wide = zx_i64s(many, 200), spare = zx_i32s((const int32_t *)many, 400);
+    IS(zx_extend(&s, &v, &truths), ZX_WRONG_KIND);
+    IS(zx_extend(&s, &v, &wide), ZX_WRONG_KIND);
+    IS(zx_extend(&s, &v, &spare), ZX_NO_SPACE);
+    IS(zx_extend(&s, &v, &null), ZX_NULL_SLICE);
+    IS(zx_extend(&s, &none, &three), ZX_NOT_FOUND);
+    three.kind = 9;
+    IS(zx_extend(&s, &v, &three), ZX_BAD_KIND);
+    IS(places(&s, v, 5), 8);
+    zx_text text = text_of("a");
+    uint64_t handle;
+    DONE(zx_construct_strings(&s, &t, &text, 1, &handle));
+    IS(zx_extend(&s, &t, &one), ZX_WRONG_KIND);
+    reopen(&s, "extended", ZX_READ);
+    IS(zx_extend(&s, &v, &one), ZX_READ_ONLY);
+    IS(places(&s, v, 5), 8);
+    zx_close(&s);
+    IS(zx_extend(&s, &v, &one), ZX_CLOSED);
+}
+
+/* Rows of pairs. */
 static void rows_of_numbers(void) {
     zx_segment s = ZX_CLOSED_HANDLE;
     zx_key v = zx_name("v"), m = zx_name("m");
-    int32_t few[3] = { 7, -8, 9 }, row[5];
+    int32_t few[2] = { 7, -8 };
     int64_t keys[4] = { 3, 1, -2, 3 }, numbers[4] = { 30, 10, 20, 31 };
-    bool truth = true;
-    zx_values values = zx_i32s(few, 3), wrong_kind = zx_bools(&truth, 1), none = zx_i32s(0, 0);
     zx_value after = zx_i64(1);
     uint64_t handle, len, places;
     size_t read;
     DONE(zx_create(&s, 1024));
     IS(made_vector(&s, v, zx_i32s(few, 2)), 192);
-    DONE(zx_push_row(&s, &v, 2, &values));
-    DONE(zx_push_row(&s, &v, 2, &values));
-    DONE(zx_read_i32s(&s, &v, 0, row, 5));
-    IS(row[1] == -8 && row[2] == 7 && row[4] == 9, true);
-    IS(zx_push_row(&s, &v, 5, &wrong_kind), ZX_WRONG_KIND);
-    IS(zx_push_row(&s, &v, 5, &none), ZX_NULL_SLICE);
-    values.kind = 9;
-    IS(zx_push_row(&s, &v, 5, &values), ZX_BAD_KIND);
     DONE(zx_construct_map(&s, &m, ZX_I32, ZX_U64, &handle));
     DONE(zx_put_pairs(&s, &m, ZX_I32, ZX_U64, keys, numbers, 4));
     IS(zx_put_pairs(&s, &m, ZX_I32, ZX_U64, 0, numbers, 4), ZX_NULL_SLICE);
@@ -1273,7 +1304,8 @@ static void without_python(void) {
     uint8_t row[1] = { 7 };
     uint64_t here = zx_thread();
     IS(here > 0 && here == zx_thread(), true);
-    IS(zx_python_at(&s, &v, ZX_VECTOR(ZX_I64), here, &s) == NULL, true);
+    IS(zx_python_class() == NULL, true);
+    IS(zx_python_place(&s, &s, &v, ZX_VECTOR(ZX_I64), here, &s), false);
     IS(zx_python_row(&s, ZX_U8, row, 1), false);
     IS(row[0], 7);
 }
@@ -1308,6 +1340,7 @@ int main(int count, char **arguments) {
     what_is_passed_wrongly();
     words();
     files();
+    extended();
     rows_of_numbers();
     rows_of_texts();
     without_python();

@@ -120,6 +120,52 @@ static void views(void) {
     DONE(zx_file_close(&file));
 }
 
+/* Where a file is mapped. */
+static uintptr_t start(zx_file *file) {
+    zx_key key = zx_name("n");
+    zx_elements number = { NULL, 0, 0, 0, 0 };
+    DONE(zx_view(&file->segment, &key, &number));
+    return (uintptr_t)number.at - (uintptr_t)number.offset;
+}
+
+/* Files of one length are mapped in one place, one after another; two of them at once are apart, and one that becomes
+   longer leaves the place. */
+static void one_place(void) {
+    zx_file file = ZX_CLOSED_FILE, other = ZX_CLOSED_FILE;
+    char beside[430];
+    uintptr_t at = 0;
+    snprintf(beside, sizeof beside, "%s.beside", path);
+    seed(5);
+    DONE(zx_file_open(&other, beside, CREATE, 8192));
+    DONE(set(&other, 6));
+    DONE(zx_file_close(&other));
+    for (int round = 0; round < 6; round++) {
+        DONE(zx_file_open(&file, round % 2 ? beside : path, round < 4 ? WRITE : READ, 0));
+        IS(get(&file), 5 + round % 2);
+        if (round > 0) IS(start(&file), at);
+        at = start(&file);
+        DONE(zx_file_close(&file));
+    }
+    DONE(zx_file_open(&file, path, WRITE, 0));
+    DONE(zx_file_open(&other, beside, WRITE, 0));
+    IS(start(&file) != start(&other), true);
+    DONE(set(&file, 7));
+    IS(get(&other), 6);
+    for (int round = 0; round < 3; round++) {
+        DONE(zx_file_grow(&file, 1 << 20));
+        DONE(zx_file_close(&file));
+        DONE(zx_file_open(&file, path, WRITE, 0));
+        IS(get(&file), 7);
+        IS(get(&other), 6);
+    }
+    DONE(set(&other, 8));
+    IS(get(&file), 7);
+    DONE(zx_file_close(&file));
+    DONE(zx_file_close(&other));
+    IS(stands(), 7);
+    IS(unlink(beside), 0);
+}
+
 /* Several calls as one, also where the file became longer. */
 static void taken_back(void) {
     zx_file file = ZX_CLOSED_FILE;
@@ -507,6 +553,7 @@ int main(int count, char **words) {
     snprintf(path, sizeof path, "%s/mapped.seg", words[1]);
     in_place();
     views();
+    one_place();
     taken_back();
     one_writer_or_readers();
     longer_and_shorter();

@@ -16,7 +16,8 @@ chance = random.Random(seed)
 if not _library.HAS_PYTHON:
     sys.exit("random_calls.py: WRONG, the library knows nothing of this interpreter")
 if sys.argv[4:] == ["plain"]:
-    _library.HAS_PYTHON = _objects.HAS_PYTHON = False
+    _library.HAS_PYTHON = False
+    _objects.Object._start = lambda self: None
 path = os.path.join(folder, "python-random.seg")
 ranges = {"bool": (False, True), "u8": (0, 255), "i32": (-2**31, 2**31 - 1), "i64": (-2**63, 2**63 - 1),
           "u64": (0, 2**64 - 1)}

@@ -3,7 +3,7 @@ from __future__ import annotations
 
 import ctypes
 import os
-from typing import Any, Dict, List
+from typing import TYPE_CHECKING, Any, Dict, List
 
 BOOL, U8, I32, I64, U64, STRING, VECTOR, MAP, STRINGS = 1, 2, 3, 4, 5, 65536, 131072, 196608, 262144
 
@@ -89,8 +89,8 @@ def _calls() -> Dict[str, List[Any]]:
         "find_or_construct_map": [key, u32, u32, number, half], "find": [key, u32, number, half],
         "destroy": [key, truth], "tell": [key, info, memory, size], "get": [key, u64, value],
         "set": [key, u64, value], "push": [key, value], "pop": [key, value], "insert": [key, u64, value],
-        "assign": [key, values], "erase": [key, u64], "measure": [key, number, number], "reserve": [key, u64],
-        "trim": [key], "clear": [key], "read_string": [key, memory, size, number],
+        "assign": [key, values], "extend": [key, values], "erase": [key, u64], "measure": [key, number, number],
+        "reserve": [key, u64], "trim": [key], "clear": [key], "read_string": [key, memory, size, number],
         "assign_string": [key, text, size], "append": [key, text, size],
         "read_text": [key, u64, memory, size, number], "set_text": [key, u64, text, size],
         "push_text": [key, text, size], "pop_text": [key], "insert_text": [key, u64, text, size],
@@ -102,7 +102,7 @@ def _calls() -> Dict[str, List[Any]]:
         "write_elements": [key, u64, values], "attach": [pointer(Memory), u64, u32], "detach": [pointer(Memory)],
         "view": [key, pointer(Elements)], "view_mut": [key, pointer(Elements)], "named_from": [text, size, number],
         "begin": [pointer(Handle)], "rollback": [pointer(Handle)],
-        "push_row": [key, u64, values], "read_pairs": [key, value, memory, memory, size, count],
+        "read_pairs": [key, value, memory, memory, size, count],
         "put_pairs": [key, u32, u32, memory, memory, size], "clear_map": [key],
         "read_texts": [key, u64, memory, size, memory, size, count], "push_texts": [key, u64, texts, size],
         "read_names": [u64, memory, memory, memory, size, size, count],
@@ -142,8 +142,10 @@ def _load_quick() -> Any:
     """The calls of zaluxhoni_rows.h for objects of CPython's, which keep the interpreter's lock."""
     library, pointer = ctypes.PyDLL(_path()), ctypes.POINTER
     library.zx_thread.argtypes, library.zx_thread.restype = [], ctypes.c_uint64
-    library.zx_python_at.argtypes = [pointer(Handle), pointer(Key), ctypes.c_uint32, ctypes.c_uint64, ctypes.py_object]
-    library.zx_python_at.restype = ctypes.py_object
+    library.zx_python_class.argtypes, library.zx_python_class.restype = [], ctypes.py_object
+    library.zx_python_place.argtypes = [ctypes.py_object, pointer(Handle), pointer(Key), ctypes.c_uint32,
+                                        ctypes.c_uint64, ctypes.py_object]
+    library.zx_python_place.restype = ctypes.c_bool
     library.zx_python_row.argtypes = [ctypes.py_object, ctypes.c_uint32, ctypes.c_void_p, ctypes.c_size_t]
     library.zx_python_row.restype = ctypes.c_bool
     return library
@@ -155,6 +157,21 @@ free.argtypes, free.restype = [ctypes.c_void_p], None
 quick = _load_quick()
 HAS_PYTHON: bool = quick.zx_python_row([], U8, None, 0)
 """Whether the library takes this interpreter's own lists and numbers."""
+if TYPE_CHECKING or not HAS_PYTHON:
+    class Place:
+        """What stands for the class of zx_python_class where the library makes none."""
+
+        def _item(self, index: Any) -> Any:
+            raise NotImplementedError
+
+        def _at(self, *place: Any) -> Any:
+            """The value at a key or an index, or puts one there. None where the other calls say why."""
+            return None
+
+        def __getitem__(self, index: Any) -> Any:
+            return self._item(index)
+else:
+    Place = quick.zx_python_class()
 NO_SPACE = 9
 
 

@@ -9,8 +9,8 @@ from typing import (TYPE_CHECKING, Any, Dict, Iterable, Iterator, List, MutableM
                     Sequence, Tuple, Union)
 
 from . import _library
-from ._errors import Absent, BadCount, BadValue, Error, NoElement, NoSpace, OutOfRange, WrongKind, error_of
-from ._library import BOOL, HAS_PYTHON, I32, I64, STRING, STRINGS, U8, U64, VECTOR, MAP, quick, zx
+from ._errors import Absent, BadCount, BadValue, Error, NoElement, OutOfRange, WrongKind, error_of
+from ._library import BOOL, I32, I64, STRING, STRINGS, U8, U64, VECTOR, MAP, quick, zx
 from ._values import (KINDS, SCALARS, Key, Row, Texts, decoded, encoded, from_words, is_scalar, listed,
                       natural, number_in, pairs_of, raw_key, row, scalar, unpacked, value_of, whole)
 
@@ -19,11 +19,6 @@ if TYPE_CHECKING:
 
 _reads = {BOOL: zx.zx_read_bools, U8: zx.zx_read_u8s, I32: zx.zx_read_i32s, I64: zx.zx_read_i64s, U64: zx.zx_read_u64s}
 _AHEAD = 4096
-_FEW = 64
-
-
-def _no_value(*_: Any) -> None:
-    """What stands for the function of zx_python_at where the library makes none."""
 
 
 class Lease:
@@ -75,7 +70,7 @@ def places_of(index: slice, length: int) -> range:
         raise BadValue(f"{index!r} has no step") from None
 
 
-class Object:
+class Object(_library.Place):
     """An object of a segment. Each of its methods looks its key up, so it is good as long as the segment is open."""
 
     def __init__(self, segment: Segment, key: Key, code: int) -> None:
@@ -87,16 +82,11 @@ class Object:
         """Its key: its name, or what unique() or handle() gave."""
         return self._key
 
-    def _at(self, *place: Any) -> Any:
-        """The value at a key or an index, or puts one there, as zx_python_at says. None where the other calls say
-        why."""
+    def _start(self) -> None:
+        """Tells the class of the library what it stands for."""
         segment = self._segment
-        at: Any = _no_value
-        if HAS_PYTHON:
-            owner = segment, self._raw
-            at = quick.zx_python_at(segment._handle, self._raw, self._code, segment._thread_number, owner)
-        self.__dict__["_at"] = at
-        return at(*place)
+        quick.zx_python_place(self, segment._handle, self._raw, self._code, segment._thread_number,
+                              (segment, self._raw))
 
     def _call(self, call: Any, *arguments: Any) -> None:
         code = self._segment._code(call, self._raw, *arguments)
@@ -217,7 +207,7 @@ class _Elements(Object):
     def _value(self) -> Any:
         return self._all()
 
-    def __getitem__(self, index: Any) -> Any:
+    def _item(self, index: Any) -> Any:
         if not isinstance(index, slice):
             return self._get(self._place(index))
         places = places_of(index, len(self))
@@ -313,10 +303,6 @@ class _Scalars(_Elements):
     def _get(self, place: int) -> int:
         return self._scalar(place)
 
-    def __getitem__(self, index: Any) -> Any:
-        value = self._at(index)
-        return super().__getitem__(index) if value is None else value
-
     def _row(self, values: Any) -> Row:
         try:
             return row(self._scalar_code, values)
@@ -329,9 +315,9 @@ class _Scalars(_Elements):
         except Error as error:
             raise self._named(error) from None
 
-    def _memory(self, first: int, count: int, room: int = 0) -> Any:
-        """The bytes of so many elements from a place on, with room for more behind them."""
-        memory = ctypes.create_string_buffer(max(8, (count + room) * SCALARS[self._scalar_code].size))
+    def _memory(self, first: int, count: int) -> Any:
+        """The bytes of so many elements from a place on."""
+        memory = ctypes.create_string_buffer(max(8, count * SCALARS[self._scalar_code].size))
         self._call(_reads[self._scalar_code], first, memory, count)
         return memory
 
@@ -505,25 +491,7 @@ class Vector(_Scalars, _List, MutableSequence[int]):
         self._change(zx.zx_push, self._number(value))
 
     def _extend(self, values: Any) -> None:
-        passed = self._row(values)
-        length, places = self._measure()
-        if passed.count < _FEW or passed.count * 8 < length:
-            self._make_room(length + passed.count, places)
-            return self._change(zx.zx_push_row, length, passed.passed)
-        if not length:
-            return self._change(zx.zx_assign, passed.passed)
-        size = SCALARS[self._scalar_code].size
-        together = self._memory(0, length, passed.count)
-        ctypes.memmove(ctypes.addressof(together) + length * size, passed.memory, passed.count * size)
-        self._change(zx.zx_assign, Row(self._scalar_code, together, length + passed.count).passed)
-
-    def _make_room(self, wanted: int, places: int) -> None:
-        """Makes places for so many elements, and twice as many as there are where there is space for them."""
-        if wanted > places:
-            try:
-                self.reserve(max(wanted, 2 * places))
-            except NoSpace:
-                self.reserve(wanted)
+        self._change(zx.zx_extend, self._row(values).passed)
 
     def assign(self, values: Iterable[int]) -> None:
         """Makes these the elements: all of them, or none. NoSpace, OutOfRange, WrongKind."""
@@ -653,7 +621,7 @@ class String(_Places):
     def _value(self) -> Any:
         return decoded(self._text(), self._segment.encoding)
 
-    def __getitem__(self, index: Any) -> Any:
+    def _item(self, index: Any) -> Any:
         if isinstance(index, slice):
             places_of(index, 0)
             return self._text()[index]
@@ -786,12 +754,10 @@ class Map(_Pairs, Object, MutableMapping[int, int]):
         super().__init__(segment, key, code)
         self._key_code, self._value_code = code >> 8 & 255, code & 255
 
-    def __getitem__(self, key: int) -> int:
-        value: Optional[int] = self._at(key)
+    def _item(self, key: Any) -> int:
+        value = self._get(key)
         if value is None:
-            value = self._get(key)
-            if value is None:
-                raise Absent(f"the map {self._key!r} has no key {key!r}")
+            raise Absent(f"the map {self._key!r} has no key {key!r}")
         return value
 
     def _get(self, key: Any) -> Optional[int]:

@@ -7,8 +7,9 @@ use common.{size_of, spelled, Scalar, String, Vector, Refusal, NotFound, Object,
 use common.{Bytes, Pairs, Texts, object_at, kind_of, padded, head_len, IsValueAt, StandsAt}
 use common.{Answers, handle_at, State, StandsFor, IsSegment, Contents, slice_get, list_all, is_value}
 use common.{is_good_value, spelling, contents_of, Denotes, count_of, eqb-true, is_table, Storage, IfSome, value_len}
-use common.{WrongKind}
-use Rattle.segment_manager.proofs.objects.Here.{here, nothing-if, seen-handle, standing}
+use common.{WrongKind, option_map}
+use Rattle.segment_manager.proofs.objects.Here.{here, seen-handle, standing}
+use Rattle.segment_manager.specs.objects.Located.{located, located_at}
 use Rattle.segment_manager.proofs.objects.Standings.{standing-room, standing-short}
 use Rattle.segment_manager.proofs.containers.Contained.{contents-stand}
 use Rattle.segment_manager.proofs.Calling.{denotes-heap}
@@ -219,7 +220,11 @@ run-answers {s} {t} view key {h} {r} a each = subst (λ (u : State). Answers u (
       each o.object o.stands ∙ sym (ap run_if o.is);
 })
 
-pub no-run : {s : State} (key : Key) → Answers s (λ d. handle_at d key) None
+nothing-if : (r : Option Object) → None ≡ option_map located r → r ≡ None
+nothing-if None e = refl
+nothing-if (Some o) e = absurd (cc)
+
+pub no-run : {s : State} (key : Key) → Answers s (λ d. located_at d key) None
     → Answers s (λ d. run_at d key) (Err NotFound)
 no-run key a = record { answers = λ d k. sym (ap run_if (nothing-if (object_at d key) (a.answers d k))) }
 

@@ -1,9 +1,9 @@
 -- What calls on vectors, strings and maps leave to the last byte.
 use Rattle.segment_manager.proofs.Common.{◌≡◌, sym, ap, subst, ◌∙◌, ℕ, ◌≤◌, ℤ, Bool, Option, Some, None, Result, Ok}
 use Rattle.segment_manager.proofs.Common.{Err, List, [], MatchOption, int_lt, none-some, Cut, ScalarKind, StringsKind}
-use Rattle.segment_manager.proofs.Common.{Plain, Refusal, NotFound, Key, MapPlace, Erases, pair_at, NumberPair, Place}
+use Rattle.segment_manager.proofs.Common.{Plain, Refusal, NotFound, Key, Map, Erases, pair_at, NumberPair, Place}
 use Rattle.segment_manager.proofs.Common.{container_at, sizes_of, Object, Directory, object_at, HasPlaces, KeepsWhere}
-use Rattle.segment_manager.proofs.Common.{map_at, Answers, State, StandsFor, pairs_of, Change, HasEnough, Reserve}
+use Rattle.segment_manager.proofs.Common.{Answers, State, StandsFor, pairs_of, Change, HasEnough, Reserve}
 use Rattle.segment_manager.proofs.containers.TextsHeld.{HoldsTexts, holds-texts}
 use Rattle.segment_manager.proofs.containers.PairNumbers.{IsScalarOf, erases-numbers, puts-numbers}
 use Rattle.segment_manager.proofs.containers.MapCalls.{HoldsPairs, holds-pairs}
@@ -53,12 +53,13 @@ none-erased P Q None e m = m
 none-erased P Q (Some q) e m = absurd (none-some q (sym e))
 
 pub map-kept : {K V : Type 0} {k v : ScalarKind} {kp : Plain K} {vp : Plain V} {kw : K → ℤ} {vw : V → ℤ}
-    → IsScalarOf k kp kw → IsScalarOf v vp vw → (s t : State) (view : s ≡ t) (key : Key) (p q : MapPlace) → q ≡ p
-    → Answers t (λ d. map_at d key k v) (Ok p) → (new : Cut) (x : K) (r : Bool)
+    → IsScalarOf k kp kw → IsScalarOf v vp vw → (s t : State) (view : s ≡ t) (key : Key) (p q : Place) → q ≡ p
+    → Answers t (λ d. container_at d key (Map k v)) (Ok p) → (new : Cut) (x : K) (r : Bool)
     → Erases kp vp s.cut new q.handle q.at x r → KeepsWhere t (record s { cut = new }) (LacksPair key (kw x))
 map-kept {k = k} {v = v} {kp = kp} {vp = vp} {kw = kw} kl vl s t view key p q same found new x r each =
-    let there : Answers s (λ d. map_at d key k v) (Ok q) = subst (λ (q : MapPlace). Answers s (λ d. map_at d key k v)
-    (Ok q)) (sym same) (subst (λ (u : State). Answers u (λ d. map_at d key k v) (Ok p)) (sym view) found) in
+    let there : Answers s (λ d. container_at d key (Map k v)) (Ok q) =
+    subst (λ (q : Place). Answers s (λ d. container_at d key (Map k v)) (Ok q)) (sym same)
+    (seen-found s t view key (Map k v) p found) in
     keeps-cut s t view new (LacksPair key (kw x)) (λ d l lacks.
     let h : HoldsPairs s.cut.bytes d key k v q = holds-pairs s.cut.bytes d key k v q l.denotes (there.answers d l) in
     let pairs : (elim (object_at d key) as (λ _. List NumberPair) [ None ↦ [] | Some o ↦ pairs_of o.value ]) ≡ h.pairs =
@@ -73,12 +74,13 @@ pair-written P Q None p e m = absurd (none-some p e)
 pair-written P Q (Some q) p e m = let same : q ≡ p = cc in subst Q same m
 
 pub map-again : {K V E : Type 0} {k v : ScalarKind} {kp : Plain K} {vp : Plain V} {kw : K → ℤ} {vw : V → ℤ}
-    → IsScalarOf k kp kw → IsScalarOf v vp vw → (s t : State) (view : s ≡ t) (key : Key) (p q : MapPlace) → q ≡ p
-    → Answers t (λ d. map_at d key k v) (Ok p) → (new : Cut) (x : K) (y : V) (r : Result Bool E)
+    → IsScalarOf k kp kw → IsScalarOf v vp vw → (s t : State) (view : s ≡ t) (key : Key) (p q : Place) → q ≡ p
+    → Answers t (λ d. container_at d key (Map k v)) (Ok p) → (new : Cut) (x : K) (y : V) (r : Result Bool E)
     → Puts kp vp s.cut new q.handle q.at x y r → ChangesValue t (record s { cut = new }) key k (kw x) v
 map-again {k = k} {v = v} {kw = kw} kl vl s t view key p q same found new x y r each =
-    let there : Answers s (λ d. map_at d key k v) (Ok q) = subst (λ (q : MapPlace). Answers s (λ d. map_at d key k v)
-    (Ok q)) (sym same) (subst (λ (u : State). Answers u (λ d. map_at d key k v) (Ok p)) (sym view) found) in
+    let there : Answers s (λ d. container_at d key (Map k v)) (Ok q) =
+    subst (λ (q : Place). Answers s (λ d. container_at d key (Map k v)) (Ok q)) (sym same)
+    (seen-found s t view key (Map k v) p found) in
     subst (λ (u : State). ChangesValue u (record s { cut = new }) key k (kw x) v) view (λ d l pair has.
     let h : HoldsPairs s.cut.bytes d key k v q = holds-pairs s.cut.bytes d key k v q l.denotes (there.answers d l) in
     let pairs : (elim (object_at d key) as (λ _. List NumberPair) [ None ↦ [] | Some o ↦ pairs_of o.value ]) ≡ h.pairs =

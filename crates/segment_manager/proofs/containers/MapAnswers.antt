@@ -3,14 +3,16 @@
 use Rattle.segment_manager.proofs.Common.{◌≡◌, sym, subst, ◌∙◌, ℤ, Bool, true, false, Option, Result, Ok, option_map}
 use Rattle.segment_manager.proofs.Common.{Cut, Map, ScalarKind, Plain, Refusal, is_value, Key, Lookup, Put, Remove}
 use Rattle.segment_manager.proofs.Common.{literal_of, Erases, Puts, FindsItem, FindsItemBefore, FindsLastItem}
-use Rattle.segment_manager.proofs.Common.{FindsValue, IsSomeMap, map_at, numbers_in, pair_at_end, told_of_map}
+use Rattle.segment_manager.proofs.Common.{FindsValue, IsSomeMap, container_at, numbers_in, pair_at_end, told_of_map}
 use Rattle.segment_manager.proofs.Common.{value_or_absent, Answers, IsReplyOfKind, IsSegment, State, is_read_only, List}
 use Rattle.segment_manager.proofs.containers.MapCalls.{TellsSafely, map-erased, map-got, map-put, map-told, put_result}
 use Rattle.segment_manager.proofs.containers.PairNumbers.{IsScalarOf, erases-numbers, finds-back, finds-item}
 use Rattle.segment_manager.proofs.containers.PairNumbers.{finds-last, finds-value, puts-numbers, some-map}
 use Rattle.segment_manager.proofs.{Common.NumberPair, Common.int_lt, Common.item_of, containers.Safely.answered}
 use Rattle.segment_manager.proofs.{Common.truth_answer, containers.MapCalls.stands-map, containers.Safely.Answered}
-use Rattle.seg_map.specs.{declared.places.Place.Place, Places.last_pair}
+use Rattle.segment_manager.proofs.containers.ToChange.{seen-found}
+use Rattle.best_fit.specs.declared.places.Place.{Place}
+use Rattle.seg_map.specs.{Places.last_pair}
 use Rattle.segment_manager.specs.{containers.Maps.IsPairs, containers.Walks.pair_past}
 
 -- a key that is a value is a number of its kind
@@ -20,10 +22,10 @@ as-value l x e = sym (l.values x) ∙ e
 
 module _ {K V : Type 0} {k v : ScalarKind} {kp : Plain K} {vp : Plain V} {kw : K → ℤ} {vw : V → ℤ}
     (kl : IsScalarOf k kp kw) (vl : IsScalarOf v vp vw) {s t : State} (view : s ≡ t) (key : Key) {p q : Place}
-    (same : q ≡ p) (b : IsSegment s.cut.bytes) (found : Answers t (λ d. map_at d key k v) (Ok p)) where
-  found-there : Answers s (λ d. map_at d key k v) (Ok q)
-  found-there = subst (λ (r : Place). Answers s (λ d. map_at d key k v) (Ok r)) (sym same)
-      (subst (λ (u : State). Answers u (λ d. map_at d key k v) (Ok p)) (sym view) found)
+    (same : q ≡ p) (b : IsSegment s.cut.bytes) (found : Answers t (λ d. container_at d key (Map k v)) (Ok p)) where
+  found-there : Answers s (λ d. container_at d key (Map k v)) (Ok q)
+  found-there = subst (λ (r : Place). Answers s (λ d. container_at d key (Map k v)) (Ok r)) (sym same)
+      (seen-found s t view key (Map k v) p found)
 
   -- some map of the types stands there
   pub some-there : IsSomeMap kp vp s.cut.bytes q.handle q.at

@@ -4,12 +4,12 @@ use Rattle.segment_manager.proofs.Common as common
 use common.{◌≡◌, is_value, IsErased, node_len, put_pair, Directory, object_at, HasPairs, IsSegment, StandsFor, and_then}
 use common.{refl, Option, Result, int_lt, eq-eqb, Erases, told_of, Request, perform, Answers, changed, live_of, LiveSet}
 use common.{sym, ◌∙◌, ℕ, ℤ, Bool, true, Some, None, Ok, Err, List, [], Cut, Node, Kind, Map, Key, Puts, New, Plan, with}
-use common.{ap, subst, false, IsFull, IsPut, Truth, Pairs, Object, map_at, Reply, State, effect, map_of, Answer, Extent}
-use common.{option_map, value_of_literal, nodes_of_pairs, value_of_pair, ContainerPlace, AnswersSafely, value_or_absent}
+use common.{ap, subst, false, IsFull, IsPut, Truth, Pairs, Object, container_place, Reply, State, effect, map_of, Answer, Extent}
+use common.{option_map, value_of_literal, nodes_of_pairs, value_of_pair, AnswersSafely, value_or_absent}
 use common.{current, Refusal, NoSpace, code_of, size_of, Command, Literal, pair_at, Element, Refused, Denotes, kind_of}
 use common.{SamePlace, remove_pair, container_at, IsReplyOfKind, IsStepOfKind, is_read_only, step_of_kind, truth_answer}
 use common.{ScalarKind, same_kind, literal_of, transitive, IsPutAgain, NumberPair, FindsValue, numbers_of, told_of_map}
-use Rattle.segment_manager.proofs.containers.MapSteps.{IsMapObject, again-denotes, erased-denotes, map-only, map_place}
+use Rattle.segment_manager.proofs.containers.MapSteps.{IsMapObject, again-denotes, erased-denotes, map-only}
 use Rattle.segment_manager.proofs.containers.MapSteps.{object-map, put-denotes}
 use Rattle.segment_manager.proofs.Steps.{IsMove, IsOpenFor, by_no_change_of_kind, by_step_of_kind, open-reading}
 use Rattle.segment_manager.proofs.Steps.{open-writing, perform-new, perform-no_space, step_of_kind-found}
@@ -18,7 +18,7 @@ use Rattle.segment_manager.proofs.containers.PairNumbers.{ErasesBy, PutsBy}
 use Rattle.segment_manager.proofs.containers.MapBlocks.{blocks-in_use, found-key}
 use Rattle.segment_manager.proofs.{Calling.denotes-live, objects.ObjectLists.key-found, objects.Here.standing}
 use Rattle.segment_manager.proofs.{objects.Stored.literal-read, containers.StorageSteps.step_of_kind-reply}
-use Rattle.seg_map.specs.declared.places.Place.{Place}
+use Rattle.best_fit.specs.declared.places.Place.{Place}
 use Rattle.seg_map.proofs.Laws.{replaced_nodes}
 use Rattle.segment_manager.specs.{Answers.Absent, containers.Maps.IsPairs}
 use Rattle.seg_types.specs.Commands as asked
@@ -33,27 +33,13 @@ pub record HoldsPairs (b : List ℕ) (d : Directory) (key : Key) (k v : ScalarKi
   pub is : object_at d key ≡ Some object
   pub pairs : List NumberPair
   pub known : IsMapObject b d object k v pairs
-  pub at : map_place object ≡ p
+  pub at : container_place object ≡ p
   pub map : IsPairs k v b p pairs
 
-abbrev pub as_map : Result ContainerPlace Refusal → Result Place Refusal
-as_map r = elim r [ Ok p ↦ Ok (record { handle = p.handle; at = p.at }) | Err e ↦ Err e ]
-
-there-if : (r : Result ContainerPlace Refusal) (p : Place) → Ok p ≡ as_map r
-    → (q : ContainerPlace) × ((Ok q ≡ r) × (record { handle = q.handle; at = q.at } ≡ p))
-there-if (Ok q) p e =
-    let r : Place = record { handle = q.handle; at = q.at } in let same : r ≡ p = cc in (q, (refl, same))
-there-if (Err why) p e = absurd (cc)
-
-nowhere-if : (r : Result ContainerPlace Refusal) (why : Refusal) → Err why ≡ as_map r → Err why ≡ r
-nowhere-if (Ok q) why e = absurd (cc)
-nowhere-if (Err w) why e = let same : why ≡ w = cc in ap Err same
-
 pub holds-pairs : (b : List ℕ) (d : Directory) (key : Key) (k v : ScalarKind) (p : Place) → Denotes current b d
-    → Ok p ≡ map_at d key k v → HoldsPairs b d key k v p
+    → Ok p ≡ container_at d key (Map k v) → HoldsPairs b d key k v p
 holds-pairs b d key k v p den e =
-    let q = there-if (container_at d key (Map k v)) p e in
-    let h : HoldsAt d key (Map k v) q.0 = holds-at d key (Map k v) q.0 q.1.0 in let o : Object = h.object in
+    let h : HoldsAt d key (Map k v) p = holds-at d key (Map k v) p e in let o : Object = h.object in
     let w : (ps : List NumberPair) × (o.value ≡ Pairs k v ps) = map-only k v o.value h.same in
     let known : IsMapObject b d o k v w.0 = record {
       stands = standing b d key o den h.is;
@@ -61,22 +47,19 @@ holds-pairs b d key k v p den e =
       value = w.1;
       in_use = blocks-in_use d o den.directory.proper (key-found current d key o den.directory h.is);
     } in
-    let at : map_place o ≡ p =
-    ap (λ (c : ContainerPlace). let r : Place = record { handle = c.handle; at = c.at } in r) h.at ∙ q.1.1 in
     record {
       object = o;
       is = h.is;
       pairs = w.0;
       known = known;
-      at = at;
-      map = subst (λ (r : Place). IsPairs k v b r w.0) at (object-map den known);
+      at = h.at;
+      map = subst (λ (r : Place). IsPairs k v b r w.0) h.at (object-map den known);
     }
 
 -- why there is no such map is why every call for its kind is refused
 pub finds-no_map : (s : State) (key : Key) (k v : ScalarKind) (c : Command) (r : Refusal) → IsOpenFor s.mode c
-    → Answers s (λ d. map_at d key k v) (Err r) → IsStepOfKind s s key (Map k v) c (Refused r)
-finds-no_map s key k v c r w a = finds-no_container s key (Map k v) c r w
-    (record { answers = λ d l. nowhere-if (container_at d key (Map k v)) r (a.answers d l) })
+    → Answers s (λ d. container_at d key (Map k v)) (Err r) → IsStepOfKind s s key (Map k v) c (Refused r)
+finds-no_map s key k v c r w a = finds-no_container s key (Map k v) c r w a
 
 -- ---- what the plans come to
 
@@ -143,7 +126,7 @@ put_result (Err why) = Err NoSpace
 -- ---- the calls
 
 module _ (s : State) (key : Key) (k v : ScalarKind) (p : Place) (b : IsSegment s.cut.bytes)
-    (found : Answers s (λ d. map_at d key k v) (Ok p)) where
+    (found : Answers s (λ d. container_at d key (Map k v)) (Ok p)) where
   abbrev Holds : Directory → Type 0
   Holds d = HoldsPairs s.cut.bytes d key k v p
 

@@ -18,7 +18,6 @@ use Rattle.segment_manager.proofs.{objects.Standings.standing-room, containers.I
 use Rattle.segment_manager.proofs.{Denoted.denotes-replaced, Order.Differs, objects.Regrown.InPlace, Frame.object-roomy}
 use Rattle.segment_manager.proofs.{Order.Apart, Order.IsFoundIn, Frame.IsRoomy, Faces.IsLike, Live.IsIn}
 use Rattle.raw_region.proofs.Facts.{first, second}
-use Rattle.seg_map.specs.declared.places.Place.{Place}
 use Rattle.best_fit.proofs.Laws.{spread-refl}
 
 -- ---- what is of the kind of a map
@@ -31,10 +30,6 @@ map-if k v w e = absurd (cc)
 pub map-only : (k v : ScalarKind) (w : Value) → same_kind (Map k v) (kind_of w) ≡ true
     → (ps : List NumberPair) × (w ≡ Pairs k v ps)
 map-only k v w e = map-if k v w (one-kind (Map k v) (kind_of w) e)
-
--- where the map of an object stands
-abbrev pub map_place : Object → Place
-map_place o = record { handle = handle o.extent; at = head_len + padded (length o.name) }
 
 each-good : (k v : ScalarKind) (l : LiveSet) (h : ℕ) (ps : List NumberPair) → IsTrue (list_all (is_number_pair k v) ps)
     → AllByRecursion (λ x. extent_at l (handle x) ≡ Some x) (nodes ps) → AllByRecursion (λ (p : NumberPair). handle

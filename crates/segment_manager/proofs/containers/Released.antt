@@ -5,11 +5,11 @@ use common.{refl, sym, ◌∙◌, ◌+◌, Some, Ok, List, [], Cut, Kind, Map, K
 use common.{eq-eqb, Extent, handle, Scalar, Place, Value, Pairs, Object, padded, changed, append-nil, same_Some}
 use common.{ScalarKind, IsTextsNow, IsValueAt, HoldsObject, Directory, is_object, numbers_of, ℕ, current, code_of}
 use common.{Denotes, Becomes, Empties, emptied, has_key, kind_of, HasPairs, IsHeadOf, StandsAt, bytes_of, no_table}
-use common.{ByHandle, MapPlace, place_at, object_at, value_len, head_len, HasObject, StandsFor}
+use common.{ByHandle, place_at, object_at, value_len, head_len, HasObject, StandsFor}
 use Rattle.segment_manager.proofs.containers.Contained.{good-with, start-place, Shape, contents-shape, value-said}
 use Rattle.segment_manager.proofs.containers.Emptied.{IsEmptied, changed-itself, emptied-is, emptied-numbers}
 use Rattle.segment_manager.proofs.objects.Exchanged.{Exchange, between, denotes-container}
-use Rattle.segment_manager.proofs.containers.MapCalls.{HoldsPairs, as_map, holds-pairs}
+use Rattle.segment_manager.proofs.containers.MapCalls.{HoldsPairs, holds-pairs}
 use Rattle.segment_manager.proofs.objects.ObjectLists.{all-found, each-true, found-handle, key-found}
 use Rattle.segment_manager.proofs.containers.OneLength.{HoldsElements, holds-elements, nothing-left}
 use Rattle.segment_manager.proofs.containers.TextsHeld.{HoldsTexts, holds-texts}
@@ -33,16 +33,6 @@ held-object b h x = (x.object, held-stands b h x.directory x.object x.stands x.i
 -- where its container stands, as its head says
 abbrev pub place_behind : ℕ → ℕ → Place
 place_behind h at = record { handle = h; at = at }
-
-abbrev pub map_behind : ℕ → ℕ → MapPlace
-map_behind h at = record { handle = h; at = at }
-
--- the same place, as the calls of seg_map name it
-pub as_map-place : (h at : ℕ) (p : Place) (q : MapPlace) → p ≡ place_behind h at → q.handle ≡ p.handle → q.at ≡ p.at
-    → map_behind h at ≡ q
-as_map-place h at p q e f g =
-    let same : map_behind h at ≡ map_behind p.handle p.at = λ i. map_behind (sym e i).handle (sym e i).at in
-    same ∙ (λ i. record { handle = sym f i; at = sym g i })
 
 pub behind-head : (b : List ℕ) (h at : ℕ) (o : Object) (head : Head) → StandsAt b h o → IsHeadOf o head
     → at ≡ head_len + padded head.name_len → container_place o ≡ place_behind h at
@@ -75,8 +65,8 @@ module _ {b : List ℕ} {h at : ℕ} {head : Head} (said : IsReadAt b h head)
   read-texts : head.kind ≡ StringsKind → HoldsTexts b d (ByHandle h) (place_behind h at)
   read-texts is = holds-texts b d (ByHandle h) (place_behind h at) s.denotes (read-place StringsKind is)
 
-  read-pairs : (k l : ScalarKind) → head.kind ≡ Map k l → HoldsPairs b d (ByHandle h) k l (map_behind h at)
-  read-pairs k l is = holds-pairs b d (ByHandle h) k l (map_behind h at) s.denotes (ap as_map (read-place (Map k l) is))
+  read-pairs : (k l : ScalarKind) → head.kind ≡ Map k l → HoldsPairs b d (ByHandle h) k l (place_behind h at)
+  read-pairs k l is = holds-pairs b d (ByHandle h) k l (place_behind h at) s.denotes (read-place (Map k l) is)
 
 module _ (b : List ℕ) (h at : ℕ) (head : Head) (x : HoldsObject b h) (said : IsReadAt b h head)
     (behind : at ≡ head_len + padded head.name_len) where
@@ -88,9 +78,8 @@ module _ (b : List ℕ) (h at : ℕ) (head : Head) (x : HoldsObject b h) (said :
   pub some-texts : head.kind ≡ StringsKind → IsSomeTexts b (place_behind h at)
   some-texts is = let t = read-texts said behind x.stands x.is is in (t.texts, (t.table, t.stand))
 
-  pub some-pairs : (k l : ScalarKind) (p : MapPlace) → map_behind h at ≡ p → head.kind ≡ Map k l → HasPairs k l b p
-  some-pairs k l p there is =
-      let m = read-pairs said behind x.stands x.is k l is in subst (HasPairs k l b) there (m.pairs, m.map)
+  pub some-pairs : (k l : ScalarKind) → head.kind ≡ Map k l → HasPairs k l b (place_behind h at)
+  some-pairs k l is = let m = read-pairs said behind x.stands x.is k l is in (m.pairs, m.map)
 
 -- ---- what becomes of the object
 
@@ -158,17 +147,14 @@ module _ (old new : Cut) (h at : ℕ) (head : Head) (said : IsReadAt old.bytes h
       (container-released old new d (ByHandle h) x.object (place_behind h at)
       (Texts x.texts x.table) s.denotes x.is x.value x.at refl now.change now.texts.words)
 
-  pub pairs-contents : (k l : ScalarKind) (p : MapPlace) → map_behind h at ≡ p → head.kind ≡ Map k l
-      → ReleasesPairs k l old new p → Empties old new h
-  pairs-contents k l p there is released d o s e =
+  pub pairs-contents : (k l : ScalarKind) → head.kind ≡ Map k l → ReleasesPairs k l old new (place_behind h at)
+      → Empties old new h
+  pairs-contents k l is released d o s e =
       let x = read-pairs said behind s e k l is in let same : x.object ≡ o = same_Some x.object o (sym x.is ∙ e) in
-      let now : IsGivenUp (numbers_of k) (numbers_of l) old new h at x.pairs =
-      (subst (ReleasesPairs k l old new) (sym there) released).each x.pairs x.map in
-      let place : container_place x.object ≡ place_behind h at =
-      ap (λ (q : MapPlace). place_behind q.handle q.at) x.at in
+      let now : IsGivenUp (numbers_of k) (numbers_of l) old new h at x.pairs = released.each x.pairs x.map in
       subst (λ p. Becomes old new (changed d p (emptied p.value))) same
       (container-released old new d (ByHandle h) x.object (place_behind h at)
-      (Pairs k l x.pairs) s.denotes x.is x.known.value place refl now.change now.empty.map)
+      (Pairs k l x.pairs) s.denotes x.is x.known.value x.at refl now.change now.empty.map)
 
 -- ---- the kinds that are left
 

@@ -1,14 +1,13 @@
 -- A call on the container of an object that answers nothing: its step, and that it changes nothing where it is refused.
 use Rattle.segment_manager.proofs.Common as common
-use common.{NoSpace, OutOfRange, ◌⊎◌, inl, inr, IsStep, is_read_only, ◌≡◌, ℕ, ◌+◌, sym, ap, subst, ◌∙◌, Bool, true}
-use common.{false, Option, Some, None, Result, Ok, Err, length, if◌then◌else◌, OnErr, eq-eqb, ne_eqb, Cut, handle, Kind}
-use common.{Refusal, NotFound, WrongKind, code_of, same_kind, Key, Command, Place, Head, Answer, Done, Refused}
-use common.{container_at, container_place, place_of_kind, Object, kind_of, padded, handle_at, head_len, IsHeadOf}
-use common.{StandsAt, Answers, IsSegment, IsStepOfKind, State, AnswersSafely, StepsSafely, MatchResult, live_of}
+use common.{NoSpace, OutOfRange, ◌⊎◌, inl, inr, IsStep, is_read_only, ◌≡◌, refl, sym, ap, subst, ◌∙◌, Bool, true}
+use common.{false, Option, Some, None, Result, Ok, Err, OnErr, Cut, Kind, Refusal, NotFound, Key, Command, Place, Answer}
+use common.{Done, Refused, container_at, place_of_kind, Object, object_at, option_map, Answers, IsSegment, IsStepOfKind}
+use common.{State, AnswersSafely, StepsSafely, MatchResult, live_of, Located}
 use Rattle.best_fit.proofs.Laws.{gaps-refl}
 use Rattle.best_fit.specs.Heap.{KeepsGaps}
 use Rattle.segment_manager.proofs.Steps.{step-segment, step_of_kind-segment}
-use Rattle.segment_manager.proofs.objects.Here.{IsHere, here, seen-handle}
+use Rattle.segment_manager.specs.objects.Located.{container_in, located, located_at}
 
 -- it is refused, and nothing has changed
 pub stays : (s : State) (new : Cut) (key : Key) (kind : Kind) (c : Command) (e why : Refusal) → e ≡ why → new ≡ s.cut
@@ -101,34 +100,17 @@ same-live view new e = e ∙ sym (ap (λ (u : State). live_of u.cut.bytes) view)
 
 -- ---- the search
 
--- where the container is of each object that stands at the handle is where that of the key's object is
-pub contains : {s t : State} (view : s ≡ t) (key : Key) (kind : Kind) {h : ℕ} {r : Result Place Refusal}
-    → Answers t (λ d. handle_at d key) (Some h) → ((o : Object) → StandsAt s.cut.bytes h o → r ≡ place_of_kind o kind)
-    → Answers t (λ d. container_at d key kind) r
-contains {s} {t} view key kind {h} {r} a each =
-    subst (λ (u : State). Answers u (λ d. container_at d key kind) r) view (record {
-      answers = λ d l.
-          let o : IsHere s.cut.bytes d key h =
-          here s.cut.bytes d key h l.denotes ((seen-handle s t view key (Some h) a).answers d l) in
-          each o.object o.stands ∙ sym (ap (λ (q : Option Object). elim q as (λ _. Result Place Refusal)
-          [ None ↦ Err NotFound | Some o ↦ place_of_kind o kind ]) o.is);
-    })
+abbrev container_of : Kind → Option Located → Result Place Refusal
+container_of kind r = elim r as (λ _. Result Place Refusal) [ None ↦ Err NotFound | Some o ↦ container_in o kind ]
 
--- an object of another kind
-pub other-kind : (o : Object) (kind : Kind) (a b : ℕ) (head : Head) → IsHeadOf o head → a ≡ code_of head.kind
-    → b ≡ code_of kind → (a ≡ b → ⊥) → Err WrongKind ≡ place_of_kind o kind
-other-kind o kind a b head said e f n =
-    let other : same_kind kind (kind_of o.value) ≡ false =
-    ne_eqb (code_of kind) (code_of (kind_of o.value)) (λ g. n (e ∙ ap code_of said.kind ∙ sym g ∙ sym f)) in
-    ap (λ (t : Bool). if t then Ok (container_place o) else Err WrongKind) (sym other)
+same-place : (kind : Kind) (r : Option Object) → container_of kind (option_map located r)
+    ≡ elim r as (λ _. Result Place Refusal) [ None ↦ Err NotFound | Some o ↦ place_of_kind o kind ]
+same-place kind None = refl
+same-place kind (Some o) = refl
 
--- and one of the kind, which stands at the handle
-pub of-kind : (o : Object) (kind : Kind) (a b h at : ℕ) (head : Head) → IsHeadOf o head → a ≡ code_of head.kind
-    → b ≡ code_of kind → a ≡ b → h ≡ handle o.extent → at ≡ head_len + padded head.name_len
-    → Ok (record { handle = h; at = at }) ≡ place_of_kind o kind
-of-kind o kind a b h at head said e f n is there =
-    let same : same_kind kind (kind_of o.value) ≡ true =
-    eq-eqb (code_of kind) (code_of (kind_of o.value)) (sym f ∙ sym n ∙ e ∙ ap code_of said.kind) in
-    let place : at ≡ head_len + padded (length o.name) = there ∙ ap (λ (n : ℕ). head_len + padded n) said.name_len in
-    (λ i. Ok (record { handle = is i; at = place i })) ∙ ap
-    (λ (t : Bool). if t then Ok (container_place o) else Err WrongKind) (sym same)
+-- where the container is of the object that is found is where that of the key's is
+pub contains : {s : State} (key : Key) (kind : Kind) {r : Option Located} {q : Result Place Refusal}
+    → Answers s (λ d. located_at d key) r → q ≡ container_of kind r → Answers s (λ d. container_at d key kind) q
+contains key kind a e = record {
+  answers = λ d k. e ∙ ap (container_of kind) (a.answers d k) ∙ same-place kind (object_at d key);
+}

@@ -3,7 +3,7 @@
 use Rattle.segment_manager.proofs.Common as common
 use common.{◌++◌, ◌<◌, Err, IsTrue, List, None, Ok, Option, Result, Some, [], ap, arith, false, get_or, length, map}
 use common.{nat_abs, nat_le, nat_lt, pos, refl, slice_get, subst, suc, sym, true, zero, ℕ, ◌∙◌, ◌∷◌, ◌≡◌, and_from}
-use common.{le-leb, lt-ltb, slice_get-get_or, slice_get-map, slice_get_past, option_map, slice_set, Cut, Table, Append}
+use common.{le-leb, slice_get-get_or, slice_get-map, slice_get_past, option_map, slice_set, Cut, Table, Append}
 use common.{Assign, Get, Quoted, Set, literal_of, is_value, Key, String, U8, Refusal, NotFound, OutOfRange, AssignsText}
 use common.{IsSomeText, IsTextGrown, IsTextNow, capacity_for_text, Place, Done, Element, Refused, are_bytes, bytes_at}
 use common.{container_at, Bytes, Object, Value, kind_of, live, Reply, perform, Answers, IsSegment, IsStepOfKind, State}
@@ -16,18 +16,16 @@ use Rattle.best_fit.specs.Heap.{KeepsGaps}
 use Rattle.seg_vector.proofs.Laws.{same-extents}
 use Rattle.segment_manager.proofs.{Common.live_of}
 use Rattle.segment_manager.proofs.{Steps.open-reading, objects.Stored.literal-read, containers.ToChange.seen-found}
-use Rattle.raw_region.proofs.Facts.{first, second}
+use Rattle.raw_region.proofs.{Bytes.fits-are_bytes, Facts.first, Facts.second}
 use Rattle.std.proofs.Common.{Fits, w8}
 use Rattle.seg_vector.specs.TextCalls.{AppendsText, GetsByte, ReadsText, SetsByte}
 use Rattle.segment_manager.specs.{containers.Contents.text_bytes, containers.ToChange.IsToChange}
 
 -- ---- bytes
 
--- numbers that are below 256 each
+-- those of a slice of type `u8` are below 256 each
 pub fits-bytes : (bs : List ℕ) → ((k : ℕ) → Fits w8 (get_or bs k 0)) → IsTrue (are_bytes bs)
-fits-bytes [] h = refl
-fits-bytes (b ∷ bs) h =
-    and_from (nat_lt b 256) (are_bytes bs) (lt-ltb b 256 (omega (arith, h 0))) (fits-bytes bs (λ k. h (suc k)))
+fits-bytes bs h = fits-are_bytes bs (λ k. omega (arith, h k))
 
 are_bytes-append : (bs cs : List ℕ) → IsTrue (are_bytes bs) → IsTrue (are_bytes cs) → IsTrue (are_bytes (bs ++ cs))
 are_bytes-append [] cs h g = g

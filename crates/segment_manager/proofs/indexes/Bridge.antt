@@ -21,7 +21,7 @@ use Rattle.segment_manager.proofs.objects.ObjectLists.{rises-rest, all-found}
 use Rattle.segment_manager.proofs.objects.Ranks.{IsRanked, all-ordered}
 use Rattle.segment_manager.proofs.{Faces.ordered-without, Denoted.handles-length, Live.IsIn, blocks.InUse.all-both}
 use Rattle.raw_region.proofs.Facts.{first}
-use Rattle.seg_index.specs.{declared.keys.Key.Key, Lookups.order, Sorted.index_of}
+use Rattle.seg_index.specs.{declared.keys.Entry.Entry, Lookups.order, Sorted.index_of}
 use Rattle.seg_types.specs.Names as names
 
 -- what a place among the entries means: the object of the key, which that entry leads to
@@ -49,12 +49,12 @@ name-key name = record { apart = names-apart name; other = names-class name }
 kind-of-key : (k : Kind) → IsKeyIn Unique (names.ByKind k)
 kind-of-key k = record { apart = kinds-apart k; other = kinds-class k }
 
-sought-key : (i : Index) (e : Key) (key : names.Key) → Seeks i e key → IsKeyIn i key
+sought-key : (i : Index) (e : Entry) (key : names.Key) → Seeks i e key → IsKeyIn i key
 sought-key Named (Name s) (names.ByName name) q = name-key name
 sought-key Unique (Code n) (names.ByKind k) q = kind-of-key k
 sought-key i e key q = absurd q
 
-says-of : (i : Index) {m : Memory} (e : Key) (key : names.Key) {o : Object} → Seeks i e key → IsEntry m o
+says-of : (i : Index) {m : Memory} (e : Entry) (key : names.Key) {o : Object} → Seeks i e key → IsEntry m o
     → is_class (class_of_index i) o ≡ true → Says (order_of i) (has_key key) o (order m e (handle o.extent))
 says-of Named (Name s) (names.ByName name) {o} q a c = subst (Says (order_of Named) (has_key (names.ByName name)) o)
     (λ j. slice_cmp nat_cmp (sym a.name j) (sym q j)) (names-say name o c)
@@ -106,12 +106,12 @@ by-handle {d} key {o} h e = all-found (λ (p : Object). object_at d (names.ByHan
 -- ---- what a look-up means
 
 -- the key is of the sort of the index
-pub seeks-sort : (i : Index) (e : Key) (key : names.Key) → Seeks i e key → index_of e ≡ i
+pub seeks-sort : (i : Index) (e : Entry) (key : names.Key) → Seeks i e key → index_of e ≡ i
 seeks-sort Named (Name s) (names.ByName name) q = refl
 seeks-sort Unique (Code n) (names.ByKind k) q = refl
 seeks-sort i e key q = absurd q
 
-module _ (i : Index) (c : Cut) {d : Directory} (e : Key) (key : names.Key) (k : Denotes current c.bytes d)
+module _ (i : Index) (c : Cut) {d : Directory} (e : Entry) (key : names.Key) (k : Denotes current c.bytes d)
     (q : Seeks i e key) where
   says-at : (j : ℕ) {o : Object} → slice_get (objects_of i d) j ≡ Some o
       → Says (order_of i) (has_key key) o (order (bytes_of c.bytes) e (handle o.extent))
@@ -150,7 +150,7 @@ module _ (i : Index) (c : Cut) {d : Directory} (e : Key) (key : names.Key) (k : 
 -- ---- one entry more
 
 -- where the look-up says that an object of the key belongs
-place-of : (i : Index) (c : Cut) {d : Directory} (e : Key) (key : names.Key) (at : ℕ) (o : Object)
+place-of : (i : Index) (c : Cut) {d : Directory} (e : Entry) (key : names.Key) (at : ℕ) (o : Object)
     → Denotes current c.bytes d → Seeks i e key → IsPlace (bytes_of c.bytes) e (entries_of i d) (Absent at)
     → has_key key o ≡ true → IsPlaceOf (order_of i) o (objects_of i d) at
 place-of i c {d} e key at o k q p h j r f =
@@ -159,7 +159,7 @@ place-of i c {d} e key at o k q p h j r f =
     ((λ l. says.behind o h (each.0 l)), (λ l. says.ahead o h (each.1 l)))
 
 -- the objects of an index with one more
-objects-more : (i : Index) (d : Directory) (e : Key) (key : names.Key) (o : Object) → Seeks i e key
+objects-more : (i : Index) (d : Directory) (e : Entry) (key : names.Key) (o : Object) → Seeks i e key
     → has_key key o ≡ true → object_at d key ≡ None
     → objects_of i (with_object d o) ≡ insert_by (order_of i) o (objects_of i d)
 objects-more Named d (Name s) (names.ByName name) o q h n = named-more d o (first (is_class NamedClass o)
@@ -170,7 +170,7 @@ objects-more Unique d (Code x) (names.ByKind k) o q h n = unique-more d o (first
 objects-more i d e key o q h n = absurd q
 
 -- an object with the key comes in at the place that the look-up answers
-pub entry-added : (i : Index) (c : Cut) {d : Directory} (e : Key) (key : names.Key) (at : ℕ) (o : Object)
+pub entry-added : (i : Index) (c : Cut) {d : Directory} (e : Entry) (key : names.Key) (at : ℕ) (o : Object)
     → Denotes current c.bytes d → Seeks i e key → IsPlace (bytes_of c.bytes) e (entries_of i d) (Absent at)
     → has_key key o ≡ true → insert (entries_of i d) at (handle o.extent) ≡ entries_of i (with_object d o)
 entry-added i c {d} e key at o k q p h =

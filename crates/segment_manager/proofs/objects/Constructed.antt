@@ -15,7 +15,7 @@ use Rattle.segment_manager.proofs.objects.Taking.{IsMade, taken-index, growth-in
 use Rattle.segment_manager.proofs.{Calling.denotes-live, Kept.denotes-kept, Steps.perform-new, Steps.perform-no_space}
 use Rattle.segment_manager.proofs.{indexes.Tables.same-table, indexes.HeldIndexes.denotes-index, Denoted.handles-length}
 use Rattle.best_fit.proofs.Laws.{AllByRecursion-insert}
-use Rattle.seg_index.specs.{declared.keys.Key.Key, Growth.grown_live}
+use Rattle.seg_index.specs.{declared.keys.Entry.Entry, Growth.grown_live}
 use Rattle.segment_manager.specs.objects.NewObjects.{FindsNone}
 use Rattle.seg_index.proofs.Laws.{place_behind, place_small}
 use Rattle.seg_types.specs.Names as names
@@ -151,7 +151,7 @@ pub record IsLed (i : Index) (w c : Cut) (at h : ℕ) (g : Option ℕ) : Type 0 
   pub live : LaysOut current c.bytes (grown_live w (place_of i) g)
   pub keeps : (t : Table) (hs : List ℕ) → IsIndexOf w (place_of i) t hs → AddKeeps w c (place_of i) t g
 
-module _ (i : Index) (a : Cut) (d : Directory) (e : Key) (key : names.Key) (name : List ℕ) (kind : Kind)
+module _ (i : Index) (a : Cut) (d : Directory) (e : Entry) (key : names.Key) (name : List ℕ) (kind : Kind)
     (content : Content) (said : Denotes current a.bytes d) (new : IsNewKeyOf i e key name kind) where
   abbrev plan-of : (next : Object → Directory → Plan)
       → with_new_object d key content next ≡ with_entry d (class_of_index i) (object_plan i name content next)
@@ -223,7 +223,7 @@ module _ (i : Index) (a : Cut) (d : Directory) (e : Key) (key : names.Key) (name
 
 -- ---- numbers
 
-module _ (i : Index) {a : Cut} {d : Directory} (e : Key) {key : names.Key} (name : List ℕ) (k : ScalarKind)
+module _ (i : Index) {a : Cut} {d : Directory} (e : Entry) {key : names.Key} (name : List ℕ) (k : ScalarKind)
     (zs : List ℤ) (said : Denotes current a.bytes d) (new : IsNewKeyOf i e key name (Scalar k)) where
   -- its requests are met
   pub numbers-met : {m : Cut} {n h : ℕ} {g : Option ℕ} → n ≡ object_len name (Numbers k zs)

@@ -17,7 +17,7 @@ use Rattle.segment_manager.proofs.containers.Safely.{Stepped, stepped}
 use Rattle.segment_manager.proofs.objects.ObjectLists.{found-handle, key-found}
 use Rattle.segment_manager.proofs.{Steps.with-found, Steps.with-not_found, indexes.HeldIndexes.denotes-index, Live.IsIn}
 use Rattle.segment_manager.proofs.{objects.Ranks.all-ordered, objects.Rewritten.with_value}
-use Rattle.seg_index.specs.{declared.keys.Key.Key, declared.keys.Lookup.Lookup}
+use Rattle.seg_index.specs.{declared.keys.Entry.Entry, declared.keys.Lookup.Lookup}
 use Rattle.segment_manager.specs.indexes.Listed.{IsEntryAt}
 use Rattle.segment_manager.specs.objects.Destroyed.{HoldsEntry, RemovesAnonymous, RemovesEntry}
 use Rattle.seg_types.specs.declared.kinds.Class.TheVariants as class
@@ -180,23 +180,23 @@ module _ {a b : Cut} {i : Index} {at h : ℕ} (leads : LeadsTo a i at h) (emptie
 -- ---- destroying by a key with an entry
 
 -- what a look-up ends with in the index of a heap
-abbrev pub Ends : Cut → Index → Key → Lookup → Type 0
+abbrev pub Ends : Cut → Index → Entry → Lookup → Type 0
 Ends c i e r = (t : Table) (hs : List ℕ) → IsIndexOf c (place_of i) t hs → IsPlace (bytes_of c.bytes) e hs r
 
-found-for : (c : Cut) {i : Index} (e : Key) {key : names.Key} {at : ℕ} {d : Directory} → Denotes current c.bytes d
+found-for : (c : Cut) {i : Index} (e : Entry) {key : names.Key} {at : ℕ} {d : Directory} → Denotes current c.bytes d
     → Seeks i e key → Ends c i e (Found at) → IsEntryFor i d key at
 found-for c {i} e {key} {at} {d} k q p =
     lookup-found i c e key k q at (p (table_of i d) (entries_of i d) (denotes-index i c k))
 
 -- the entry that was found is an object's
-pub found-entry : (c : Cut) (b : IsSegment c.bytes) (i : Index) (e : Key) (key : names.Key) (at : ℕ) → Seeks i e key
+pub found-entry : (c : Cut) (b : IsSegment c.bytes) (i : Index) (e : Entry) (key : names.Key) (at : ℕ) → Seeks i e key
     → Ends c i e (Found at) → HoldsEntry c.bytes i at
 found-entry c b i e key at q p =
     let there = found-for c e b.1.denotes q p in
     record { directory = b.0; stands = b.1; object = there.object; is = there.stands }
 
 -- the look-up found its entry
-pub destroys-entered : {s t : State} (view : s ≡ t) (b : IsSegment s.cut.bytes) {c : Cut} (i : Index) (e : Key)
+pub destroys-entered : {s t : State} (view : s ≡ t) (b : IsSegment s.cut.bytes) {c : Cut} (i : Index) (e : Entry)
     (key : names.Key) (at : ℕ) → is_read_only t.mode ≡ false → Seeks i e key → Ends s.cut i e (Found at)
     → RemovesEntry s.cut c i at → Stepped s t c (asked.Destroy key) (Truth true)
 destroys-entered {s} {t} view b {c} i e key at may q p r =
@@ -215,7 +215,7 @@ destroys-entered {s} {t} view b {c} i e key at may q p r =
     })))
 
 -- or there is none
-pub destroys-none : {s t : State} (view : s ≡ t) (i : Index) (e : Key) (key : names.Key) (at : ℕ) → is_read_only t.mode
+pub destroys-none : {s t : State} (view : s ≡ t) (i : Index) (e : Entry) (key : names.Key) (at : ℕ) → is_read_only t.mode
     ≡ false → Seeks i e key → Ends s.cut i e (Absent at) → IsStep t t (asked.Destroy key) (Truth false)
 destroys-none {s} view i e key at may q p =
     let writing : is_read_only s.mode ≡ false = subst (λ (u : State). is_read_only u.mode ≡ false) (sym view) may in

@@ -15,7 +15,7 @@ use Rattle.segment_manager.proofs.{Steps.step-segment, indexes.Bridge.lookup-abs
 use Rattle.segment_manager.specs.containers.Filled.{HasBegun, Builds, IsShapeOf}
 use Rattle.segment_manager.specs.{objects.Begun.Ends, objects.Begun.IsEnding, objects.Found.pair_found, Answers.Found}
 use Rattle.segment_manager.specs.{declared.objects.beginning.Begun.Begun, declared.containers.fillings.Shape.Shape}
-use Rattle.seg_index.specs.declared.keys.Key.{Key}
+use Rattle.seg_index.specs.declared.keys.Entry.{Entry}
 use Rattle.seg_types.specs.Names as names
 use Rattle.seg_types.specs.Commands as asked
 
@@ -146,13 +146,13 @@ module _ {a : Cut} (b : IsSegment a.bytes) (key : names.Key) (content : Content)
 -- ---- under an entry
 
 -- a look-up finds no object
-pub no-object : {a : Cut} (b : IsSegment a.bytes) (i : Index) (e : Key) (at : ℕ) (key : names.Key) (name : List ℕ)
+pub no-object : {a : Cut} (b : IsSegment a.bytes) (i : Index) (e : Entry) (at : ℕ) (key : names.Key) (name : List ℕ)
     (kind : Kind) → IsNewKeyOf i e key name kind → IsAbsentAt a i e at → object_at b.0 key ≡ None
 no-object {a} b i e at key name kind new away =
     (lookup-absent i a e key b.1.denotes (key-seeks i e key name kind new) (away-in i e at b.1.denotes away)).none
 
 -- and so nothing is said of one
-pub found-absent : {a c : Cut} (i : Index) (e : Key) (at : ℕ) {key : names.Key} (name : List ℕ) (kind : Kind)
+pub found-absent : {a c : Cut} (i : Index) (e : Entry) (at : ℕ) {key : names.Key} (name : List ℕ) (kind : Kind)
     {content : Content} {r : Result (ℕ × ℕ) Refusal} → IsNewKeyOf i e key name kind → IsAbsentAt a i e at
     → Constructs a c (asked.FindOrConstruct key content) pair_answer r → FindsOrConstructs a c key content r
 found-absent {a} i e at {key} name kind new away done = record {

@@ -10,7 +10,7 @@ use common.{IsNotBegun, length-map, ObjectRole, ScalarKind, OutOfRange, IsTakenK
 use common.{is_read_only, with_new_object, if◌then◌else◌, mul-le-mul_left, length-replicate, IsAllocated, is_good_value}
 use common.{inl, inr, option_map, Mode, Answers, StandsAt, handle_at, pair_of_kind, with_count, Index, Kind}
 use common.{IsAbsentAt, IsNewKeyOf, Write}
-use Rattle.seg_index.specs.declared.keys.Key.{Key}
+use Rattle.seg_index.specs.declared.keys.Entry.{Entry}
 use Rattle.segment_manager.proofs.Steps.{step-segment, perform-new, refuses-read_only, by_no_change, by_step, lands}
 use Rattle.segment_manager.proofs.objects.Constructed.{IsMet, IsNewObject, numbers-met, restored-denotes, IsNoObject}
 use Rattle.segment_manager.proofs.objects.NewValues.{away-in, value-built, value-ready, no_key-none}
@@ -354,13 +354,13 @@ module _ (S : Type 0) {A : Type 0} (gives : S → Option A → S → Type 0) (wh
       (subst (λ (q : Shape). IsNotBegun a c key q.kind q.len why) same not))
 
 -- the key of an entry suits it
-pub shaped-key : (i : Index) (e : Key) (key : names.Key) (name : List ℕ) {shape : Shape} {j k : ScalarKind} {count : ℕ}
+pub shaped-key : (i : Index) (e : Entry) (key : names.Key) (name : List ℕ) {shape : Shape} {j k : ScalarKind} {count : ℕ}
     → shape ≡ numbers_shape j count → j ≡ k → IsNewKeyOf i e key name (Scalar k) → IsNewKeyOf i e key name shape.kind
 shaped-key i e key name same is new =
     subst (IsNewKeyOf i e key name) (sym (ap (λ (q : Shape). q.kind) same ∙ ap Scalar is)) new
 
 -- no object has the key of an entry that is not there
-pub no-objects : {a : Cut} (i : Index) (e : Key) (at : ℕ) (key : names.Key) (name : List ℕ) (kind : Kind)
+pub no-objects : {a : Cut} (i : Index) (e : Entry) (at : ℕ) (key : names.Key) (name : List ℕ) (kind : Kind)
     → IsNewKeyOf i e key name kind → IsAbsentAt a i e at → (d : Directory) → StandsFor a.bytes d
     → object_at d key ≡ None
 no-objects {a} i e at key name kind new away d st =

@@ -141,7 +141,7 @@ absent-answers {s} i e place f key q = record {
 
 -- ---- any key
 
-handle-if : (h : ℕ) (d : Directory) (r : Option Object) → object_at d (ByHandle h) ≡ r
+pub handle-if : (h : ℕ) (d : Directory) (r : Option Object) → object_at d (ByHandle h) ≡ r
     → then_some (is_some r) h ≡ option_map (λ (o : Object). handle o.extent) r
 handle-if h d None e = refl
 handle-if h d (Some o) e = ap Some (found-handle h d.objects o (record { is = e }))

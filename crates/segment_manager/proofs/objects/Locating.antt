@@ -1,36 +1,19 @@
 -- An object that was located: it is that of the key, and what a command does under its handle it does under the key.
 use Rattle.segment_manager.proofs.Common as common
-use common.{◌≡◌, refl, sym, ap, subst, ◌∙◌, ℕ, ◌&&◌, Option, Some, None, Result, Ok, Err, if◌then◌else◌, is_some}
+use common.{◌≡◌, refl, sym, ap, subst, ◌∙◌, ℕ, ◌&&◌, Option, Some, None, Result, Ok, Err, if◌then◌else◌}
 use common.{option_map, same_Some, Kind, Refusal, NotFound, ReadOnly, WrongKind, same_kind, Key, ByHandle, Command}
-use common.{is_changing, Head, Change, Clear, Reserve, Shrink, Located, Answer, kind_at, sizes_at, sizes_at_kind}
+use common.{is_changing, Change, Clear, Reserve, Shrink, Located, Answer, kind_at, sizes_at, sizes_at_kind, handle}
 use common.{sizes_of, sizes_of_kind, Object, Directory, kind_of, live, object_at, handle_at, HasPlaces, KeepsWhere}
-use common.{IsLocated, Plan, Refuse, perform, with, IsHeadOf, StandsAt, Answers, IsReplyOfKind, IsStep, IsStepOfKind}
+use common.{IsLocated, IsSegment, Plan, Refuse, perform, with, StandsAt, Answers, IsReplyOfKind, IsStep, IsStepOfKind}
 use common.{State, StandsFor, effect, is_read_only, step, step_of_kind, HasEnough, command_of}
 use Rattle.segment_manager.proofs.containers.AnyStorage.{measures-kind, of_kind-steps}
-use Rattle.segment_manager.proofs.{indexes.Bridge.by-handle, objects.Here.here, Steps.moves-same}
+use Rattle.segment_manager.proofs.{indexes.Bridge.by-handle, objects.Here.here, objects.Here.seen-handle}
+use Rattle.segment_manager.proofs.{objects.Standings.alike, Steps.moves-same}
 use Rattle.segment_manager.specs.Laws.{HandlesMeanObjects, KeysMeanObjects, KeysOfKindMeanObjects, at_key}
-use Rattle.segment_manager.specs.objects.Located.{located}
+use Rattle.segment_manager.specs.objects.Located.{located, located_at}
 use Rattle.seg_types.specs.Commands as asked
 
 -- ---- the object
-
--- what the head of the object at the handle says is what is located
-pub locates : {s : State} {key : Key} {h : ℕ} {head : Head} → Answers s (λ d. handle_at d key) (Some h)
-    → ((o : Object) → StandsAt s.cut.bytes h o → IsHeadOf o head)
-    → IsLocated s key (record { handle = h; kind = head.kind; count = head.count })
-locates {s} {key} {h} {head} a says = record {
-  at = record {
-    answers = λ d k.
-        let o = here s.cut.bytes d key h k.denotes (a.answers d k) in let said = says o.object o.stands in
-        (λ i. Some (record { handle = o.stands.at i; kind = said.kind i; count = said.count i }))
-        ∙ sym (ap (option_map located) o.is);
-  };
-  here = record {
-    answers = λ d k.
-        let o = here s.cut.bytes d key h k.denotes (a.answers d k) in
-        sym (ap is_some (ap (λ n. object_at d (ByHandle n)) o.stands.at ∙ by-handle key k.denotes.directory o.is));
-  };
-}
 
 -- the object of the key, of which this is said
 pub record IsSaidAt (d : Directory) (key : Key) (o : Located) : Type 0 where
@@ -42,6 +25,47 @@ said-if : {d : Directory} {key : Key} {o : Located} (r : Option Object) → obje
     → Some o ≡ option_map located r → IsSaidAt d key o
 said-if None e f = absurd (cc)
 said-if {o} (Some p) e f = record { object = p; is = e; said = same_Some o (located p) f }
+
+-- it is located by its handle
+pub locates : {s : State} {key : Key} {o : Located} → Answers s (λ d. located_at d key) (Some o) → IsLocated s key o
+locates {s} {key} {o} a = record {
+  at = a;
+  here = record {
+    answers = λ d k.
+        let p = said-if (object_at d key) refl (a.answers d k) in
+        ap Some p.said ∙ sym (ap (λ (q : Located). option_map located (object_at d (ByHandle q.handle))) p.said
+        ∙ ap (option_map located) (by-handle key k.denotes.directory p.is));
+  };
+}
+
+-- its handle is that of the key
+pub handle-located : {s : State} (key : Key) {o : Located} → Answers s (λ d. located_at d key) (Some o)
+    → Answers s (λ d. handle_at d key) (Some o.handle)
+handle-located key a = record {
+  answers = λ d k.
+      let p = said-if (object_at d key) refl (a.answers d k) in
+      ap (λ (q : Located). Some q.handle) p.said ∙ sym (ap (option_map (λ (o : Object). handle o.extent)) p.is);
+}
+
+-- what the head of the object at the handle says is what is located, as the view before the call names the segment
+pub head-located : {s t : State} (view : s ≡ t) (key : Key) {h : ℕ} {q : Located}
+    → Answers t (λ d. handle_at d key) (Some h) → ((o : Object) → StandsAt s.cut.bytes h o → q ≡ located o)
+    → Answers t (λ d. located_at d key) (Some q)
+head-located {s} {t} view key {h} {q} a each =
+    subst (λ (u : State). Answers u (λ d. located_at d key) (Some q)) view (record {
+      answers = λ d k.
+          let o = here s.cut.bytes d key h k.denotes ((seen-handle s t view key (Some h) a).answers d k) in
+          ap Some (each o.object o.stands) ∙ sym (ap (option_map located) o.is);
+    })
+
+-- and of whatever stands at that handle
+pub located-there : {s t : State} (view : s ≡ t) (key : Key) {q : Located} → IsSegment s.cut.bytes
+    → Answers t (λ d. located_at d key) (Some q) → (o : Object) → StandsAt s.cut.bytes q.handle o → q ≡ located o
+located-there {s} {t} view key {q} g a o stands =
+    let b = subst (λ (u : State). Answers u (λ d. located_at d key) (Some q)) (sym view) a in
+    let p = said-if (object_at g.0 key) refl (b.answers g.0 g.1) in
+    let there = here s.cut.bytes g.0 key q.handle g.1.denotes ((handle-located key b).answers g.0 g.1) in
+    p.said ∙ ap located (same_Some p.object there.object (sym p.is ∙ there.is)) ∙ alike there.stands stands
 
 pub said-at : (s : State) (key : Key) (o : Located) → IsLocated s key o → (d : Directory) → StandsFor s.cut.bytes d
     → IsSaidAt d key o

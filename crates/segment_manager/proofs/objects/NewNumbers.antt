@@ -3,7 +3,7 @@ use Rattle.segment_manager.proofs.Common.{◌≡◌, refl, sym, ap, subst, ◌�
 use Rattle.segment_manager.proofs.Common.{[], length, replicate, IsTrue, AllByRecursion, length-replicate, current, Cut}
 use Rattle.segment_manager.proofs.Common.{Has, Memory, bytes_of, Tree, fork, leaf, nodes_of, IsExchanged, SameBlockBut}
 use Rattle.segment_manager.proofs.Common.{Extent, cells_of, IsChanged, LaysOut, live_of, laid-heap, ScalarKind, Plain}
-use Rattle.segment_manager.proofs.Common.{is_value, size_of, spelling, MapPlace, Place, place_at, spelled, Numbers}
+use Rattle.segment_manager.proofs.Common.{is_value, size_of, spelling, Place, place_at, spelled, Numbers}
 use Rattle.segment_manager.proofs.{Common.Pairs, Common.IsMadeValue, Common.repeated, objects.NewKeys.equal-good}
 use Rattle.segment_manager.proofs.{Common.is_good_value, blocks.Blocks.spelling-length, objects.Rows.repeated-spelled}
 use Rattle.link_tree.specs.Tree.{IsTree}
@@ -67,9 +67,9 @@ no-root m (fork red left n right) k e = absurd (not-empty (nodes_of left) n (nod
     not-empty (x ∷ xs) n ys f = cc
 
 -- it is one of any types
-map-there : {K V : Type 0} (k v : ScalarKind) (kp : Plain K) (vp : Plain V) {old new : Cut} {p : Place}
+pub map-made : {K V : Type 0} (k v : ScalarKind) (kp : Plain K) (vp : Plain V) {old new : Cut} {p : Place}
     → IsNew kp vp old new p.handle p.at → IsMadeValue (asked.NoPairs k v) old new p
-map-there k v kp vp {new} r =
+map-made k v kp vp {new} r =
     let s = r.map in
     record {
       empty = new;
@@ -97,10 +97,3 @@ map-there k v kp vp {new} r =
         pairs = tt;
       };
     }
-
--- at a place that is another word for it
-pub map-made : {K V : Type 0} (k v : ScalarKind) (kp : Plain K) (vp : Plain V) (old new : Cut) (p : Place)
-    (q : MapPlace) → q.handle ≡ p.handle → q.at ≡ p.at → IsNew kp vp old new q.handle q.at
-    → IsMadeValue (asked.NoPairs k v) old new p
-map-made k v kp vp old new p q e f r =
-    map-there k v kp vp (subst (λ h. IsNew kp vp old new h p.at) e (subst (λ a. IsNew kp vp old new q.handle a) f r))

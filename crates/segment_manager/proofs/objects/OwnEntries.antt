@@ -7,11 +7,11 @@ use Rattle.segment_manager.proofs.Common.{IsSegment, State, HasObject, StandsAt,
 use Rattle.segment_manager.proofs.objects.Here.{IsHere, IsReadAt, here, has-object}
 use Rattle.segment_manager.proofs.indexes.Bridge.{lookup-absent, own-kind, own-name}
 use Rattle.segment_manager.proofs.objects.KeyCalls.{handle-answers, of-directory, ForIndex}
-use Rattle.seg_index.specs.declared.keys.Key.{Key}
+use Rattle.seg_index.specs.declared.keys.Entry.{Entry}
 use Rattle.seg_types.specs.declared.kinds.Class.TheVariants as class
 use Rattle.seg_types.specs.Names as names
 use Rattle.seg_index.specs.declared.index.Index.TheVariants as index
-use Rattle.seg_index.specs.declared.keys.Key.TheVariants as entry
+use Rattle.seg_index.specs.declared.keys.Entry.TheVariants as entry
 
 -- ---- the object of a handle
 
@@ -52,7 +52,7 @@ by-own_handle : (d : Directory) {h : ℕ} {o : Object} → h ≡ handle o.extent
 by-own_handle d {o} e f = subst (λ g. object_at d (names.ByHandle g) ≡ Some o) e f
 
 -- the entry is looked up by this name
-abbrev pub IsNamed : Key → List ℕ → Type 0
+abbrev pub IsNamed : Entry → List ℕ → Type 0
 IsNamed (entry.Name bytes) name = bytes.now ≡ name
 IsNamed (entry.Code n) name = ⊥
 
@@ -68,7 +68,7 @@ module _ {s t : State} (view : s ≡ t) {h : ℕ} {head : Head} (a : Answers t (
       (o.object, o.is, sym (r o.object o.stands).class ∙ e))
 
   -- it has a name
-  pub listed-name : (e : Key) → head.class ≡ class.Named → ((o : Object) → StandsAt s.cut.bytes h o → IsNamed e o.name)
+  pub listed-name : (e : Entry) → head.class ≡ class.Named → ((o : Object) → StandsAt s.cut.bytes h o → IsNamed e o.name)
       → HasEntries t index.Named e h
   listed-name (entry.Name bytes) e n = subst (λ (u : State). HasEntries u index.Named (entry.Name bytes) h) view (λ d k.
       let o = here-in d k in
@@ -98,7 +98,7 @@ module _ {s t : State} (view : s ≡ t) {h : ℕ} {head : Head} (a : Answers t (
       })
 
 -- an entry that an object has is found
-pub listed-found : {s t : State} (view : s ≡ t) (i : Index) (e : Key) (h at : ℕ)
+pub listed-found : {s t : State} (view : s ≡ t) (i : Index) (e : Entry) (h at : ℕ)
     → ForIndex s.cut i (λ hs. IsPlace (bytes_of s.cut.bytes) e hs (Absent at)) → HasEntries t i e h → IsAnonymousAt t h
 listed-found {s} view i e h at f each = subst (λ (u : State). IsAnonymousAt u h) view (λ d k.
     let x : HasEntry i e d h = subst (λ (u : State). HasEntries u i e h) (sym view) each d k in

@@ -2,8 +2,11 @@
 use Rattle.segment_manager.proofs.Common.{◌≡◌, ap, ◌∙◌, ◌+◌, ◌-◌, ◌*◌, ◌/◌, ◌%◌, ◌≤◌, List, arith, read, Object, padded}
 use Rattle.segment_manager.proofs.Common.{ℕ, replicate, bytes_of, has_room, class_code, count_of, object_len, value_len}
 use Rattle.segment_manager.proofs.Common.{length, IsTrue, current, word_at, handle, live_of, code_of, kind_of, StandsAt}
+use Rattle.segment_manager.proofs.Common.{sym, Kind, kind_of_code, same_Some}
+use Rattle.segment_manager.proofs.Codes.{code-read}
 use Rattle.segment_manager.proofs.objects.Heads.{Has-front, good-name, good_name-short, object-entry}
 use Rattle.best_fit.proofs.Laws.{room-less}
+use Rattle.segment_manager.specs.objects.Located.{located}
 
 -- its name is short
 pub standing-short : (b : List ℕ) (h : ℕ) (o : Object) → StandsAt b h o → length o.name ≤ 255
@@ -27,6 +30,19 @@ head-words {b} {h} {o} s =
       count = ap (λ a. word_at (bytes_of b) a / 4294967296) s.at ∙ e.count;
       name_len = ap (λ a. word_at (bytes_of b) (a + 8) % 4294967296) s.at ∙ len;
       class = ap (λ a. word_at (bytes_of b) (a + 8) / 4294967296) s.at ∙ e.class;
+    }
+
+one-kind : {k l : Kind} → code_of k ≡ code_of l → k ≡ l
+one-kind {k} {l} e = same_Some k l (sym (code-read k) ∙ ap kind_of_code e ∙ code-read l)
+
+-- so the same is said of all that stands there
+pub alike : {b : List ℕ} {h : ℕ} {o p : Object} → StandsAt b h o → StandsAt b h p → located o ≡ located p
+alike s t =
+    let u = head-words s in let v = head-words t in let kind = one-kind (sym u.code ∙ v.code) in λ i. record {
+      handle = (sym s.at ∙ t.at) i;
+      kind = kind i;
+      name_len = (sym u.name_len ∙ v.name_len) i;
+      count = (sym u.count ∙ v.count) i;
     }
 
 -- its block has room for its head and name, and for its value

@@ -1,88 +1,120 @@
--- What destroys no object leaves each where it is.
+-- What destroys no object leaves what is said of each.
 use Rattle.segment_manager.proofs.Common as common
 use common.{◌≡◌, sym, not, ◌∙◌, ℕ, None, List, [], ◌∷◌, find, cond, Kind, Key, Mode, live, Plan, met, plan, step}
 use common.{refl, ◌==◌, Bool, true, false, Option, Some, Extent, handle, Object, Answer, Refused, perform, Moves, State}
-use common.{ap, is_some, eqb-true, LiveSet, resized, Refusal, NoSpace, ByHandle, Command, Directory, has_key, IsSegment}
-use common.{subst, if◌then◌else◌, false≢true, replace_object, is_object_at, is_elementwise, step_of_kind, LeadsOnOfKind}
-use Rattle.segment_manager.proofs.Refusals.{Leaves, by_change, by_other, by_refusal, by_request, by_same, plan-leaves}
-use Rattle.segment_manager.proofs.{Refusals.plan_of_kind-leaves, objects.KeyCalls.object-passes}
+use common.{ap, is_some, LiveSet, resized, Refusal, NoSpace, ByHandle, Command, Directory, has_key, IsSegment, current}
+use common.{subst, if◌then◌else◌, false≢true, replace_object, is_elementwise, step_of_kind, LeadsOnOfKind, option_map}
+use common.{IsDirectory, Denotes, Located, object_at, is_object_at, handle_at, same_Some}
+use Rattle.segment_manager.proofs.Refusals.{IsAnother, Leaves, by_change, by_other, by_refusal, by_request, by_same}
+use Rattle.segment_manager.proofs.Refusals.{plan-leaves, plan_of_kind-leaves}
+use Rattle.segment_manager.proofs.{indexes.Bridge.by-handle, objects.Here.here, objects.Standings.alike}
+use Rattle.segment_manager.proofs.objects.KeyCalls.{handle-if, object-passes}
+use Rattle.segment_manager.specs.objects.Located.{located, located_at}
 use Rattle.segment_manager.specs.Staying.{KeepsObjects, ObjectsStay}
+use Rattle.std.specs.Bool.{then_some}
 
 -- ---- an object of another value
 
-either : (b : Bool) (p : Object) (rest other : Option Object) → (is_some rest ≡ true → is_some other ≡ true)
-    → is_some (cond b (Some p) rest) ≡ true → is_some (cond b (Some p) other) ≡ true
-either true p rest other k e = refl
-either false p rest other k e = k e
+-- what is said of the object of a handle among some
+abbrev said : ℕ → List Object → Option Located
+said h os = option_map located (find (has_key (ByHandle h)) os)
 
-first-as : (b : Bool) (p o : Object) (rest : Option Object) → is_some (cond b (Some p) rest) ≡ true
-    → is_some (cond b (Some o) rest) ≡ true
-first-as true p o rest e = refl
-first-as false p o rest e = e
+said-first : (b : Bool) (o : Object) (rest : Option Object)
+    → option_map located (cond b (Some o) rest) ≡ cond b (Some (located o)) (option_map located rest)
+said-first true o rest = refl
+said-first false o rest = refl
 
-replaced : (h : ℕ) (o p : Object) (ps : List Object) (b : Bool) → (handle o.extent == handle p.extent) ≡ b
-    → (is_some (find (has_key (ByHandle h)) ps) ≡ true → is_some (find (has_key (ByHandle h)) (replace_object o ps))
-    ≡ true) → is_some (find (has_key (ByHandle h)) (p ∷ ps)) ≡ true → is_some (find (has_key (ByHandle h))
-    (if b then o ∷ ps else p ∷ replace_object o ps)) ≡ true
-replaced h o p ps true e k f =
-    let same = eqb-true (handle o.extent) (handle p.extent) e in
-    subst (λ n. is_some (cond (h == n) (Some o) (find (has_key (ByHandle h)) ps)) ≡ true) (sym same)
-    (first-as (h == handle p.extent) p o _ f)
-replaced h o p ps false e k f = either (h == handle p.extent) p _ _ k f
+replaced : (h : ℕ) (o p r : Object) (rs : List Object) (b : Bool) → (handle o.extent == handle r.extent) ≡ b
+    → located o ≡ located p → cond b (Some r) (find (has_key (ByHandle (handle o.extent))) rs) ≡ Some p
+    → (find (has_key (ByHandle (handle o.extent))) rs ≡ Some p → said h (replace_object o rs) ≡ said h rs)
+    → said h (if b then o ∷ rs else r ∷ replace_object o rs) ≡ said h (r ∷ rs)
+replaced h o p r rs true e same f k =
+    let first : r ≡ p = same_Some r p f in let alike : located o ≡ located r = same ∙ sym (ap located first) in
+    said-first (h == handle o.extent) o (find (has_key (ByHandle h)) rs)
+    ∙ ap (λ (q : Located). cond (h == q.handle) (Some q) (said h rs)) alike
+    ∙ sym (said-first (h == handle r.extent) r (find (has_key (ByHandle h)) rs))
+replaced h o p r rs false e same f k =
+    said-first (h == handle r.extent) r (find (has_key (ByHandle h)) (replace_object o rs))
+    ∙ ap (cond (h == handle r.extent) (Some (located r))) (k f)
+    ∙ sym (said-first (h == handle r.extent) r (find (has_key (ByHandle h)) rs))
 
-replace-keeps : (h : ℕ) (o : Object) (ps : List Object) → is_some (find (has_key (ByHandle h)) ps) ≡ true
-    → is_some (find (has_key (ByHandle h)) (replace_object o ps)) ≡ true
-replace-keeps h o [] e = e
-replace-keeps h o (p ∷ ps) e = replaced h o p ps (handle o.extent == handle p.extent) refl (replace-keeps h o ps) e
+replace-says : (h : ℕ) (o p : Object) (rs : List Object) → located o ≡ located p
+    → find (has_key (ByHandle (handle o.extent))) rs ≡ Some p → said h (replace_object o rs) ≡ said h rs
+replace-says h o p [] same f = refl
+replace-says h o p (r ∷ rs) same f =
+    replaced h o p r rs (handle o.extent == handle r.extent) refl same f (replace-says h o p rs same)
 
 -- ---- plans
 
-asked-keeps : (d : Directory) (h : ℕ) (o : Option Extent) (after : Extent → Answer × Directory)
-    → is_object_at d h ≡ true → ((x : Extent) → is_object_at (after x).1 h ≡ true)
-    → is_object_at (elim o as (λ _. Answer × Directory) [ None ↦ (Refused NoSpace, d) | Some x ↦ after x ]).1 h ≡ true
-asked-keeps d h None after here k = here
-asked-keeps d h (Some x) after here k = k x
+asked-keeps : (d : Directory) (h : ℕ) (q : Located) (o : Option Extent) (after : Extent → Answer × Directory)
+    → located_at d (ByHandle h) ≡ Some q → ((x : Extent) → located_at (after x).1 (ByHandle h) ≡ Some q)
+    → located_at (elim o as (λ _. Answer × Directory) [ None ↦ (Refused NoSpace, d) | Some x ↦ after x ]).1 (ByHandle h)
+    ≡ Some q
+asked-keeps d h q None after here k = here
+asked-keeps d h q (Some x) after here k = k x
 
-module _ (d : Directory) (h : ℕ) (here : is_object_at d h ≡ true) where
-  -- a plan that leaves the directory, or one of its objects another value, keeps each object
+module _ {format : ℕ} (d : Directory) (is : IsDirectory format d) (h : ℕ) (q : Located)
+    (here : located_at d (ByHandle h) ≡ Some q) where
+  change-keeps : (o : Object) → IsAnother d o → said h (replace_object o d.objects) ≡ Some q
+  change-keeps o a = replace-says h o a.was d.objects a.same
+      (ap (λ (p : Located). object_at d (ByHandle p.handle)) a.same ∙ by-handle a.key is a.is) ∙ here
+
+  -- a plan that leaves the directory, or one of its objects another value, keeps what is said of each object
   perform-keeps : (changing : Bool) {other : Bool} → other ≡ false → (l : LiveSet) (p : Plan)
-      → Leaves d changing other p → is_object_at (perform d l p).1 h ≡ true
+      → Leaves d changing other p → located_at (perform d l p).1 (ByHandle h) ≡ Some q
   perform-keeps changing e l p by_refusal = here
   perform-keeps changing e l p by_same = here
-  perform-keeps changing e l p (by_change o k) = replace-keeps h o d.objects here
+  perform-keeps changing e l p (by_change o a k) = change-keeps o a
   perform-keeps changing e l p (by_other k) = absurd (false≢true (sym e))
-  perform-keeps changing e l p (by_request {need = need} {next = next} k) = asked-keeps d h (met l need)
+  perform-keeps changing e l p (by_request {need = need} {next = next} k) = asked-keeps d h q (met l need)
       (λ x. perform d (resized l x) (next x)) here (λ x. perform-keeps changing e (resized l x) (next x) (k x))
 
-  step-keeps : (mode : Mode) (c : Command) → is_elementwise c ≡ true → is_object_at (step mode d c).1 h ≡ true
+  step-keeps : (mode : Mode) (c : Command) → is_elementwise c ≡ true
+      → located_at (step mode d c).1 (ByHandle h) ≡ Some q
   unfolding step
   step-keeps mode c e = perform-keeps _ (ap not e) (live d) (plan mode d c) (plan-leaves mode d c)
 
   step_of_kind-keeps : (mode : Mode) (key : Key) (kind : Kind) (c : Command) → is_elementwise c ≡ true
-      → is_object_at (step_of_kind mode d key kind c).1 h ≡ true
+      → located_at (step_of_kind mode d key kind c).1 (ByHandle h) ≡ Some q
   unfolding step_of_kind
   step_of_kind-keeps mode key kind c e = perform-keeps _ (ap not e) (live d) _ (plan_of_kind-leaves mode d key kind c)
 
 -- ---- segments
 
--- what a segment has at a handle is what one of its directories has there
+-- an object has the handle
+is-some : (r : Option Object) (q : Located) → option_map located r ≡ Some q → is_some r ≡ true
+is-some None q e = absurd (cc)
+is-some (Some o) q e = refl
+
+own-handle : (d : Directory) (h : ℕ) → is_object_at d h ≡ true → Some h ≡ handle_at d (ByHandle h)
+own-handle d h e = ap (λ (b : Bool). then_some b h) (sym e) ∙ handle-if h d (object_at d (ByHandle h)) refl
+
+-- two directories of the same bytes say the same of it
+one-said : {b : List ℕ} {d e : Directory} (h : ℕ) (q : Located) → Denotes current b d → Denotes current b e
+    → located_at d (ByHandle h) ≡ Some q → located_at e (ByHandle h) ≡ Some q
+one-said {b} {d} {e} h q k l f =
+    let there : is_object_at d h ≡ true = is-some (object_at d (ByHandle h)) q f in
+    let o = here b d (ByHandle h) h k (own-handle d h there) in
+    let p = here b e (ByHandle h) h l (own-handle e h (object-passes h l ∙ sym (object-passes h k) ∙ there)) in
+    ap (option_map located) p.is ∙ ap Some (alike p.stands o.stands) ∙ sym (ap (option_map located) o.is) ∙ f
+
 moved-keeps : {A : Type 0} {old new : State} {answer : A} {next : Directory → A × Directory} → IsSegment old.cut.bytes
-    → Moves old new answer next → ((d : Directory) (h : ℕ) → is_object_at d h ≡ true → is_object_at (next d).1 h ≡ true)
-    → KeepsObjects old new
-moved-keeps g m keeps o is = record {
-  answers = λ e k. sym (object-passes o.handle k.denotes ∙ sym (object-passes o.handle (m.denotes g.0 g.1).denotes)
-      ∙ keeps g.0 o.handle (sym (is.answers g.0 g.1)));
+    → Moves old new answer next → ((d : Directory) → IsDirectory current d → (h : ℕ) (q : Located)
+    → located_at d (ByHandle h) ≡ Some q → located_at (next d).1 (ByHandle h) ≡ Some q) → KeepsObjects old new
+moved-keeps g m keeps q is = record {
+  answers = λ e k. sym (one-said q.handle q (m.denotes g.0 g.1).denotes k.denotes
+      (keeps g.0 g.1.denotes.directory q.handle q (sym (is.answers g.0 g.1))));
 }
 
 pub objects_stay : ObjectsStay
 objects_stay = record {
-  any = λ old new c answer g e m. moved-keeps g m (λ d h here. step-keeps d h here old.mode c e);
+  any = λ old new c answer g e m. moved-keeps g m (λ d is h q here. step-keeps d is h q here old.mode c e);
   of_kind = λ old new key kind c answer g e m. moved-keeps g m
-      (λ d h here. step_of_kind-keeps d h here old.mode key kind c e);
+      (λ d is h q here. step_of_kind-keeps d is h q here old.mode key kind c e);
 }
 
 -- the same of a call that answers less than the machine
 pub leads_on-stay : (old new : State) (key : Key) (kind : Kind) (c : Command) (why : Option Refusal)
     → IsSegment old.cut.bytes → is_elementwise c ≡ true → LeadsOnOfKind old new key kind c why → KeepsObjects old new
 leads_on-stay old new key kind c why g e m =
-    moved-keeps g m (λ d h here. step_of_kind-keeps d h here old.mode key kind c e)
+    moved-keeps g m (λ d is h q here. step_of_kind-keeps d is h q here old.mode key kind c e)

@@ -3,7 +3,7 @@ use Rattle.segment_manager.proofs.Common as common
 use common.{◌≡◌, Option, Result, length, IsTrue, nat_lt, handle, Scalar, Object, padded, eq-eqb, Answer, Refuse, effect}
 use common.{refl, subst, zero, Bool, true, false, Some, None, List, arith, read, State, Mode, Done, live, Reply, with}
 use common.{sym, ap, ◌∙◌, suc, ◌+◌, ◌*◌, ◌<◌, ◌≤◌, pos, Ok, Err, [], ◌∷◌, Has, Key, get, map}
-use common.{ℕ, list_all, ltb-true, bytes_of, has_room, handle_at, slice_set, ltb-false, IsSegment, answer_of, values_of}
+use common.{ℕ, list_all, ltb-true, bytes_of, has_room, option_map, Located, slice_set, ltb-false, IsSegment, answer_of, values_of}
 use common.{ℤ, live_of, Refusal, NotFound, is_value, size_of, spelling, spelled, count_of, StandsAt, BoolKind, and_then}
 use common.{get_or, Numbers, kind_of, Denotes, Answers, code_of, Literal, Element, Refused, perform, changed, Command}
 use common.{if◌then◌else◌, ScalarKind, OutOfRange, is_good_value, MatchOption, false≢true, IsReplyOfKind, step_of_kind}
@@ -11,10 +11,11 @@ use common.{slice_get, current, WrongKind, same_kind, Directory, is_object, obje
 use common.{mul-le-mul_left, slice_get-get_or, slice_get_within, slice_get_past, value_of_literal, set as set_element}
 use Rattle.segment_manager.proofs.Steps.{open-reading, step_of_kind-found, step_of_kind-not_found, step_of_kind-other}
 use Rattle.segment_manager.proofs.{Steps.with-found, Steps.IsOpenFor, Codes.numbers-only, Frame.object-roomy}
-use Rattle.segment_manager.proofs.{objects.Here.here, objects.Standings.standing-room, containers.ContentPlans.of_slice}
+use Rattle.segment_manager.proofs.{objects.Standings.standing-room, containers.ContentPlans.of_slice}
 use Rattle.segment_manager.proofs.{objects.Here.standing, objects.Rows.Has-element, blocks.Blocks.spelling-length}
 use Rattle.raw_region.proofs.Facts.{first, second}
-use Rattle.seg_vector.specs.declared.places.Place.{Place}
+use Rattle.best_fit.specs.declared.places.Place.{Place}
+use Rattle.segment_manager.specs.objects.Located.{element_in, located, located_at}
 use Rattle.segment_manager.specs.objects.Standing.{element_at, place_at, place_in}
 use Rattle.std.specs.Option.{ok_or}
 use Rattle.byteorder.specs.Endian.{little_number}
@@ -26,7 +27,7 @@ use Rattle.seg_types.specs.Commands as asked
 -- ---- an element
 
 -- where a place in an object is, and in the object of a key
-abbrev pub placed : ℕ → Result ℕ Refusal → Result Place Refusal
+abbrev placed : ℕ → Result ℕ Refusal → Result Place Refusal
 placed h q = elim q as (λ _. Result Place Refusal) [ Ok at ↦ Ok (record { handle = h; at = at }) | Err r ↦ Err r ]
 
 abbrev in_object : Object → Result ℕ Refusal → Result Place Refusal
@@ -173,16 +174,28 @@ module _ (b : List ℕ) (d : Directory) (key : Key) (k : ScalarKind) (i : ℕ) (
 
 -- ---- the search
 
--- the place in each object that stands at the handle is the place of the key, and why there is none in each is why the
--- key has none
-pub places : {s : State} (key : Key) {h : ℕ} (k : ScalarKind) (i : ℕ) {r : Result ℕ Refusal}
-    → Answers s (λ d. handle_at d key) (Some h) → ((o : Object) → StandsAt s.cut.bytes h o → r ≡ place_in o k i)
-    → Answers s (λ d. place_at d key k i) (placed h r)
-places {s} key {h} k i {r} a each = record {
-  answers = λ d l.
-      let o = here s.cut.bytes d key h l.denotes (a.answers d l) in
-      ap (λ (n : ℕ). placed n r) o.stands.at ∙ ap (in_object o.object) (each o.object o.stands)
-      ∙ sym (ap (in_any k i) o.is);
+abbrev element_of : ScalarKind → ℕ → Option Located → Result Place Refusal
+element_of k i r = elim r as (λ _. Result Place Refusal) [ None ↦ Err NotFound | Some o ↦ element_in o k i ]
+
+abbrev spot : ℕ → ℕ → Place
+spot h at = record { handle = h; at = at }
+
+same-spot : (h at : ℕ) (s t : Bool) → (if s then (if t then Ok (spot h at) else Err OutOfRange) else Err WrongKind)
+    ≡ placed h (if s then (if t then Ok at else Err OutOfRange) else Err WrongKind)
+same-spot h at true true = refl
+same-spot h at true false = refl
+same-spot h at false t = refl
+
+same-place : (k : ScalarKind) (i : ℕ) (r : Option Object) → element_of k i (option_map located r) ≡ in_any k i r
+same-place k i None = refl
+same-place k i (Some o) = same-spot (handle o.extent) (element_at k o.name i) (same_kind (Scalar k) (kind_of o.value))
+    (nat_lt i (count_of o.value))
+
+-- the place in the object that is found is the place of the key, and why there is none in it is why the key has none
+pub places : {s : State} (key : Key) (k : ScalarKind) (i : ℕ) {r : Option Located} {q : Result Place Refusal}
+    → Answers s (λ d. located_at d key) r → q ≡ element_of k i r → Answers s (λ d. place_at d key k i) q
+places key k i a e = record {
+  answers = λ d l. e ∙ ap (element_of k i) (a.answers d l) ∙ same-place k i (object_at d key);
 }
 
 -- ---- what the plans are

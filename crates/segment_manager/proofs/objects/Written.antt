@@ -15,7 +15,7 @@ use Rattle.segment_manager.proofs.objects.Rewritten.{value_start, with_value}
 use Rattle.segment_manager.proofs.{objects.Rows.Has-set, Frame.object-roomy, blocks.Blocks.spelling-length}
 use Rattle.segment_manager.proofs.{objects.ObjectLists.key-found, objects.Exchanged.denotes-rewritten}
 use Rattle.raw_region.proofs.Facts.{second, first}
-use Rattle.seg_vector.specs.declared.places.Place.{Place}
+use Rattle.best_fit.specs.declared.places.Place.{Place}
 use Rattle.segment_manager.specs.objects.Standing.{place_at}
 use Rattle.std.proofs.{Common.set, lemmas.List.length-set}
 use Rattle.seg_types.specs.Commands as asked

@@ -3,7 +3,7 @@ use Rattle.std.specs.Prelude.{ℕ, ◌+◌, Bool, true, false, Option, Some, Non
 use Rattle.std.specs.Prelude.{option_to_list, nat_lt, if◌then◌else◌}
 use Rattle.std.specs.List.{list_all}
 use Rattle.raw_region.specs.Format.{current}
-use Rattle.raw_region.specs.Memory.{Cut}
+use Rattle.raw_region.specs.Memory.{Cut, are_bytes}
 use Rattle.best_fit.specs.Exchange.{IsExchanged}
 use Rattle.best_fit.specs.Extents.{handle}
 use Rattle.best_fit.specs.Table.{Table}
@@ -13,7 +13,7 @@ use Rattle.seg_types.specs.declared.refusals.Refusal.{Refusal}
 use Rattle.seg_types.specs.declared.refusals.Refusal.TheVariants.{NotFound, WrongKind}
 use Rattle.seg_types.specs.Kinds.{is_value, same_kind, size_of}
 use Rattle.seg_types.specs.Names.{Key}
-use Rattle.seg_vector.specs.declared.places.Place.{Place}
+use Rattle.best_fit.specs.declared.places.Place.{Place}
 use Rattle.seg_vector.specs.Standing.{Stands, place_at}
 use Rattle.seg_vector.specs.Vector.{spelled}
 use Rattle.segment_manager.specs.Directory.{Value, Numbers, Elements, Bytes, Pairs, Texts, Object, Directory, kind_of}
@@ -34,9 +34,6 @@ contents_of (Elements k zs t) = Some (record { each = size_of k; len = length zs
 contents_of (Bytes bs t) = Some (record { each = 1; len = length bs; table = t; bytes = bs })
 contents_of (Pairs k v ps) = None
 contents_of (Texts ps t) = None
-
-abbrev pub are_bytes : List ℕ → Bool
-are_bytes = list_all (λ b. nat_lt b 256)
 
 -- each element is a value of its kind
 abbrev pub has_values : Value → Bool

@@ -15,7 +15,7 @@ use Rattle.seg_types.specs.declared.refusals.Refusal.TheVariants.{NoSpace}
 use Rattle.seg_types.specs.Kinds.{size_of}
 use Rattle.seg_types.specs.Names as names
 use Rattle.seg_types.specs.Commands.{Command, Construct, Content, FindOrConstruct, Numbers}
-use Rattle.seg_vector.specs.declared.places.Place.{Place}
+use Rattle.best_fit.specs.declared.places.Place.{Place}
 use Rattle.seg_vector.specs.Standing.{place_at}
 use Rattle.segment_manager.specs.declared.objects.beginning.NewEntry.{NewEntry}
 use Rattle.segment_manager.specs.declared.containers.fillings.Shape.{Shape}

@@ -12,12 +12,11 @@ use Rattle.seg_types.specs.declared.values.ScalarValue.{ScalarValue}
 use Rattle.seg_types.specs.Values.{kind_of_scalar, value_of_scalar}
 use Rattle.seg_types.specs.Kinds.{is_value, same_kind, scalar_code, size_of, spelling, value_of}
 use Rattle.seg_types.specs.Names.{Key}
-use Rattle.seg_map.specs.declared.places.Place.{Place}
+use Rattle.best_fit.specs.declared.places.Place.{Place}
 use Rattle.seg_map.specs.Changing as maps
 use Rattle.seg_map.specs.Numbers.{NumberPair}
 use Rattle.seg_map.specs.Places.{HoldsMap, final_pair, first_pair, item_of, last_pair}
 use Rattle.segment_manager.specs.Answers.{Answer, Absent, Element}
-use Rattle.segment_manager.specs.containers.Contents.{container_at}
 use Rattle.segment_manager.specs.Directory.{Value, Numbers, Elements, Bytes, Pairs, Texts, Directory, kind_of}
 use Rattle.segment_manager.specs.Directory.{object_at}
 use Rattle.segment_manager.specs.State.{answer_of}
@@ -46,11 +45,6 @@ HasPairs k v b p = (ps : List NumberPair) × IsPairs k v b p ps
 -- it has no pair now, and their blocks are given back
 pub record ReleasesPairs (k v : ScalarKind) (old new : Cut) (p : Place) : Type 0 where
   pub each : maps.Releases (numbers_of k) (numbers_of v) old new p.handle p.at
-
--- where the three words stand of the map of a key, a map of the kinds
-abbrev pub map_at : Directory → Key → ScalarKind → ScalarKind → Result Place Refusal
-map_at d key k v = elim (container_at d key (Map k v))
-    [ Ok p ↦ Ok (record { handle = p.handle; at = p.at }) | Err r ↦ Err r ]
 
 -- ---- what is read of them
 

@@ -8,7 +8,7 @@ use Rattle.seg_types.specs.Kinds.{size_of}
 use Rattle.seg_types.specs.Commands as asked
 use Rattle.seg_types.specs.Commands.{Command}
 use Rattle.seg_types.specs.Names.{Key}
-use Rattle.seg_vector.specs.declared.places.Place.{Place}
+use Rattle.best_fit.specs.declared.places.Place.{Place}
 use Rattle.seg_vector.specs.Elements.{Fits, Truncates}
 use Rattle.seg_vector.specs.Standing.{Grows, IsStanding}
 use Rattle.seg_vector.specs.TextsCalls.{ClearsTexts, ReservesNoTexts, ReservesTexts, ShrinksTexts}

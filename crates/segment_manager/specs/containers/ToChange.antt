@@ -4,7 +4,7 @@ use Rattle.seg_types.specs.declared.kinds.Kind.{Kind}
 use Rattle.seg_types.specs.declared.refusals.Refusal.{Refusal}
 use Rattle.seg_types.specs.Names.{Key}
 use Rattle.seg_types.specs.Commands.{Command, is_changing}
-use Rattle.seg_vector.specs.declared.places.Place.{Place}
+use Rattle.best_fit.specs.declared.places.Place.{Place}
 use Rattle.segment_manager.specs.Answers.{Refused}
 use Rattle.segment_manager.specs.containers.Contents.{container_at}
 use Rattle.segment_manager.specs.State.{Answers, IsStepOfKind, State}

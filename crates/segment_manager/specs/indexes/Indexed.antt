@@ -5,8 +5,8 @@ use Rattle.seg_types.specs.declared.kinds.Class.{Class}
 use Rattle.seg_types.specs.declared.kinds.Class.TheVariants.{Named, Unique}
 use Rattle.seg_index.specs.declared.index.Index.{Index}
 use Rattle.seg_index.specs.declared.index.Index.TheVariants as index
-use Rattle.seg_index.specs.declared.keys.Key.{Key as Entry}
-use Rattle.seg_index.specs.declared.keys.Key.TheVariants.{Name, Code}
+use Rattle.seg_index.specs.declared.keys.Entry.{Entry}
+use Rattle.seg_index.specs.declared.keys.Entry.TheVariants.{Name, Code}
 use Rattle.seg_types.specs.Kinds.{code_of}
 use Rattle.seg_types.specs.Commands.{Command, ReserveNamed, ReserveUnique}
 use Rattle.seg_types.specs.Names.{Key, ByName, ByKind}

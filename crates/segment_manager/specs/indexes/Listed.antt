@@ -5,7 +5,7 @@ use Rattle.best_fit.specs.Table.{Table}
 use Rattle.seg_types.specs.declared.kinds.Class.TheVariants.{Anonymous}
 use Rattle.seg_types.specs.Names as names
 use Rattle.seg_index.specs.declared.index.Index.{Index}
-use Rattle.seg_index.specs.declared.keys.Key.{Key}
+use Rattle.seg_index.specs.declared.keys.Entry.{Entry}
 use Rattle.seg_index.specs.declared.keys.Lookup.TheVariants.{Found}
 use Rattle.seg_index.specs.Held.{IsIndexOf, place_of}
 use Rattle.seg_index.specs.Lookups.{IsPlace}
@@ -15,7 +15,7 @@ use Rattle.segment_manager.specs.indexes.Indexed.{Seeks}
 use Rattle.segment_manager.specs.State.{StandsFor, State}
 
 -- the object of the handle has an entry, which is found by its own key
-pub record HasEntry (i : Index) (e : Key) (d : Directory) (h : ℕ) : Type 0 where
+pub record HasEntry (i : Index) (e : Entry) (d : Directory) (h : ℕ) : Type 0 where
   pub object : Object
   pub is : object_at d (names.ByHandle h) ≡ Some object
   pub key : names.Key
@@ -23,12 +23,12 @@ pub record HasEntry (i : Index) (e : Key) (d : Directory) (h : ℕ) : Type 0 whe
   pub found : object_at d key ≡ Some object
 
 -- it has one in each directory that the bytes stand for
-abbrev pub HasEntries : State → Index → Key → ℕ → Type 0
+abbrev pub HasEntries : State → Index → Entry → ℕ → Type 0
 HasEntries s i e h = (d : Directory) → StandsFor s.cut.bytes d → HasEntry i e d h
 
 -- it stands at this place of the index
 pub record IsEntryAt (s : State) (h : ℕ) (i : Index) (at : ℕ) : Type 0 where
-  pub entry : Key
+  pub entry : Entry
   pub leads : HasEntries s i entry h
   pub found : (t : Table) (handles : List ℕ) → IsIndexOf s.cut (place_of i) t handles
       → IsPlace (bytes_of s.cut.bytes) entry handles (Found at)

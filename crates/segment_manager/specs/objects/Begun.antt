@@ -18,7 +18,7 @@ use Rattle.seg_types.specs.declared.refusals.Refusal.TheVariants.{Exists, NoSpac
 use Rattle.seg_types.specs.Kinds.{is_value, size_of, spelling}
 use Rattle.seg_types.specs.Names as names
 use Rattle.seg_index.specs.declared.index.Index.{Index}
-use Rattle.seg_index.specs.declared.keys.Key.{Key}
+use Rattle.seg_index.specs.declared.keys.Entry.{Entry}
 use Rattle.seg_index.specs.declared.keys.Lookup.TheVariants.{Absent, Found}
 use Rattle.seg_index.specs.Growth.{AddKeeps, Adds, CanGrow, grown_live}
 use Rattle.seg_index.specs.{Held.IsIndexOf, Held.place_of, Lookups.IsPlace, Sorted.CanAdd}
@@ -34,11 +34,11 @@ use Rattle.segment_manager.specs.objects.Standing.{IsHeadAt, room_for}
 -- ---- begun
 
 -- a look-up finds no entry, which would stand here; or it finds one
-abbrev pub IsAbsentAt : Cut → Index → Key → ℕ → Type 0
+abbrev pub IsAbsentAt : Cut → Index → Entry → ℕ → Type 0
 IsAbsentAt c i e at =
     (t : Table) (hs : List ℕ) → IsIndexOf c (place_of i) t hs → IsPlace (bytes_of c.bytes) e hs (Absent at)
 
-abbrev pub IsFoundAt : Cut → Index → Key → ℕ → Type 0
+abbrev pub IsFoundAt : Cut → Index → Entry → ℕ → Type 0
 IsFoundAt c i e at =
     (t : Table) (hs : List ℕ) → IsIndexOf c (place_of i) t hs → IsPlace (bytes_of c.bytes) e hs (Found at)
 
@@ -51,7 +51,7 @@ pub record IsHeaded (taken new : Cut) (kind : Kind) (class : Class) (name : List
 -- under a key that gets an entry, with so many bytes for the value
 pub record IsBegunEntry (old new : Cut) (key : names.Key) (kind : Kind) (count body h at : ℕ)
     (e : NewEntry) : Type 0 where
-  pub entry : Key
+  pub entry : Entry
   pub name : List ℕ
   pub is : IsNewKeyOf e.index entry key name kind
   pub absent : IsAbsentAt old e.index entry e.place
@@ -73,7 +73,7 @@ IsBegun old new key kind count body h at (Some e) = IsBegunEntry old new key kin
 -- an object has the key
 pub record IsTakenKey (old new : Cut) (key : names.Key) (kind : Kind) : Type 0 where
   pub index : Index
-  pub entry : Key
+  pub entry : Entry
   pub name : List ℕ
   pub is : IsNewKeyOf index entry key name kind
   pub place : ℕ
@@ -83,7 +83,7 @@ pub record IsTakenKey (old new : Cut) (key : names.Key) (kind : Kind) : Type 0 w
 -- one of the two blocks is refused
 pub record IsUnmetEntry (old new : Cut) (key : names.Key) (kind : Kind) (body : ℕ) : Type 0 where
   pub index : Index
-  pub entry : Key
+  pub entry : Entry
   pub name : List ℕ
   pub is : IsNewKeyOf index entry key name kind
   pub place : ℕ
@@ -102,7 +102,7 @@ Begins old new key kind count body result =
     (IsNotBegun old new key kind body)
 
 -- the same where no object has the key, which would get its entry here
-abbrev pub BeginsEntry : Cut → Cut → Index → ℕ → Key → names.Key → List ℕ → Kind → ℕ → ℕ → Result Begun Refusal → Type 0
+abbrev pub BeginsEntry : Cut → Cut → Index → ℕ → Entry → names.Key → List ℕ → Kind → ℕ → ℕ → Result Begun Refusal → Type 0
 BeginsEntry old new i place e key name kind count body result =
     IsNewKeyOf i e key name kind → IsAbsentAt old i e place → Begins old new key kind count body result
 

@@ -1,24 +1,50 @@
 -- An object as it was located: what calls take that look nothing up again.
-use Rattle.std.specs.Prelude.{true, Option, Some, option_map}
+use Rattle.std.specs.Prelude.{ℕ, ◌+◌, Option, Some, None, Result, Ok, Err, length, nat_lt, option_map, if◌then◌else◌}
 use Rattle.best_fit.specs.Extents.{handle}
-use Rattle.seg_types.specs.Names.{Key}
+use Rattle.seg_types.specs.declared.kinds.Kind.{Kind}
+use Rattle.seg_types.specs.declared.kinds.Kind.TheVariants.{Scalar}
+use Rattle.seg_types.specs.declared.kinds.ScalarKind.{ScalarKind}
+use Rattle.seg_types.specs.declared.refusals.Refusal.{Refusal}
+use Rattle.seg_types.specs.declared.refusals.Refusal.TheVariants.{OutOfRange, WrongKind}
+use Rattle.seg_types.specs.{Kinds.same_kind, Kinds.size_of, Names.ByHandle, Names.Key}
+use Rattle.best_fit.specs.declared.places.Place.{Place}
 use Rattle.segment_manager.specs.declared.objects.targets.Object.{Object as Located}
-use Rattle.segment_manager.specs.Directory.{Object, Directory, count_of, kind_of, object_at}
-use Rattle.segment_manager.specs.objects.Found.{is_object_at}
-use Rattle.segment_manager.specs.State.{Answers, State}
+use Rattle.segment_manager.specs.Directory.{Object, Directory, count_of, kind_of, object_at, padded}
+use Rattle.segment_manager.specs.{Layout.head_len, State.Answers, State.State}
 
 -- what is said of an object when it is located
 abbrev pub located : Object → Located
-located o = record { handle = handle o.extent; kind = kind_of o.value; count = count_of o.value }
+located o = record {
+  handle = handle o.extent;
+  kind = kind_of o.value;
+  name_len = length o.name;
+  count = count_of o.value;
+}
 
 abbrev pub located_at : Directory → Key → Option Located
 located_at d key = option_map located (object_at d key)
 
--- an object of the segment has the handle
+-- an object of the segment has the handle, and this is said of it
 abbrev pub IsObject : Located → State → Type 0
-IsObject o s = Answers s (λ d. is_object_at d o.handle) true
+IsObject o s = Answers s (λ d. located_at d (ByHandle o.handle)) (Some o)
 
 -- it is the object of the key, and nothing else is said of it than what is so
 pub record IsLocated (s : State) (key : Key) (o : Located) : Type 0 where
   pub at : Answers s (λ d. located_at d key) (Some o)
   pub here : IsObject o s
+
+-- where its value begins
+abbrev pub value_in : Located → ℕ
+value_in o = head_len + padded o.name_len
+
+-- where its container stands, if it is of the kind
+abbrev pub container_in : Located → Kind → Result Place Refusal
+container_in o kind =
+    if same_kind kind o.kind then Ok (record { handle = o.handle; at = value_in o }) else Err WrongKind
+
+-- where its element of an index stands, if it has scalars of the kind
+abbrev pub element_in : Located → ScalarKind → ℕ → Result Place Refusal
+element_in o k i =
+    if same_kind (Scalar k) o.kind then
+    (if nat_lt i o.count then Ok (record { handle = o.handle; at = value_in o + size_of k * i }) else Err OutOfRange)
+    else Err WrongKind

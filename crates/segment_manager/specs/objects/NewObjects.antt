@@ -13,8 +13,8 @@ use Rattle.seg_types.specs.Names as names
 use Rattle.seg_types.specs.Names.{is_name}
 use Rattle.seg_index.specs.declared.index.Index.{Index}
 use Rattle.seg_index.specs.declared.index.Index.TheVariants.{Named, Unique}
-use Rattle.seg_index.specs.declared.keys.Key.{Key}
-use Rattle.seg_index.specs.declared.keys.Key.TheVariants.{Name, Code}
+use Rattle.seg_index.specs.declared.keys.Entry.{Entry}
+use Rattle.seg_index.specs.declared.keys.Entry.TheVariants.{Name, Code}
 use Rattle.seg_index.specs.Growth.{IsGrowth, grown_bytes}
 use Rattle.seg_index.specs.Held.{capacity_at, entry_count}
 use Rattle.segment_manager.specs.declared.blocks.requesting.Requested.{Requested}
@@ -50,7 +50,7 @@ Requests old new at n result =
 -- ---- keys of new objects
 
 -- under which key an object of a kind gets its entry: by its name, or as the only one of its kind
-abbrev pub IsNewKeyOf : Index → Key → names.Key → List ℕ → Kind → Type 0
+abbrev pub IsNewKeyOf : Index → Entry → names.Key → List ℕ → Kind → Type 0
 IsNewKeyOf Named (Name s) (names.ByName n) name kind = (s.now ≡ n) × (name ≡ n) × IsTrue (is_name current n)
 IsNewKeyOf Unique (Code c) (names.ByKind u) name kind = (c ≡ code_of u) × (name ≡ []) × (u ≡ kind)
 IsNewKeyOf i e key name kind = ⊥

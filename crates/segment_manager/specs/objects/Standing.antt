@@ -14,7 +14,7 @@ use Rattle.seg_types.specs.declared.refusals.Refusal.TheVariants.{NotFound, Wron
 use Rattle.seg_types.specs.Kinds.{class_code, code_of, same_kind, size_of}
 use Rattle.seg_types.specs.Names.{Key}
 use Rattle.segment_manager.specs.declared.objects.head.Head.{Head}
-use Rattle.seg_vector.specs.declared.places.Place.{Place}
+use Rattle.best_fit.specs.declared.places.Place.{Place}
 use Rattle.segment_manager.specs.Layout.{name_class_at, head_len}
 use Rattle.segment_manager.specs.Directory.{Object, Directory, object_at, count_of, is_object, kind_of, object_len}
 use Rattle.segment_manager.specs.Directory.{padded}

@@ -5,12 +5,11 @@ ghost use Rattle.raw_region.specs.{Format.current, Memory.bytes_of, Memory.word_
 ghost use Rattle.offset_link.specs.Link.{link_at};
 ghost use Rattle.best_fit.specs.Heap.{IsHeap, has_room, live_of};
 ghost use Rattle.segment_manager.specs.containers.ElementRuns.{IsRunOf, run_at, run_of};
-ghost use Rattle.segment_manager.specs.{Directory.Object, State.Answers};
-ghost use Rattle.segment_manager.specs.objects.Standing.{HasObject, StandsAt};
+ghost use Rattle.segment_manager.specs.{Directory.Object as DirectoryObject, State.Answers};
+ghost use Rattle.segment_manager.specs.{objects.Located.located, objects.Standing.HasObject};
+ghost use Rattle.segment_manager.specs.{objects.Standing.StandsAt};
 
-use crate::layout::value_at;
-use crate::objects::head::read_head;
-use crate::objects::targets::Target;
+use crate::objects::targets::{Object, Target};
 use crate::segment::Segment;
 use best_fit::Heap;
 use seg_types::{Kind, Refusal, ScalarKind};
@@ -40,25 +39,26 @@ impl Segment {
         ensures run { Answers self.now (λ d. run_at d (O.key key.now)) result }
         ensures bytes { IfOk result (λ run. IsRunOf self.now (O.key key.now) run) }
     {
-        match key.handle_in(self) {
+        match key.find(self) {
             None => Err(Refusal::NotFound),
-            Some(handle) => read_run(&self.heap, handle),
+            Some(object) => read_run(&self.heap, object),
         }
     }
 }
 
-/// Where the elements of the object at a handle stand.
-fn read_run(heap: &Heap, handle: u64) -> Result<ElementRun, Refusal>
+/// Where the elements of an object stand.
+fn read_run(heap: &Heap, object: Object) -> Result<ElementRun, Refusal>
     requires heap { IsHeap current heap.now.bytes }
-    requires object { HasObject heap.now.bytes handle }
-    ensures { (o : Object) → StandsAt heap.now.bytes handle o → result ≡ run_of o }
+    requires object { HasObject heap.now.bytes object.handle }
+    requires said { (o : DirectoryObject) → StandsAt heap.now.bytes object.handle o → object ≡ located o }
+    ensures { (o : DirectoryObject) → StandsAt heap.now.bytes object.handle o → result ≡ run_of o }
 {
-    let head = read_head(heap, handle);
-    let at = value_at(u64::from(head.name_len));
-    match head.kind {
+    let handle = object.handle;
+    let at = object.value_at();
+    match object.kind {
         Kind::Scalar(kind) => Ok(ElementRun {
             offset: handle + at,
-            count: u64::from(head.count),
+            count: u64::from(object.count),
             kind,
         }),
         Kind::Vector(kind) => Ok(storage_run(heap, handle, at, kind)),

@@ -6,22 +6,20 @@ ghost use Rattle.seg_types.specs.Commands.{Bytes, Content, Elements, NoPairs, Nu
 ghost use Rattle.segment_manager.specs.{Directory.value_len, Plan.bare};
 ghost use Rattle.segment_manager.specs.containers.Filled.{IsShapeOf, MakesValue, container_shape, numbers_shape};
 
-use crate::containers::maps::map_place;
-use crate::containers::text_lists::{judge, judge_all};
+use crate::containers::text_lists::judge_all;
+use crate::layout::CONTAINER_LEN;
 use crate::objects::element::write_elements;
 use best_fit::Heap;
+use raw_region::hold_bytes;
 use seg_map::SegMap;
-use seg_types::{Kind, Refusal, Scalar, ScalarKind};
+use seg_types::{Kind, MAX_ARRAY_LEN, Refusal, Scalar, ScalarKind};
 use seg_vector::{Place, SegString, SegTexts, SegVec};
 
 /// The longest spelling of a scalar, in bytes.
 pub(crate) const LONGEST: usize = 8;
 
 /// The most elements of an object of scalars.
-pub(crate) const MOST: u32 = 1_048_576;
-
-/// The bytes of a container in its object: a link to its storage, its length and its capacity.
-const CONTAINER_LEN: u64 = 24;
+pub(crate) const MOST: u32 = MAX_ARRAY_LEN as u32;
 
 /// What is known of an object before a block is asked for: its kind, how many elements it has, and the bytes of its
 /// value in its own block.
@@ -126,7 +124,7 @@ impl Filling for NewString<'_> {
 
     #[inline(always)]
     fn fill(&self, heap: &mut Heap, place: Place) -> Result<(), Refusal> {
-        judge(self.bytes);
+        hold_bytes(self.bytes);
         SegString::new(heap, place).assign(heap, self.bytes)
     }
 }
@@ -174,7 +172,7 @@ impl Filling for NewMap {
     // Without a pair it is a map of any types.
     #[inline(always)]
     fn fill(&self, heap: &mut Heap, place: Place) -> Result<(), Refusal> {
-        SegMap::<u8, u8>::new(heap, map_place(place));
+        SegMap::<u8, u8>::new(heap, place);
         Ok(())
     }
 }

@@ -2,20 +2,20 @@
 ghost use Rattle.std.specs.Prelude.{◌≡◌, OnErr};
 ghost use Rattle.seg_types.specs.Commands.{Lookup, Put, Remove, literal_of};
 ghost use Rattle.seg_types.specs.declared.kinds.Kind.TheVariants.{Map as MapOf};
-ghost use Rattle.segment_manager.specs.containers.Maps.{map_at, pair_above, pair_at_end, pair_below, pair_from};
+ghost use Rattle.segment_manager.specs.containers.Contents.{container_at};
+ghost use Rattle.segment_manager.specs.containers.Maps.{pair_above, pair_at_end, pair_below, pair_from};
 ghost use Rattle.segment_manager.specs.containers.Maps.{pair_result};
 ghost use Rattle.segment_manager.specs.State.{Answers, IsReplyOfKind, IsStepOfKind, truth_answer};
 ghost use Rattle.segment_manager.specs.{containers.Maps.pair_up_to, containers.Maps.told_of_map};
 ghost use Rattle.segment_manager.specs.{containers.Maps.value_answer, containers.Walks.pair_past};
 ghost use Rattle.segment_manager.specs.Keeping.{ChangesValue, KeepsWhere, LacksPair};
 
-use crate::containers::vectors::judge;
 use crate::objects::targets::Target;
 use crate::segment::Segment;
 use raw_region::Steps;
-use seg_map::{Place as MapPlace, SegMap};
+use seg_map::{Place, SegMap};
+use seg_types::theorems::holds_value;
 use seg_types::{Kind, Refusal, Scalar};
-use seg_vector::Place;
 
 impl Segment {
     /// The value of a key of the map of a key, a map of the types.
@@ -34,7 +34,7 @@ impl Segment {
         ensures { IsReplyOfKind self.now (O.key key.now) (MapOf K.kind V.kind)
             (Lookup (O.key key.now) (literal_of K.kind (K.whole at))) (value_answer V.kind V.whole result) }
     {
-        judge(at);
+        holds_value(at);
         let place = self.find_map::<K, V, O>(key)?;
         Ok(SegMap::<K, V>::at(place).get(&self.heap, at, &mut Steps::new()))
     }
@@ -185,8 +185,8 @@ impl Segment {
         if self.is_read_only() {
             return Err(Refusal::ReadOnly);
         }
-        judge(at);
-        judge(value);
+        holds_value(at);
+        holds_value(value);
         let place = self.find_map::<K, V, O>(key)?;
         match SegMap::<K, V>::at(place).put(&mut self.heap, at, value, &mut Steps::new()) {
             Err(_) => Err(Refusal::NoSpace),
@@ -217,26 +217,16 @@ impl Segment {
         if self.is_read_only() {
             return Err(Refusal::ReadOnly);
         }
-        judge(at);
+        holds_value(at);
         let place = self.find_map::<K, V, O>(key)?;
         Ok(SegMap::<K, V>::at(place).erase(&mut self.heap, at, &mut Steps::new()))
     }
 
     /// Where the map of a key stands, a map of the types.
-    fn find_map<K: Scalar, V: Scalar, O: Target>(&self, key: &O) -> Result<MapPlace, Refusal>
+    fn find_map<K: Scalar, V: Scalar, O: Target>(&self, key: &O) -> Result<Place, Refusal>
         requires { O.stands key.now self.now }
-        ensures { Answers self.now (λ d. map_at d (O.key key.now) K.kind V.kind) result }
+        ensures { Answers self.now (λ d. container_at d (O.key key.now) (MapOf K.kind V.kind)) result }
     {
-        let place = self.find_container(key, Kind::Map(K::kind(), V::kind()))?;
-        Ok(map_place(place))
+        self.find_container(key, Kind::Map(K::kind(), V::kind()))
     }
-}
-
-/// Where a container stands, as the place of a map.
-pub(crate) fn map_place(place: Place) -> MapPlace
-    ensures handle { result.handle ≡ place.handle }
-    ensures at { result.at ≡ place.at }
-{
-    let Place { handle, at } = place;
-    MapPlace { handle, at }
 }

@@ -2,12 +2,11 @@
 ghost use Rattle.segment_manager.specs.{objects.Destroyed.Empties, objects.Destroyed.HoldsObject};
 ghost use Rattle.segment_manager.specs.{containers.Maps.HasPairs, containers.Maps.ReleasesPairs};
 
-use crate::containers::maps::map_place;
 use crate::containers::storages::element_len;
 use crate::layout::value_at;
 use crate::objects::head::read_head;
 use best_fit::Heap;
-use seg_map::{Place as MapPlace, SegMap};
+use seg_map::SegMap;
 use seg_types::{Kind, Scalar, ScalarKind, by_kind};
 use seg_vector::{Place, SegTexts, give_back};
 
@@ -24,14 +23,14 @@ pub(crate) fn release_contents(heap: &mut Heap, handle: u64)
     };
     match head.kind {
         Kind::Scalar(_) => {}
-        Kind::Map(keys, values) => release_pairs(heap, map_place(place), keys, values),
+        Kind::Map(keys, values) => release_pairs(heap, place, keys, values),
         Kind::Strings => SegTexts { place }.release(heap),
         kind => give_back(heap, place, element_len(kind)),
     }
 }
 
 /// Gives back the blocks of the pairs of a map of two kinds.
-fn release_pairs(heap: &mut Heap, place: MapPlace, keys: ScalarKind, values: ScalarKind)
+fn release_pairs(heap: &mut Heap, place: Place, keys: ScalarKind, values: ScalarKind)
     requires { HasPairs keys values heap.old.bytes place }
     ensures { ReleasesPairs keys values heap.old heap.new place }
 {
@@ -44,7 +43,7 @@ fn release_pairs(heap: &mut Heap, place: MapPlace, keys: ScalarKind, values: Sca
 }
 
 /// The same of a map whose keys are of a type.
-fn release_pairs_of<K: Scalar>(heap: &mut Heap, place: MapPlace, values: ScalarKind)
+fn release_pairs_of<K: Scalar>(heap: &mut Heap, place: Place, values: ScalarKind)
     requires { HasPairs K.kind values heap.old.bytes place }
     ensures { ReleasesPairs K.kind values heap.old heap.new place }
 {
@@ -57,7 +56,7 @@ fn release_pairs_of<K: Scalar>(heap: &mut Heap, place: MapPlace, values: ScalarK
 }
 
 /// The same of a map of two types.
-fn release_map<K: Scalar, V: Scalar>(heap: &mut Heap, place: MapPlace)
+fn release_map<K: Scalar, V: Scalar>(heap: &mut Heap, place: Place)
     requires { HasPairs K.kind V.kind heap.old.bytes place }
     ensures { ReleasesPairs K.kind V.kind heap.old heap.new place }
 {

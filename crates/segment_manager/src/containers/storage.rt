@@ -61,6 +61,7 @@ impl Segment {
     ///
     /// `ReadOnly` where the segment is open for reading, and else `NotFound` where no object has the key, `WrongKind`
     /// where it has no storage, `NoSpace` where its storage cannot be regrown. Nothing changes.
+    #[inline(never)]
     pub fn reserve<O: Target>(&mut self, key: &O, n: u64) -> Result<(), Refusal>
         requires { O.stands key.now self.old }
         ensures step { IsStep self.old self.new (Reserve (O.key key.now) n) (done_answer result) }
@@ -78,6 +79,7 @@ impl Segment {
     ///
     /// `ReadOnly` where the segment is open for reading, and else `NotFound` where no object has the key, `WrongKind`
     /// where it has no storage. Nothing changes.
+    #[inline(never)]
     pub fn shrink<O: Target>(&mut self, key: &O) -> Result<(), Refusal>
         requires { O.stands key.now self.old }
         ensures step { IsStep self.old self.new (Shrink (O.key key.now)) (done_answer result) }
@@ -94,6 +96,7 @@ impl Segment {
     ///
     /// `ReadOnly` where the segment is open for reading, and else `NotFound` where no object has the key, `WrongKind`
     /// where it has no storage. Nothing changes.
+    #[inline(never)]
     pub fn clear<O: Target>(&mut self, key: &O) -> Result<(), Refusal>
         requires { O.stands key.now self.old }
         ensures step { IsStep self.old self.new (Clear (O.key key.now)) (done_answer result) }

@@ -2,7 +2,8 @@
 ghost use Rattle.std.specs.{Prelude.◌≡◌, Prelude.IsTrue, Prelude.OnErr, Prelude.length, Prelude.map, List.list_all};
 ghost use Rattle.seg_types.specs.declared.kinds.Kind.TheVariants.{Strings as StringsKind};
 ghost use Rattle.seg_types.specs.Commands.{Assign, Erase, Get, Insert, Pop, Push, Quoted, Set};
-ghost use Rattle.segment_manager.specs.{Answers.TextElement, containers.Contents.are_bytes};
+ghost use Rattle.raw_region.specs.Memory.{are_bytes};
+ghost use Rattle.segment_manager.specs.Answers.{TextElement};
 ghost use Rattle.segment_manager.specs.{containers.TextLists.LeadsOnOfKind};
 ghost use Rattle.segment_manager.specs.Keeping.{KeepsWhere, LacksArray, LacksFirst};
 ghost use Rattle.segment_manager.specs.State.{IsReplyOfKind, IsStepOfKind, KeepsRefused, answer_of, done_answer};
@@ -10,6 +11,7 @@ ghost use Rattle.segment_manager.specs.State.{refusal_in};
 
 use crate::objects::targets::Target;
 use crate::segment::Segment;
+use raw_region::hold_bytes;
 use seg_types::{Kind, Refusal};
 use seg_vector::SegTexts;
 
@@ -159,17 +161,11 @@ impl Segment {
     }
 }
 
-/// Says that a text is of bytes. Its type knows it, and says it of one slice at a time.
-#[inline(always)]
-pub(crate) fn judge(text: &[u8])
-    ensures { IsTrue (are_bytes text.now) }
-{}
-
-/// The same of each of some.
+/// Says that texts are of bytes. Their type knows it, and says it of one slice at a time.
 pub(crate) fn judge_all(texts: &[&[u8]])
     ensures { IsTrue (list_all are_bytes (map (λ text. text.now) texts.now)) }
 {
     for text in texts {
-        judge(text);
+        hold_bytes(text);
     }
 }

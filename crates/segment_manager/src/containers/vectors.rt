@@ -8,6 +8,7 @@ ghost use Rattle.segment_manager.specs.State.{IsReplyOfKind, IsStepOfKind, answe
 
 use crate::objects::targets::Target;
 use crate::segment::Segment;
+use seg_types::theorems::holds_value;
 use seg_types::{Kind, Refusal, Scalar};
 use seg_vector::SegVec;
 
@@ -49,7 +50,7 @@ impl Segment {
         ensures refused { OnErr result (self.new ≡ self.old) }
         ensures gaps { KeepsGaps self.old.cut self.new.cut }
     {
-        judge(value);
+        holds_value(value);
         let place = self.find_to_change(key, Kind::Vector(T::kind()))?;
         SegVec::<T>::at(place).set(&mut self.heap, index, value)
     }
@@ -70,7 +71,7 @@ impl Segment {
         ensures refused { OnErr result (self.new ≡ self.old) }
         ensures gaps { KeepsUnused self.old self.new }
     {
-        judge(value);
+        holds_value(value);
         let place = self.find_to_change(key, Kind::Vector(T::kind()))?;
         SegVec::<T>::at(place).push(&mut self.heap, value)
     }
@@ -137,7 +138,7 @@ impl Segment {
         ensures refused { OnErr result (self.new ≡ self.old) }
         ensures gaps { KeepsUnused self.old self.new }
     {
-        judge(value);
+        holds_value(value);
         let place = self.find_to_change(key, Kind::Vector(T::kind()))?;
         SegVec::<T>::at(place).insert(&mut self.heap, index, value)
     }
@@ -163,18 +164,11 @@ impl Segment {
     }
 }
 
-/// Says that a value is one, which no call on a vector says where it is refused. An order knows it of what it compares.
-pub(crate) fn judge<T: Scalar>(value: T)
-    ensures { T.is_value value ≡ true }
-{
-    let _ = value.precedes(value);
-}
-
-/// The same of each of some.
+/// Says that each of some values is one.
 fn judge_all<T: Scalar>(values: &[T])
     ensures { IsTrue (list_all T.is_value values.now) }
 {
     for value in values {
-        judge(*value);
+        holds_value(*value);
     }
 }

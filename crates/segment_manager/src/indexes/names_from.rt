@@ -6,7 +6,7 @@ ghost use Rattle.segment_manager.specs.indexes.NamesFrom.{IsFirstFrom};
 use crate::indexes::iterating::{Instances, Names};
 use crate::segment::Segment;
 use raw_region::Steps;
-use seg_index::{Index, Key as Entry, Lookup};
+use seg_index::{Entry, Index, Lookup};
 
 impl Segment {
     /// How many names stand before the text, which may be any bytes: the place of the first that does not. It is one

@@ -8,7 +8,7 @@ ghost use Rattle.segment_manager.specs.{State.Answers};
 ghost use Rattle.segment_manager.specs.State.{IsReplyOfKind, IsStepOfKind, answer_of, done_answer, scalar_answer};
 
 use crate::containers::fillings::LONGEST;
-use crate::objects::element::{element, place_of};
+use crate::objects::element::element;
 use crate::objects::targets::Target;
 use crate::segment::Segment;
 use seg_types::theorems::scalar_is_number;
@@ -113,10 +113,9 @@ impl Segment {
         requires { O.stands key.now self.now }
         ensures { Answers self.now (λ d. place_at d (O.key key.now) kind index) result }
     {
-        let Some(handle) = key.handle_in(self) else {
-            return Err(Refusal::NotFound);
-        };
-        let at = place_of(&self.heap, handle, kind, index)?;
-        Ok(Place { handle, at })
+        match key.find(self) {
+            None => Err(Refusal::NotFound),
+            Some(object) => object.element(kind, index),
+        }
     }
 }

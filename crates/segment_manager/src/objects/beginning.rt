@@ -3,7 +3,7 @@
 ghost use Rattle.std.specs.Prelude.{◌≡◌, ◌^◌, ◌<◌, ◌≤◌, length};
 ghost use Rattle.raw_region.specs.Memory.{Cut};
 ghost use Rattle.seg_types.specs.{Keys.new_key_seen, Names.Key as AnyKey, Names.NoKey};
-ghost use Rattle.seg_index.specs.{declared.keys.Key.Key as AnyEntry, Held.HasIndex, Held.place_of};
+ghost use Rattle.seg_index.specs.{declared.keys.Entry.Entry as AnyEntry, Held.HasIndex, Held.place_of};
 ghost use Rattle.segment_manager.specs.objects.Begun.{Begins, BeginsEntry, Ends, GivesAllBack, IsEnding, IsLoose};
 ghost use Rattle.segment_manager.specs.{indexes.Indexed.class_of_index, objects.NewObjects.IsNewKeyOf};
 ghost use Rattle.segment_manager.specs.{objects.NewObjects.IsOfKind};
@@ -16,7 +16,7 @@ use crate::objects::head::write_head;
 use best_fit::Heap;
 use block_tags::Role;
 use raw_region::Steps;
-use seg_index::{Growth, Index, Key as Entry, Lookup};
+use seg_index::{Entry, Growth, Index, Lookup};
 use seg_types::{Class, Handle, NewKey, Refusal};
 
 /// An entry that is to be made: in which index, where, and what the index grows into.

@@ -14,7 +14,7 @@ use crate::objects::head::{read_head, read_name};
 use crate::segment::Segment;
 use best_fit::Heap;
 use raw_region::Steps;
-use seg_index::{Index, Key as Entry, Lookup};
+use seg_index::{Entry, Index, Lookup};
 use seg_types::{Class, Handle, IndexKey, Refusal};
 
 /// Where the entry of an object stands.

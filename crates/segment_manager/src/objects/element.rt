@@ -3,13 +3,9 @@
 ghost use Rattle.std.specs.Prelude.{◌≡◌, ◌+◌, ◌*◌, IsTrue, length};
 ghost use Rattle.raw_region.specs.{Format.current, Memory.Has, Memory.bytes_of, Memory.read};
 ghost use Rattle.best_fit.specs.Heap.{IsChanged, IsHeap, has_room, live_of};
-ghost use Rattle.segment_manager.specs.Directory.{Object};
-ghost use Rattle.segment_manager.specs.objects.Standing.{HasObject, StandsAt, place_in, repeated};
+ghost use Rattle.segment_manager.specs.objects.Standing.{repeated};
 
-use crate::layout::value_at;
-use crate::objects::head::read_head;
 use best_fit::Heap;
-use seg_types::{Kind, Refusal, ScalarKind};
 
 /// Writes the same bytes `count` times, from `at` on in the block of a handle.
 pub(crate) fn write_elements(heap: &mut Heap, handle: u64, at: u64, count: u32, bytes: &[u8])
@@ -33,25 +29,4 @@ pub(crate) fn element(heap: &Heap, handle: u64, at: u64, size: u64) -> &[u8]
 {
     let payload = heap.block(handle);
     &payload[at as usize..(at + size) as usize]
-}
-
-/// Where the element of an index stands in the block of an object of scalars, from the handle on: `WrongKind` where it
-/// is of another kind, `OutOfRange` where it has no such element.
-pub(crate) fn place_of(
-    heap: &Heap,
-    handle: u64,
-    kind: ScalarKind,
-    index: u64,
-) -> Result<u64, Refusal>
-    requires { HasObject heap.now.bytes handle }
-    ensures { (o : Object) → StandsAt heap.now.bytes handle o → result ≡ place_in o kind index }
-{
-    let head = read_head(heap, handle);
-    if head.kind != Kind::Scalar(kind) {
-        return Err(Refusal::WrongKind);
-    }
-    if index >= u64::from(head.count) {
-        return Err(Refusal::OutOfRange);
-    }
-    Ok(value_at(u64::from(head.name_len)) + kind.size() * index)
 }

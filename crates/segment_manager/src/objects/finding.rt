@@ -13,7 +13,7 @@ ghost use Rattle.segment_manager.specs.objects.Found.{IsBelow, found_answer, han
 use crate::objects::finding_or_constructing::found_of;
 use crate::segment::Segment;
 use raw_region::Steps;
-use seg_index::{Index, Key as Entry, Lookup};
+use seg_index::{Entry, Index, Lookup};
 use seg_types::{Handle, IndexKey, Key, Kind, Refusal, Scalar};
 
 impl Segment {

@@ -18,7 +18,7 @@ use crate::objects::head::read_head;
 use crate::segment::Segment;
 use best_fit::Heap;
 use raw_region::Steps;
-use seg_index::{Index, Key as Entry, Lookup};
+use seg_index::{Entry, Index, Lookup};
 use seg_types::{Handle, Kind, Refusal, Scalar, ScalarValue, by_value};
 
 impl Segment {

@@ -15,7 +15,7 @@ use crate::objects::finding_or_constructing::{counted, found_of};
 use crate::segment::Segment;
 use best_fit::Heap;
 use raw_region::Steps;
-use seg_index::{Index, Key as Entry, Lookup};
+use seg_index::{Entry, Index, Lookup};
 use seg_types::{Handle, Kind, Refusal, Scalar};
 
 impl Segment {

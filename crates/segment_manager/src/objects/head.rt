@@ -18,7 +18,7 @@ pub(crate) struct Head {
     /// How many elements an object of scalars has, and else 1.
     pub(crate) count: u32,
     /// The bytes of the name.
-    pub(crate) name_len: u32,
+    pub(crate) name_len: u8,
     pub(crate) class: Class,
 }
 
@@ -29,10 +29,11 @@ pub(crate) fn read_head(heap: &Heap, handle: u64) -> Head
 {
     let first = heap.word(handle, 0);
     let second = heap.word(handle, NAME_CLASS_AT);
+    let name_len = (second % HALF) as u8;
     Head {
         kind: kind_of_code((first % HALF) as u32),
         count: (first / HALF) as u32,
-        name_len: (second % HALF) as u32,
+        name_len,
         class: class_of_code((second / HALF) as u32),
     }
 }

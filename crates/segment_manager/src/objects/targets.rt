@@ -1,13 +1,17 @@
 //! What says which object a call means: a key, which is looked up, or an object that was located before.
-ghost use Rattle.std.specs.Prelude.{⊤, MatchResult};
+ghost use Rattle.std.specs.Prelude.{◌≡◌, ⊤, MatchResult, true};
 ghost use Rattle.seg_types.specs.{Keys.key_seen, Keys.name_seen, Names.ByHandle, Names.ByName, Names.Key as AnyKey};
-ghost use Rattle.segment_manager.specs.{objects.Found.handle_at, objects.Instances.IsMissing, State.Answers};
-ghost use Rattle.segment_manager.specs.{State.State};
-ghost use Rattle.segment_manager.specs.objects.Located.{IsLocated, IsObject};
+ghost use Rattle.segment_manager.specs.{Directory.Object as DirectoryObject, objects.Found.is_object_at};
+ghost use Rattle.segment_manager.specs.{objects.Instances.IsMissing, objects.Standing.HasObject, State.Answers};
+ghost use Rattle.segment_manager.specs.{objects.Standing.StandsAt, State.State};
+ghost use Rattle.segment_manager.specs.objects.Located.{IsLocated, IsObject, container_in, element_in, located};
+ghost use Rattle.segment_manager.specs.objects.Located.{located_at, value_in};
 
+use crate::layout::value_at;
 use crate::objects::head::read_head;
 use crate::segment::Segment;
-use seg_types::{Handle, Key, Kind, Name, Refusal};
+use best_fit::{Heap, Place};
+use seg_types::{Handle, Key, Kind, Name, Refusal, ScalarKind};
 
 /// An object of a segment as it was located. It goes on standing for the object of its handle until that is destroyed.
 #[derive(Clone, Copy, Debug, PartialEq, Eq, Hash)]
@@ -16,8 +20,51 @@ pub struct Object {
     pub handle: Handle,
     /// Its kind.
     pub kind: Kind,
+    /// The bytes of its name, behind which its value begins.
+    pub(crate) name_len: u8,
     /// How many elements it has, and 1 where it is a container.
     pub count: u32,
+}
+
+impl Object {
+    /// Where its value begins, from its handle on.
+    pub(crate) fn value_at(self) -> u64
+        ensures { result ≡ value_in self }
+    {
+        value_at(u64::from(self.name_len))
+    }
+
+    /// Where its container stands: `WrongKind` where it is of another kind.
+    pub(crate) fn container(self, kind: Kind) -> Result<Place, Refusal>
+        ensures { result ≡ container_in self kind }
+    {
+        let wanted = kind.code();
+        let own = self.kind.code();
+        if wanted != own {
+            return Err(Refusal::WrongKind);
+        }
+        Ok(Place {
+            handle: self.handle,
+            at: self.value_at(),
+        })
+    }
+
+    /// Where its element of an index stands: `WrongKind` where it has no scalars of the kind, `OutOfRange` where it has
+    /// no such element.
+    pub(crate) fn element(self, kind: ScalarKind, index: u64) -> Result<Place, Refusal>
+        ensures { result ≡ element_in self kind index }
+    {
+        if self.kind != Kind::Scalar(kind) {
+            return Err(Refusal::WrongKind);
+        }
+        if index >= u64::from(self.count) {
+            return Err(Refusal::OutOfRange);
+        }
+        Ok(Place {
+            handle: self.handle,
+            at: self.value_at() + kind.size() * index,
+        })
+    }
 }
 
 /// What says which object a call means. A key is looked up at each call; an object that was located is not.
@@ -33,10 +80,10 @@ pub trait Target {
     // Whether it may be used in a segment.
     ghost stands: { Self → State → Type 0 };
 
-    /// The handle of the object in a segment, or nothing where it has no such object.
-    fn handle_in(&self, segment: &Segment) -> Option<Handle>
+    /// The object in a segment, or nothing where it has no such object.
+    fn find(&self, segment: &Segment) -> Option<Object>
         requires { stands self.now segment.now }
-        ensures { Answers segment.now (λ d. handle_at d (key self.now)) result };
+        ensures { Answers segment.now (λ d. located_at d (key self.now)) result };
 }
 
 impl Target for Key<'_> {
@@ -45,8 +92,8 @@ impl Target for Key<'_> {
     // A key may be asked for anywhere.
     ghost stands = { λ key s. ⊤ };
 
-    fn handle_in(&self, segment: &Segment) -> Option<Handle> {
-        segment.handle_of(self)
+    fn find(&self, segment: &Segment) -> Option<Object> {
+        segment.object_of(self)
     }
 }
 
@@ -56,19 +103,46 @@ impl Target for Name<'_> {
     // A name may be asked for anywhere.
     ghost stands = { λ name s. ⊤ };
 
-    fn handle_in(&self, segment: &Segment) -> Option<Handle> {
-        segment.handle_of(&Key::Name(*self))
+    fn find(&self, segment: &Segment) -> Option<Object> {
+        segment.object_of(&Key::Name(*self))
     }
 }
 
 impl Target for Object {
     ghost key = { λ o. ByHandle o.handle };
 
-    // An object of the segment has its handle.
+    // This is said of an object of the segment.
     ghost stands = { λ o s. IsObject o s };
 
-    fn handle_in(&self, _segment: &Segment) -> Option<Handle> {
-        Some(self.handle)
+    fn find(&self, _segment: &Segment) -> Option<Object> {
+        Some(*self)
+    }
+}
+
+impl Segment {
+    /// The object of a key, or nothing where no object has the key.
+    pub(crate) fn object_of(&self, key: &Key) -> Option<Object>
+        ensures { Answers self.now (λ d. located_at d (key_seen key.now)) result }
+    {
+        match self.handle_of(key) {
+            None => None,
+            Some(handle) => Some(read_object(&self.heap, handle)),
+        }
+    }
+}
+
+/// What the head of the object at a handle says.
+fn read_object(heap: &Heap, handle: Handle) -> Object
+    requires { HasObject heap.now.bytes handle }
+    ensures handle { result.handle ≡ handle }
+    ensures said { (o : DirectoryObject) → StandsAt heap.now.bytes handle o → result ≡ located o }
+{
+    let head = read_head(heap, handle);
+    Object {
+        handle,
+        kind: head.kind,
+        name_len: head.name_len,
+        count: head.count,
     }
 }
 
@@ -83,15 +157,23 @@ pub fn locate<O: Target>(segment: &Segment, key: &O) -> Result<Object, Refusal>
     requires { O.stands key.now segment.now }
     ensures { MatchResult result (IsLocated segment.now (O.key key.now)) (IsMissing segment.now (O.key key.now)) }
 {
-    match key.handle_in(segment) {
+    match key.find(segment) {
         None => Err(Refusal::NotFound),
-        Some(handle) => {
-            let head = read_head(&segment.heap, handle);
-            Ok(Object {
-                handle,
-                kind: head.kind,
-                count: head.count,
-            })
-        }
+        Some(object) => Ok(object),
     }
+}
+
+/// The object of a handle as it stands in the segment. Nothing is looked up.
+///
+/// Example: `let object = object_here(&segment, handle)`.
+///
+/// # Conditions
+///
+/// An object of the segment has the handle. `locate` looks for it, and has no condition.
+pub fn object_here(segment: &Segment, handle: Handle) -> Object
+    requires { Answers segment.now (λ d. is_object_at d handle) true }
+    ensures handle { result.handle ≡ handle }
+    ensures located { IsLocated segment.now (ByHandle result.handle) result }
+{
+    read_object(&segment.heap, handle)
 }

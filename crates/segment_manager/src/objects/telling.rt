@@ -45,9 +45,9 @@ impl Segment {
         ensures { MatchResult result (λ said. SaysOf self.now (O.key key.now) said)
             (IsMissing self.now (O.key key.now)) }
     {
-        match key.handle_in(self) {
+        match key.find(self) {
             None => Err(Refusal::NotFound),
-            Some(handle) => Ok(read_instance(&self.heap, handle)),
+            Some(object) => Ok(read_instance(&self.heap, object.handle)),
         }
     }
 

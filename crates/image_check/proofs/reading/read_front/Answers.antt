@@ -6,6 +6,7 @@ use Rattle.image_check.specs.Verdicts.{Shows}
 use Rattle.std.proofs.lemmas.Result.{err_from_is_err_and}
 use Rattle.image_check.specs.Formats.{format_in}
 use Rattle.image_check.specs.Reading.{front_of}
+use Rattle.image_check.proofs.FrontAlone.{short-roomy}
 use Rattle.image_check.proofs.Stopping.{front_stops, wrong_front_stops, wrong_front_decides}
 use Rattle.image_check.proofs.ReadFormats.{since-format}
 use Rattle.image_check.proofs.ToldPlaces.{end-shown, front-shown}
@@ -94,3 +95,15 @@ returns-in_ok-read_all-in-Err-clause-shown g c =
     let v = c.in-Err.verdict in
     let said = added old new (front ++ c.read_all-in-Err.new.into) (both_added old mid new front c.read_all-in-Err.new.into ok.ok was.ok) in
     subst (λ b. Shows f b v.class v.place) (sym said) (front-shown f front c.read_all-in-Err.new.into (omega arith) v.class v.place c.in-Err.ensures.shown)
+
+-- ---- want of room
+
+pub returns-in_err-read_all-clause-alone : goal.returns-in_err-read_all-clause-alone
+returns-in_err-read_all-clause-alone g c =
+    let p = err_from_is_err_and c.from_residual.result c.from_residual.ensures.1 in
+    rw (p.1, p.2) (λ e. absurd (short-roomy _ _ c.in_err-read_all.ensures.err.1 e))
+
+pub returns-in_err-read_all-in-Err-clause-alone : goal.returns-in_err-read_all-in-Err-clause-alone
+returns-in_err-read_all-in-Err-clause-alone g c =
+    let p = err_from_is_err_and c.from_residual-in_err-read_all-in-Err.result c.from_residual-in_err-read_all-in-Err.ensures.1 in
+    rw (p.1, p.2) (λ e. absurd (short-roomy _ _ c.in_err-read_all-in-Err.ensures.err.1 e))

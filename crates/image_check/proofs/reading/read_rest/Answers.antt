@@ -3,6 +3,7 @@ use Rattle.std.proofs.lemmas.List.{length-append, length-drop, length-take-le}
 use Rattle.image_check.specs.Causes.{error_for, error_in}
 use Rattle.std.proofs.lemmas.Result.{err_from_is_err_and}
 use Rattle.image_check.proofs.Filled.{filled_short, filled_whole, rest-filled, front-length}
+use Rattle.image_check.proofs.FrontAlone.{end-roomy, short-roomy}
 use Rattle.image_check.proofs.ToldPlaces.{end-shown, err-in, err-out, whole-shown}
 use Rattle.image_check.proofs.reading.read_rest.Goals as goal
 
@@ -54,3 +55,13 @@ pub returns-clause-shown : goal.returns-clause-shown
 returns-clause-shown g c =
     whole-shown c.args.window.now (g.S.Source.history c.args.reader.now).bytes (g.S.Source.history c.read_all.new.reader).bytes (g.S.Source.history c.find_end.new.reader).bytes c.read_all.new.into c.size-size.result
     c.size-size.ensures c.in_ok-read_all.ensures.ok c.find_end.result c.find_end.ensures.err c.find_end.ensures.shown
+
+-- ---- want of room
+
+pub returns-in_err-read_all-clause-room : goal.returns-in_err-read_all-clause-room
+returns-in_err-read_all-clause-room g c =
+    let p = err_from_is_err_and c.from_residual.result c.from_residual.ensures.1 in
+    rw (p.1, p.2) (λ e. short-roomy _ _ c.in_err-read_all.ensures.err.1 e)
+
+pub returns-clause-room : goal.returns-clause-room
+returns-clause-room g c = end-roomy _ _ c.find_end.result c.find_end.ensures.err

@@ -15,7 +15,7 @@ pub returns-then-has_odd : goal.returns-then-has_odd
 returns-then-has_odd g c =
     put_right c.args.bytes.now c.all_turns_down-seen.new.bytes c.put_right.new.bytes c.args.at (c.args.at - c.args.by) (8 * c.args.n)
     (omega (arith, c.requires.source)) (omega (arith, c.requires.source)) (omega (arith, c.requires.source)) c.all_turns_down-seen.ensures.moved
-    c.hold_bytes.ensures c.put_right.ensures
+    c.hold_bytes.ensures.each c.put_right.ensures
 
 pub returns-else-has_odd : goal.returns-else-has_odd
 returns-else-has_odd g c =

@@ -1,5 +1,4 @@
-use Rattle.segment_dump.proofs.Common.{length, subst, sym, FillsNew}
-use Rattle.segment_dump.specs.Builders.{IsHere}
+use Rattle.segment_dump.proofs.Common.{length, subst, FillsNew}
 use Rattle.segment_dump.proofs.BuildLines.{object-built, object-unstarted}
 use Rattle.segment_dump.proofs.building.build_object.Goals as goal
 
@@ -7,10 +6,11 @@ pub returns-in_err-handle : goal.returns-in_err-handle
 returns-in_err-handle c = object-unstarted c.args.segment.now c.start_next.new.segment c.args.words.now c.start_next.new.segment c.args.lines.now c.args.lines.now (length c.args.room.now) _ c.from_residual.result c.in_err-handle.ensures.starts
 
 pub object_here-object-requires : goal.object_here-object-requires
-object_here-object-requires c = c.in_ok-handle.ensures.here
+object_here-object-requires c = c.in_ok-handle.ensures.here.object
 
 pub fill-requires : goal.fill-requires
-fill-requires c = subst (IsHere c.start_next.new.segment) (sym c.object_here-object.ensures) c.in_ok-handle.ensures.here
+fill-requires c =
+    record { segment = c.in_ok-handle.ensures.here.segment; object = c.object_here-object.ensures.located.here }
 
 pub returns : goal.returns
 returns c =
@@ -22,4 +22,4 @@ returns c =
     object-built old begun c.args.words.now new c.args.lines.now c.fill.new.lines room c.in_ok-handle.handle shape
     c.fill.result c.in_ok-handle.ensures.starts
     (subst (λ h. FillsNew begun new h shape.kind shape.count c.args.lines.now c.fill.new.lines room c.fill.result)
-    c.object_here-object.ensures c.fill.ensures)
+    c.object_here-object.ensures.handle c.fill.ensures)

@@ -1,7 +1,7 @@
 use Rattle.segment_dump.proofs.Common.{◌≡◌, length}
-use Rattle.segment_dump.specs.Builders.{IsHere}
+use Rattle.segment_dump.specs.Builders.{HasObject}
 use Rattle.segment_dump.proofs.Starts.{InElements}
 use Rattle.segment_dump.proofs.filling.fill_elements.Given as goal
 
 abbrev pub invariant-elements : goal.invariant-elements
-invariant-elements l = InElements l.fn.segment l.segment l.object.handle l.shape.kind l.fn.lines l.lines (length l.fn.room) l.index × (length l.room ≡ length l.fn.room) × IsHere l.segment l.object.handle
+invariant-elements l = InElements l.fn.segment l.segment l.object.handle l.shape.kind l.fn.lines l.lines (length l.fn.room) l.index × (length l.room ≡ length l.fn.room) × HasObject l.segment l.object

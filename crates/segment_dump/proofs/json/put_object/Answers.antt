@@ -1,15 +1,18 @@
 use Rattle.segment_dump.proofs.Common.{◌++◌, refl, ByHandle, laid_at}
 use Rattle.segment_dump.specs.Json.{closing, in_json, json_key, json_kind, opening}
-use Rattle.segment_dump.proofs.Elements.{said-located}
+use Rattle.segment_dump.proofs.Elements.{said-here}
 use Rattle.segment_dump.proofs.JsonLines.{line-said}
 use Rattle.segment_dump.proofs.Owed.{of-cut, of-one, of-same, of-then}
 use Rattle.segment_dump.proofs.json.put_object.Goals as goal
 
+pub object_here-object-requires : goal.object_here-object-requires
+object_here-object-requires g c = said-here c.args.segment.now c.args.said c.requires.said
+
 pub count_of-count-requires : goal.count_of-count-requires
-count_of-count-requires g c = said-located c.args.segment.now c.args.said c.requires.said
+count_of-count-requires g c = c.object_here-object.ensures.located
 
 pub put_value-requires-clause-object : goal.put_value-requires-clause-object
-put_value-requires-clause-object g c = said-located c.args.segment.now c.args.said c.requires.said
+put_value-requires-clause-object g c = c.object_here-object.ensures.located
 
 pub returns-in_err-put_key : goal.returns-in_err-put_key
 returns-in_err-put_key g c =
@@ -35,5 +38,5 @@ returns g c =
     let said = c.args.said in
     of-same
     (of-then (of-one {owed = λ d. json_key said.class said.name.now} c.in_ok-put_key.ensures (λ d st. refl))
-    (of-then (of-one {owed = λ d. json_kind said.kind} c.in_ok-put_kind.ensures (λ d st. refl)) c.put_value.ensures))
+    (of-then (of-one {owed = λ d. json_kind said.kind} c.in_ok-put_kind.ensures (λ d st. refl)) (rw c.object_here-object.ensures.handle at c.put_value.ensures)))
     (line-said c.args.segment.now said c.requires.said)

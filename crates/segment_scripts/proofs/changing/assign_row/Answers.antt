@@ -4,7 +4,7 @@ use Rattle.seg_types.specs.Commands.{Assign, literal_of}
 use Rattle.seg_types.specs.Names.{ByHandle}
 use Rattle.segment_manager.specs.State.{IsStepOfKind, done_answer}
 use Rattle.segment_scripts.proofs.ElementCalls.{assign-no_values, assign-read}
-use Rattle.segment_scripts.proofs.Exits.{exit-is}
+use Rattle.segment_values.proofs.Exits.{exit-is}
 use Rattle.segment_scripts.proofs.changing.assign_row.Goals as goal
 
 pub returns-in_err-literal_row-clause-step : goal.returns-in_err-literal_row-clause-step

@@ -1,5 +1,5 @@
 use Rattle.segment_scripts.proofs.ElementCalls.{no_text-refused, text-read}
-use Rattle.segment_scripts.proofs.Exits.{exit-is}
+use Rattle.segment_values.proofs.Exits.{exit-is}
 use Rattle.segment_scripts.proofs.changing.assign_string.Goals as goal
 
 pub returns-in_err-text-clause-step : goal.returns-in_err-text-clause-step

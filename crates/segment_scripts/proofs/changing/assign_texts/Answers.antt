@@ -1,7 +1,7 @@
 use Rattle.seg_types.specs.Names.{ByHandle}
 use Rattle.segment_manager.specs.State.{done_answer}
 use Rattle.segment_scripts.proofs.TextElements.{assign-no_texts, assign-texts}
-use Rattle.segment_scripts.proofs.Exits.{exit-is}
+use Rattle.segment_values.proofs.Exits.{exit-is}
 use Rattle.segment_scripts.proofs.changing.assign_texts.Goals as goal
 
 pub returns-in_err-literal_texts-clause-step : goal.returns-in_err-literal_texts-clause-step

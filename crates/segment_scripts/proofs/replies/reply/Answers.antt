@@ -1,8 +1,8 @@
 -- Each arm is one call, which is the step of its command.
 use Rattle.std.proofs.Common.{refl, subst, true}
-use Rattle.seg_types.specs.Commands.{AllDeallocated, Find, Free, Lookup, NumNamed, NumUnique, Sanity, Size}
+use Rattle.seg_types.specs.Commands.{AllDeallocated, Find, Free, Lookup, NumNamed, NumUnique, Sanity}
 use Rattle.seg_types.specs.Keys.{index_key_seen, key_seen}
-use Rattle.segment_lang.specs.Seen.{command_of, content_of, literal_of}
+use Rattle.segment_lang.specs.Seen.{deed_of, content_of, literal_of}
 use Rattle.segment_manager.specs.Answers.{Done, Made, Number, Truth}
 use Rattle.segment_manager.specs.objects.Found.{found_answer, pair_found}
 use Rattle.segment_manager.specs.containers.Maps.{any_value_answer}
@@ -40,43 +40,34 @@ pub returns-in-Info : goal.returns-in-Info
 returns-in-Info c = replies-as c.in-Info.is (replies-info c.args.segment.now c.in-Info.key)
 
 pub set-requires : goal.set-requires
-set-requires c = has-room (literal_of c.in-Set.value) (subst (λ k. IsMeant (command_of k)) c.in-Set.is c.requires.meant)
+set-requires c = has-room (literal_of c.in-Set.value) (subst (λ k. IsMeant (deed_of k)) c.in-Set.is c.requires)
 
 pub add-requires : goal.add-requires
-add-requires c = has-room (literal_of c.in-Push.value) (subst (λ k. IsMeant (command_of k)) c.in-Push.is c.requires.meant)
-
-pub add-requires-in-Insert : goal.add-requires-in-Insert
-add-requires-in-Insert c = has-room (literal_of c.in-Insert.value) (subst (λ k. IsMeant (command_of k)) c.in-Insert.is c.requires.meant)
+add-requires c = has-room (literal_of c.in-Insert.value) (subst (λ k. IsMeant (deed_of k)) c.in-Insert.is c.requires)
 
 pub returns-in-Set : goal.returns-in-Set
 returns-in-Set c = replies-command c.in-Set.is (λ _. Done) (λ _. refl) c.set.result refl refl c.done.ensures c.set.ensures.step (keeps-refused c.args.segment.now c.set.new.segment c.set.result c.set.ensures.refused) (λ _. refl)
 
-pub returns-in-Push : goal.returns-in-Push
-returns-in-Push c = replies-command c.in-Push.is (λ _. Done) (λ _. refl) c.add.result refl refl c.done-in-Push.ensures c.add.ensures.step c.add.ensures.refused (λ _. refl)
-
 pub returns-in-Insert : goal.returns-in-Insert
-returns-in-Insert c = replies-command c.in-Insert.is (λ _. Done) (λ _. refl) c.add-in-Insert.result refl refl c.done-in-Insert.ensures c.add-in-Insert.ensures.step c.add-in-Insert.ensures.refused (λ _. refl)
+returns-in-Insert c = replies-command c.in-Insert.is (λ _. Done) (λ _. refl) c.add.result refl refl c.done-in-Insert.ensures c.add.ensures.step c.add.ensures.refused (λ _. refl)
 
 pub returns-in-Erase : goal.returns-in-Erase
 returns-in-Erase c = replies-command c.in-Erase.is (λ _. Done) (λ _. refl) c.erase.result refl refl c.done-in-Erase.ensures c.erase.ensures.step (keeps-refused c.args.segment.now c.erase.new.segment c.erase.result c.erase.ensures.refused) (λ _. refl)
 
 pub returns-in-Reserve : goal.returns-in-Reserve
-returns-in-Reserve c = replies-found c.in-Reserve.is (λ _. Done) (λ _. refl) c.reserve.result refl refl c.done-in-Reserve.ensures c.reserve.ensures.step (keeps-refused c.args.segment.now c.reserve.new.segment c.reserve.result c.reserve.ensures.refused) (places-found (key_seen c.in-Reserve.key) c.in-Reserve.count c.reserve.ensures.enough)
+returns-in-Reserve c = replies-found c.in-Reserve.is (λ _. Done) (λ _. refl) c.reserve.result refl refl c.done-in-Reserve.ensures c.reserve.ensures.step (keeps-refused c.args.segment.now c.reserve.new.self c.reserve.result c.reserve.ensures.refused) (places-found (key_seen c.in-Reserve.key) c.in-Reserve.count c.reserve.ensures.enough)
 
 pub returns-in-Shrink : goal.returns-in-Shrink
-returns-in-Shrink c = replies-command c.in-Shrink.is (λ _. Done) (λ _. refl) c.shrink.result refl refl c.done-in-Shrink.ensures c.shrink.ensures.step (keeps-refused c.args.segment.now c.shrink.new.segment c.shrink.result c.shrink.ensures.refused) (λ _. refl)
+returns-in-Shrink c = replies-command c.in-Shrink.is (λ _. Done) (λ _. refl) c.shrink.result refl refl c.done-in-Shrink.ensures c.shrink.ensures.step (keeps-refused c.args.segment.now c.shrink.new.self c.shrink.result c.shrink.ensures.refused) (λ _. refl)
 
 pub returns-in-Clear : goal.returns-in-Clear
-returns-in-Clear c = replies-command c.in-Clear.is (λ _. Done) (λ _. refl) c.clear.result refl refl c.done-in-Clear.ensures c.clear.ensures.step (keeps-refused c.args.segment.now c.clear.new.segment c.clear.result c.clear.ensures.refused) (λ _. refl)
+returns-in-Clear c = replies-command c.in-Clear.is (λ _. Done) (λ _. refl) c.clear.result refl refl c.done-in-Clear.ensures c.clear.ensures.step (keeps-refused c.args.segment.now c.clear.new.self c.clear.result c.clear.ensures.refused) (λ _. refl)
 
 pub returns-in-Assign : goal.returns-in-Assign
 returns-in-Assign c = replies-command c.in-Assign.is (λ _. Done) (λ _. refl) c.assign.result refl refl c.done-in-Assign.ensures c.assign.ensures.step c.assign.ensures.refused (λ _. refl)
 
 pub returns-in-Append : goal.returns-in-Append
 returns-in-Append c = replies-command c.in-Append.is (λ _. Done) (λ _. refl) c.append.result refl refl c.done-in-Append.ensures c.append.ensures.step (keeps-refused c.args.segment.now c.append.new.segment c.append.result c.append.ensures.refused) (λ _. refl)
-
-pub returns-in-Put : goal.returns-in-Put
-returns-in-Put c = replies-command c.in-Put.is Truth (λ _. refl) c.put_written_pair.result refl refl c.truth-in-Put.ensures c.put_written_pair.ensures.step (keeps-refused c.args.segment.now c.put_written_pair.new.segment c.put_written_pair.result c.put_written_pair.ensures.refused) (λ _. refl)
 
 pub returns-in-Lookup : goal.returns-in-Lookup
 returns-in-Lookup c = replies-as c.in-Lookup.is (replies-read c.args.segment.now (Lookup (key_seen c.in-Lookup.key) (literal_of c.in-Lookup.at)) c.value_found.result (any_value_answer c.look_up.result) refl c.value_found.ensures c.look_up.ensures)
@@ -92,9 +83,6 @@ returns-in-ListKinds c = replies-as c.in-ListKinds.is (replies-kinds c.args.segm
 
 pub returns-in-Blocks : goal.returns-in-Blocks
 returns-in-Blocks c = replies-as c.in-Blocks.is (replies-blocks c.args.segment.now)
-
-pub returns-in-Size : goal.returns-in-Size
-returns-in-Size c = replies-as c.in-Size.is (replies-read c.args.segment.now Size (said.Number c.size.result) (Number c.size.result) refl (λ d. refl) c.size.ensures)
 
 pub returns-in-Free : goal.returns-in-Free
 returns-in-Free c = replies-as c.in-Free.is (replies-read c.args.segment.now Free (said.Number c.free.result) (Number c.free.result) refl (λ d. refl) c.free.ensures)

@@ -13,5 +13,6 @@ give_up-requires g c =
       map = s;
       found = k.holds;
       is = k.at;
+      leads = trace.ensures.root;
       begins = rw c.in-Some.is at (trace.ensures.exit ps s);
     }

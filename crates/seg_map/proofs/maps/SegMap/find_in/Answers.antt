@@ -14,5 +14,6 @@ returns g c =
       found = looked_for c.args.key (finds_first o false c.args.key way.exact way.steps way.first)
           g.met.K.Plain.transitive c.with_key.ensures.node (omega arith);
       value = c.with_key.ensures.value;
+      root = c.open-pairs.ensures.root;
       entry = entry_is o c.args.key way.entry;
     }

@@ -14,6 +14,7 @@ returns g c =
       found = looked_for c.args.key (finds_first o false c.args.key way.exact way.steps way.first)
           g.met.K.Plain.transitive c.with_key.ensures.node (omega arith);
       value = c.with_key.ensures.value;
+      root = c.open-pairs.ensures.root;
       exit = exit_is o c.with_key.result c.find_way_out-way.result.node c.find_way_out-way.result.exit
           c.with_key.ensures.same way.exit;
     }

@@ -9,18 +9,18 @@ use Rattle.seg_map.proofs.maps.SegMap.give_up.Goals as goal
 pub remove_at-changed-requires : goal.remove_at-changed-requires
 remove_at-changed-requires g c =
     let q = c.requires in let lent = c.lend-pairs.ensures in
-    let r = can_unlink (laws g.met.K.Plain) c.args.heap.now q.map c.link-root.ensures q.key q.found q.is c.args.start
+    let r = can_unlink (laws g.met.K.Plain) c.args.heap.now q.map c.requires.leads q.key q.found q.is c.args.trace.now.start
     q.begins in
     rw (lent.own, lent.heap) (record { root = r.tree.leads; tree = (r.shape, r.tree.tree, r.listed, r.begins) })
 
 -- what is known of the nodes is known of the heap
-cut : (g : _) (c : After-add g) → Relinked g.K.Plain (own_nodes c.args.heap.now.bytes c.link-root.result None)
-    c.args.heap.now c.heap-1.given.0 c.link-root.result c.remove_at-changed.result.root
+cut : (g : _) (c : After-add g) → Relinked g.K.Plain (own_nodes c.args.heap.now.bytes c.args.trace.now.root None)
+    c.args.heap.now c.heap-1.given.0 c.args.trace.now.root c.remove_at-changed.result.root
     (without c.args.node) (c.add.new.self - c.args.steps.now)
 cut g c =
     let f = c.remove_at-changed.ensures in let lent = c.lend-pairs in let r = c.remove_at-changed.result in
     rw (← lent.ensures.own, ← lent.ensures.heap)
-    (relinked g.K.Plain lent.result.own c.remove_at-changed.new.nodes.own c.link-root.result r.root c.args.steps.now
+    (relinked g.K.Plain lent.result.own c.remove_at-changed.new.nodes.own c.args.trace.now.root r.root c.args.steps.now
     r.steps (search rules) f.same.kept f.root c.add.ensures f.tree f.steps)
 
 pub write_head-requires : goal.write_head-requires
@@ -30,7 +30,7 @@ write_head-requires g c =
       aligned = r.aligned;
       proper = kept_proper _ _ _ u.kept r.heap.proper;
       room = kept_room _ _ _ _ _ u.kept r.room;
-      root = top_whole r (lent_tree (laws g.met.K.Plain) c.args.heap.now r c.link-root.ensures refl) u;
+      root = top_whole r (lent_tree (laws g.met.K.Plain) c.args.heap.now r c.requires.leads refl) u;
     }
 
 pub deallocate-requires : goal.deallocate-requires
@@ -41,7 +41,7 @@ deallocate-requires g c =
 
 pub returns-clause-dropped : goal.returns-clause-dropped
 returns-clause-dropped g c = λ ps key p s has is. erased (laws g.met.K.Plain) (laws g.met.V.Plain) s key has is
-    (taken (laws g.met.K.Plain) c.args.heap.now s c.link-root.ensures key has is
+    (taken (laws g.met.K.Plain) c.args.heap.now s c.requires.leads key has is
     (cut g (goal.at.returns-clause-dropped g c).After-add)
     (laws g.met.V.Plain) (omega (arith, c.len-count.ensures ps s, removed_length g.K.Plain.order ps key p has))
     c.write_head.ensures) c.deallocate.ensures.released
@@ -49,6 +49,6 @@ returns-clause-dropped g c = λ ps key p s has is. erased (laws g.met.K.Plain) (
 pub returns-clause-steps : goal.returns-clause-steps
 returns-clause-steps g c = λ ps s.
     let u = cut g (goal.at.returns-clause-steps g c).After-add in
-    let few = few_steps s (lent_tree (laws g.met.K.Plain) c.args.heap.now s c.link-root.ensures refl) u in
+    let few = few_steps s (lent_tree (laws g.met.K.Plain) c.args.heap.now s c.requires.leads refl) u in
     let touches = ap heap_touches (live_laid u c.write_head.ensures) in
     omega (arith, few, c.add.ensures, c.remove_at-changed.ensures.counted, c.deallocate.ensures.steps, touches)

@@ -25,7 +25,7 @@ pub put_in-requires : goal.put_in-requires
 put_in-requires g c =
     let none : c.find_in-trace.result.node ≡ None = cc in
     let s = c.requires.1 in let absent = key_absent c.find_in-trace.ensures.found s none in
-    can_put_in (laws g.met.K.Plain) (laws g.met.V.Plain) s absent c.in_ok-node.ensures.made
+    can_put_in (laws g.met.K.Plain) (laws g.met.V.Plain) s absent c.in_ok-node.ensures.made c.find_in-trace.ensures.root
     (c.find_in-trace.ensures.entry c.requires.0 s)
 
 pub returns-clause-put : goal.returns-clause-put

@@ -9,20 +9,20 @@ use Rattle.seg_map.proofs.maps.SegMap.put_in.Goals as goal
 pub insert_at-changed-requires : goal.insert_at-changed-requires
 insert_at-changed-requires g c =
     let h = c.requires.there in let lent = c.lend-pairs.ensures in
-    let r = can_link (laws g.met.K.Plain) c.args.heap.now h.map c.link-root.ensures h.loose h.is c.args.start
+    let r = can_link (laws g.met.K.Plain) c.args.heap.now h.map c.requires.leads h.loose h.is c.args.trace.now.start
     c.requires.begins in
     rw (lent.own, lent.heap)
     (record { root = r.tree.leads; node = r.own; tree = (r.shape, r.tree.tree, r.place, r.begins) })
 
 -- what is known of the nodes is known of the heap
-entered : (g : _) (c : After-add g) → let ns = own_nodes c.args.heap.now.bytes c.link-root.result (Some c.args.node) in
-    Relinked g.K.Plain ns c.args.heap.now c.heap-1.given.0 c.link-root.result c.insert_at-changed.result.root
+entered : (g : _) (c : After-add g) → let ns = own_nodes c.args.heap.now.bytes c.args.trace.now.root (Some c.args.node) in
+    Relinked g.K.Plain ns c.args.heap.now c.heap-1.given.0 c.args.trace.now.root c.insert_at-changed.result.root
     (put (comes_before g.K.Plain.order (keys_in g.K.Plain ns c.args.heap.now)) c.args.node)
     (c.add.new.self - c.args.steps.now)
 entered g c =
     let f = c.insert_at-changed.ensures in let lent = c.lend-pairs in let r = c.insert_at-changed.result in
     rw (← lent.ensures.own, ← lent.ensures.heap)
-    (relinked g.K.Plain lent.result.own c.insert_at-changed.new.nodes.own c.link-root.result r.root c.args.steps.now
+    (relinked g.K.Plain lent.result.own c.insert_at-changed.new.nodes.own c.args.trace.now.root r.root c.args.steps.now
     r.steps (search rules) f.same.kept f.root c.add.ensures f.tree (λ t k. fewer _ _ (f.steps t k)))
 
 pub overflow_add-count : goal.overflow_add-count
@@ -38,17 +38,17 @@ write_head-requires g c =
       proper = kept_proper _ _ _ u.kept h.map.heap.proper;
       room = kept_room _ _ _ _ _ u.kept h.map.room;
       root = top_whole h.map
-          (planted_tree (laws g.met.K.Plain) c.args.heap.now h.map c.link-root.ensures h.loose h.is) u;
+          (planted_tree (laws g.met.K.Plain) c.args.heap.now h.map c.requires.leads h.loose h.is) u;
     }
 
 pub returns-clause-planted : goal.returns-clause-planted
-returns-clause-planted g c = λ ps p s loose is. planted (laws g.met.K.Plain) c.args.heap.now s c.link-root.ensures loose
+returns-clause-planted g c = λ ps p s loose is. planted (laws g.met.K.Plain) c.args.heap.now s c.requires.leads loose
     is (entered g (goal.at.returns-clause-planted g c).After-add) (laws g.met.V.Plain)
     (omega (arith, c.len-count.ensures ps s)) c.write_head.ensures
 
 pub returns-clause-steps : goal.returns-clause-steps
 returns-clause-steps g c = λ ps s.
     let r = c.requires.there in let u = entered g (goal.at.returns-clause-steps g c).After-add in
-    let t = planted_tree (laws g.met.K.Plain) c.args.heap.now r.map c.link-root.ensures r.loose r.is in
+    let t = planted_tree (laws g.met.K.Plain) c.args.heap.now r.map c.requires.leads r.loose r.is in
     let digits = ap (λ n. bits (n + 1)) (sym r.map.map.count ∙ s.map.count) in
     omega (arith, few_steps r.map t u, digits, c.add.ensures, c.insert_at-changed.ensures.counted)

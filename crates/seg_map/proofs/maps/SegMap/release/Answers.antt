@@ -13,6 +13,7 @@ give_up-requires g c =
       map = going.holds;
       found = n.holds;
       is = n.at;
+      leads = sym c.in-Some.is ∙ c.link.ensures;
       begins = root_exit (laws g.met.K.Plain) going (sym c.link.ensures ∙ c.in-Some.is);
     }
 

@@ -1,5 +1,6 @@
--- The head says the kind, and where the value begins.
-use Rattle.segment_manager.proofs.Common.{◌≡◌, ◌∙◌, ℕ, ◌+◌, ap, arith, padded, head_len, length, sym}
+-- What was located says the kind, and where the value begins.
+use Rattle.segment_manager.proofs.Common.{◌∙◌, ◌+◌, ap, arith, padded, length, sym, Located}
+use Rattle.segment_manager.specs.objects.Located.{value_in}
 use Rattle.segment_manager.proofs.objects.{Pieces.room-small, Standings.standing-room}
 use Rattle.segment_manager.proofs.containers.ElementRuns.{are-words, no-run_in, scalars-read, string-len, string-read}
 use Rattle.segment_manager.proofs.containers.ElementRuns.{vector-len, vector-read}
@@ -7,72 +8,72 @@ use Rattle.segment_manager.proofs.containers.element_runs.read_run.Goals as goal
 
 pub storage_run-requires-clause-whole : goal.storage_run-requires-clause-whole
 storage_run-requires-clause-whole c =
-    let o = c.requires.object.0 in let s = c.requires.object.1 in let head = c.read_head-head.ensures o s in
-    (are-words o s _ (c.value_at-at.ensures ∙ ap (λ (n : ℕ). head_len + padded n) (c.from.ensures ∙ head.name_len))
-    (vector-len c.in-Vector.kind o.value (sym c.in-Vector.is ∙ head.kind))).whole
+    let o = c.requires.object.0 in let s = c.requires.object.1 in let said = c.requires.said o s in
+    (are-words o s _ (c.value_at-at.ensures ∙ ap value_in said)
+    (vector-len c.in-Vector.kind o.value (sym c.in-Vector.is ∙ ap (λ (q : Located). q.kind) said))).whole
 
 pub storage_run-requires-clause-near : goal.storage_run-requires-clause-near
 storage_run-requires-clause-near c =
-    let o = c.requires.object.0 in let s = c.requires.object.1 in let head = c.read_head-head.ensures o s in
-    (are-words o s _ (c.value_at-at.ensures ∙ ap (λ (n : ℕ). head_len + padded n) (c.from.ensures ∙ head.name_len))
-    (vector-len c.in-Vector.kind o.value (sym c.in-Vector.is ∙ head.kind))).near
+    let o = c.requires.object.0 in let s = c.requires.object.1 in let said = c.requires.said o s in
+    (are-words o s _ (c.value_at-at.ensures ∙ ap value_in said)
+    (vector-len c.in-Vector.kind o.value (sym c.in-Vector.is ∙ ap (λ (q : Located). q.kind) said))).near
 
 pub storage_run-requires-clause-room : goal.storage_run-requires-clause-room
 storage_run-requires-clause-room c =
-    let o = c.requires.object.0 in let s = c.requires.object.1 in let head = c.read_head-head.ensures o s in
-    (are-words o s _ (c.value_at-at.ensures ∙ ap (λ (n : ℕ). head_len + padded n) (c.from.ensures ∙ head.name_len))
-    (vector-len c.in-Vector.kind o.value (sym c.in-Vector.is ∙ head.kind))).room
+    let o = c.requires.object.0 in let s = c.requires.object.1 in let said = c.requires.said o s in
+    (are-words o s _ (c.value_at-at.ensures ∙ ap value_in said)
+    (vector-len c.in-Vector.kind o.value (sym c.in-Vector.is ∙ ap (λ (q : Located). q.kind) said))).room
 
 pub overflow_add-result : goal.overflow_add-result
 overflow_add-result c =
-    let o = c.requires.object.0 in let s = c.requires.object.1 in let head = c.read_head-head.ensures o s in
-    let at = c.value_at-at.ensures ∙ ap (λ (n : ℕ). head_len + padded n) (c.from.ensures ∙ head.name_len) in
-    let small = room-small c.args.heap.now c.args.handle (16 + padded (length o.name)) c.requires.heap
-    (standing-room c.args.heap.now.bytes c.args.handle (16 + padded (length o.name)) o s (omega arith)) in
+    let o = c.requires.object.0 in let s = c.requires.object.1 in let said = c.requires.said o s in
+    let at = c.value_at-at.ensures ∙ ap value_in said in
+    let small = room-small c.args.heap.now c.args.object.handle (16 + padded (length o.name)) c.requires.heap
+    (standing-room c.args.heap.now.bytes c.args.object.handle (16 + padded (length o.name)) o s (omega arith)) in
     omega (arith, at, small)
 
 pub storage_run-requires-in-String-clause-whole : goal.storage_run-requires-in-String-clause-whole
 storage_run-requires-in-String-clause-whole c =
-    let o = c.requires.object.0 in let s = c.requires.object.1 in let head = c.read_head-head.ensures o s in
-    (are-words o s _ (c.value_at-at.ensures ∙ ap (λ (n : ℕ). head_len + padded n) (c.from.ensures ∙ head.name_len))
-    (string-len o.value (sym c.in-String.is ∙ head.kind))).whole
+    let o = c.requires.object.0 in let s = c.requires.object.1 in let said = c.requires.said o s in
+    (are-words o s _ (c.value_at-at.ensures ∙ ap value_in said)
+    (string-len o.value (sym c.in-String.is ∙ ap (λ (q : Located). q.kind) said))).whole
 
 pub storage_run-requires-in-String-clause-near : goal.storage_run-requires-in-String-clause-near
 storage_run-requires-in-String-clause-near c =
-    let o = c.requires.object.0 in let s = c.requires.object.1 in let head = c.read_head-head.ensures o s in
-    (are-words o s _ (c.value_at-at.ensures ∙ ap (λ (n : ℕ). head_len + padded n) (c.from.ensures ∙ head.name_len))
-    (string-len o.value (sym c.in-String.is ∙ head.kind))).near
+    let o = c.requires.object.0 in let s = c.requires.object.1 in let said = c.requires.said o s in
+    (are-words o s _ (c.value_at-at.ensures ∙ ap value_in said)
+    (string-len o.value (sym c.in-String.is ∙ ap (λ (q : Located). q.kind) said))).near
 
 pub storage_run-requires-in-String-clause-room : goal.storage_run-requires-in-String-clause-room
 storage_run-requires-in-String-clause-room c =
-    let o = c.requires.object.0 in let s = c.requires.object.1 in let head = c.read_head-head.ensures o s in
-    (are-words o s _ (c.value_at-at.ensures ∙ ap (λ (n : ℕ). head_len + padded n) (c.from.ensures ∙ head.name_len))
-    (string-len o.value (sym c.in-String.is ∙ head.kind))).room
+    let o = c.requires.object.0 in let s = c.requires.object.1 in let said = c.requires.said o s in
+    (are-words o s _ (c.value_at-at.ensures ∙ ap value_in said)
+    (string-len o.value (sym c.in-String.is ∙ ap (λ (q : Located). q.kind) said))).room
 
 pub returns-in-Scalar : goal.returns-in-Scalar
 returns-in-Scalar c = λ o s.
-    let head = c.read_head-head.ensures o s in
+    let said = c.requires.said o s in
     scalars-read o s _ _ c.in-Scalar.kind o.value
-    (c.value_at-at.ensures ∙ ap (λ (n : ℕ). head_len + padded n) (c.from.ensures ∙ head.name_len))
-    (c.from-in-Scalar.ensures ∙ head.count) (sym c.in-Scalar.is ∙ head.kind)
+    (c.value_at-at.ensures ∙ ap value_in said)
+    (c.from.ensures ∙ ap (λ (q : Located). q.count) said) (sym c.in-Scalar.is ∙ ap (λ (q : Located). q.kind) said)
 
 pub returns-in-Vector : goal.returns-in-Vector
 returns-in-Vector c = λ o s.
-    let head = c.read_head-head.ensures o s in let read = c.storage_run.ensures in
+    let said = c.requires.said o s in let read = c.storage_run.ensures in
     vector-read o s _ c.in-Vector.kind _ o.value
-    (c.value_at-at.ensures ∙ ap (λ (n : ℕ). head_len + padded n) (c.from.ensures ∙ head.name_len))
+    (c.value_at-at.ensures ∙ ap value_in said)
     (record { offset = read.offset; count = read.count; kind = read.kind })
-    (sym c.in-Vector.is ∙ head.kind) s.said.value
+    (sym c.in-Vector.is ∙ ap (λ (q : Located). q.kind) said) s.said.value
 
 pub returns-in-String : goal.returns-in-String
 returns-in-String c = λ o s.
-    let head = c.read_head-head.ensures o s in let read = c.storage_run-in-String.ensures in
+    let said = c.requires.said o s in let read = c.storage_run-in-String.ensures in
     string-read o s _ _ o.value
-    (c.value_at-at.ensures ∙ ap (λ (n : ℕ). head_len + padded n) (c.from.ensures ∙ head.name_len))
+    (c.value_at-at.ensures ∙ ap value_in said)
     (record { offset = read.offset; count = read.count; kind = read.kind })
-    (sym c.in-String.is ∙ head.kind) s.said.value
+    (sym c.in-String.is ∙ ap (λ (q : Located). q.kind) said) s.said.value
 
 pub returns-in_default : goal.returns-in_default
 returns-in_default c = λ o s.
-    let head = c.read_head-head.ensures o s in
-    no-run_in o s _ o.value head.kind c.in_default.not-Scalar c.in_default.not-Vector c.in_default.not-String
+    let said = c.requires.said o s in
+    no-run_in o s _ o.value (ap (λ (q : Located). q.kind) said) c.in_default.not-Scalar c.in_default.not-Vector c.in_default.not-String

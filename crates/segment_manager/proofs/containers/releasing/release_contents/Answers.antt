@@ -1,7 +1,7 @@
 -- The head says which value the object has, and where it stands.
 use Rattle.segment_manager.proofs.Common.{◌∙◌, refl, ap, subst, sym, ℕ, ◌+◌, padded, head_len}
 use Rattle.seg_vector.specs.{Elements.GivesBack, Standing.IsStanding}
-use Rattle.segment_manager.proofs.containers.Released.{as_map-place, elements-contents, has_storage-left, held-object}
+use Rattle.segment_manager.proofs.containers.Released.{elements-contents, has_storage-left, held-object}
 use Rattle.segment_manager.proofs.containers.Released.{number-contents, pairs-contents, some-elements, some-pairs}
 use Rattle.segment_manager.proofs.containers.Released.{some-texts, texts-contents}
 use Rattle.segment_manager.proofs.containers.releasing.release_contents.Goals as goal
@@ -16,8 +16,7 @@ give_back-requires c = subst (IsStanding c.args.heap.now.bytes _) (sym c.element
 
 pub release_pairs-requires : goal.release_pairs-requires
 release_pairs-requires c = some-pairs _ _ _ _ c.requires c.read_head-head.ensures
-    (c.value_at.ensures ∙ ap (λ (n : ℕ). head_len + padded n) c.from.ensures) _ _ _
-    (as_map-place _ _ _ _ refl c.map_place.ensures.handle c.map_place.ensures.at) c.in-Map.is
+    (c.value_at.ensures ∙ ap (λ (n : ℕ). head_len + padded n) c.from.ensures) _ _ c.in-Map.is
 
 pub release-requires : goal.release-requires
 release-requires c = some-texts _ _ _ _ c.requires c.read_head-head.ensures
@@ -38,5 +37,4 @@ returns-in-Strings c = texts-contents _ _ _ _ _ c.read_head-head.ensures
 
 pub returns-in-Map : goal.returns-in-Map
 returns-in-Map c = pairs-contents _ _ _ _ _ c.read_head-head.ensures
-    (c.value_at.ensures ∙ ap (λ (n : ℕ). head_len + padded n) c.from.ensures) _ _ _
-    (as_map-place _ _ _ _ refl c.map_place.ensures.handle c.map_place.ensures.at) c.in-Map.is c.release_pairs.ensures
+    (c.value_at.ensures ∙ ap (λ (n : ℕ). head_len + padded n) c.from.ensures) _ _ c.in-Map.is c.release_pairs.ensures

@@ -1,7 +1,7 @@
 -- The map stands at the place.
 use Rattle.segment_manager.proofs.{Common.sym, containers.PairNumbers.releases-numbers, containers.PairNumbers.some-map}
 use Rattle.segment_manager.proofs.{Common.subst, Common.Releases, Common.IsSomeMap, containers.ScalarTypes.of-map}
-use Rattle.seg_map.specs.declared.places.Place.{Place}
+use Rattle.best_fit.specs.declared.places.Place.{Place}
 use Rattle.segment_manager.proofs.containers.releasing.release_map.Goals as goal
 
 pub release-requires : goal.release-requires

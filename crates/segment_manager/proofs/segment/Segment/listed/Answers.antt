@@ -1,7 +1,7 @@
 -- The head says the class, and with it the key.
 use Rattle.segment_manager.proofs.objects.OwnEntries.{has-own_object, listed-kind, listed-name, listed-none}
 use Rattle.segment_manager.proofs.{Common.current, Calling.denotes-heap}
-use Rattle.seg_index.specs.declared.keys.Key.TheVariants as entry
+use Rattle.seg_index.specs.declared.keys.Entry.TheVariants as entry
 use Rattle.segment_manager.proofs.segment.Segment.listed.Goals as goal
 
 pub read_head-head-requires : goal.read_head-head-requires

@@ -16,4 +16,4 @@ returns-in_err-place g c = rw (exit-is c.from_residual.result _ c.from_residual.
 
 pub returns : goal.returns
 returns g c = got-there (of-map g.met.K.Scalar) (of-map g.met.V.Scalar) c.self.view_is _ c.at.ensures c.self.invariant
-    c.in_ok-place.ensures _ _ c.judge.ensures c.get.ensures.value
+    c.in_ok-place.ensures _ _ c.holds_value.ensures c.get.ensures.value

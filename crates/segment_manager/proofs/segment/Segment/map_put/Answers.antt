@@ -24,7 +24,7 @@ done : (g : Over) (c : Joined-put g)
     (literal_of g.V.Scalar.kind (g.V.Scalar.whole c.args.value))) c.match-put.result
 done g c = put-there (of-map g.met.K.Scalar) (of-map g.met.V.Scalar) c.self.view_is _ c.at.ensures c.self.invariant
     c.in_ok-place.ensures _ (sym c.is_read_only.ensures ∙ c.if-is_read_only.false) _ _ c.put.result _ (answer g c)
-    c.judge.ensures c.judge-2.ensures c.put.ensures.put
+    c.holds_value.ensures c.holds_value-2.ensures c.put.ensures.put
 
 pub returns-then-is_read_only-clause-step : goal.returns-then-is_read_only-clause-step
 returns-then-is_read_only-clause-step g c =

@@ -12,7 +12,7 @@ set-requires g c = some-vector (of-vector g.met.T.Scalar) c.self.view_is _ c.kin
 pub invariant_of-self : goal.invariant_of-self
 invariant_of-self g c =
     (vector-set (of-vector g.met.T.Scalar) c.self.view_is _ c.kind.ensures c.at.ensures c.self.invariant
-    c.in_ok-place.ensures.at _ c.in_ok-place.ensures.writing _ _ _ c.judge.ensures c.set.ensures).segment
+    c.in_ok-place.ensures.at _ c.in_ok-place.ensures.writing _ _ _ c.holds_value.ensures c.set.ensures).segment
 
 pub returns-in_err-place-clause-step : goal.returns-in_err-place-clause-step
 returns-in_err-place-clause-step g c =
@@ -21,7 +21,7 @@ returns-in_err-place-clause-step g c =
 pub returns : goal.returns
 returns g c =
     let d = vector-set (of-vector g.met.T.Scalar) c.self.view_is _ c.kind.ensures c.at.ensures c.self.invariant
-    c.in_ok-place.ensures.at _ c.in_ok-place.ensures.writing _ _ _ c.judge.ensures c.set.ensures in
+    c.in_ok-place.ensures.at _ c.in_ok-place.ensures.writing _ _ _ c.holds_value.ensures c.set.ensures in
     record {
       step = d.step;
       refused = d.refused;

@@ -1,4 +1,4 @@
-use Rattle.std.proofs.Common.{◌∙◌, ap, refl, sym}
+use Rattle.std.proofs.Common.{◌∙◌, ap, sym}
 use Rattle.segment_lang.specs.Seen.{reading_by}
 use Rattle.segment_scripts.specs.Refusing.{refuses}
 use Rattle.segment_scripts.proofs.Meant.{asked-meant}
@@ -8,8 +8,8 @@ use Rattle.segment_scripts.proofs.segments.SegmentMachine.answer.Goals as goal
 pub answer_push-requires-clause-meant : goal.answer_push-requires-clause-meant
 answer_push-requires-clause-meant g c = λ command e. asked-meant command c.args.line.now (e ∙ ap (λ f. reading_by f c.in-Form.rest.now) (sym c.in-Push.is) ∙ c.in-Form.ensures)
 
-pub answer_form-requires-clause-meant : goal.answer_form-requires-clause-meant
-answer_form-requires-clause-meant g c = λ command e. asked-meant command c.args.line.now (e ∙ c.in-Form.ensures)
+pub answer_deed-requires-clause-meant : goal.answer_deed-requires-clause-meant
+answer_deed-requires-clause-meant g c = λ command e. asked-meant command c.args.line.now (e ∙ ap (λ f. reading_by f c.in-Form.rest.now) (sym c.in-Deed.is) ∙ c.in-Form.ensures)
 
 pub returns-in-Wrong : goal.returns-in-Wrong
 returns-in-Wrong g c =
@@ -36,9 +36,14 @@ returns-in-Put g c =
     let r = responds-form c.in-Form.rest.now c.in-Put.is c.in-Form.ensures c.answer_put.ensures in
     record { leads = r.leads; writes = r.writes; tells = r.tells }
 
-pub returns-in_default : goal.returns-in_default
-returns-in_default g c =
-    let r = responds-form c.in-Form.rest.now refl c.in-Form.ensures c.answer_form.ensures in
+pub returns-in-Pop : goal.returns-in-Pop
+returns-in-Pop g c =
+    let r = responds-form c.in-Form.rest.now c.in-Pop.is c.in-Form.ensures c.answer_pop.ensures in
+    record { leads = r.leads; writes = r.writes; tells = r.tells }
+
+pub returns-in-Deed : goal.returns-in-Deed
+returns-in-Deed g c =
+    let r = responds-form c.in-Form.rest.now c.in-Deed.is c.in-Form.ensures c.answer_deed.ensures in
     record { leads = r.leads; writes = r.writes; tells = r.tells }
 
 pub returns-in-Nothing-clause-tells : goal.returns-in-Nothing-clause-tells

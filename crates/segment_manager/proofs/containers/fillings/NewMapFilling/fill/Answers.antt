@@ -3,5 +3,4 @@ use Rattle.segment_manager.proofs.objects.NewNumbers.{map-made}
 use Rattle.segment_manager.proofs.containers.fillings.NewMapFilling.fill.Goals as goal
 
 pub returns : goal.returns
-returns c = map-made c.args.self.now.keys c.args.self.now.values _ _ c.args.heap.now c.new.new.heap c.args.place
-    c.map_place.result c.map_place.ensures.handle c.map_place.ensures.at c.new.ensures.map
+returns c = map-made c.args.self.now.keys c.args.self.now.values _ _ c.new.ensures.map

@@ -4,5 +4,5 @@ use Rattle.segment_manager.proofs.containers.fillings.NewStringFilling.fill.Goal
 
 pub returns : goal.returns
 returns c = string-made c.args.heap.now c.new.new.heap c.assign.new.heap c.args.place c.new.result.place
-    c.args.self.now.bytes.now c.assign.result c.judge.ensures c.new.ensures.place
+    c.args.self.now.bytes.now c.assign.result c.hold_bytes.ensures.all c.new.ensures.place
     c.new.ensures.change c.new.ensures.text c.assign.ensures

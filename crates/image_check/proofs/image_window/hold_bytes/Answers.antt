@@ -1,6 +1,0 @@
-use Rattle.std.proofs.Common.{arith}
-use Rattle.image_check.proofs.Bytes.{fits-are_bytes}
-use Rattle.image_check.proofs.image_window.hold_bytes.Goals as goal
-
-pub returns : goal.returns
-returns c = fits-are_bytes c.args.bytes.now (λ k. omega (arith, c.type_inv.bytes k))

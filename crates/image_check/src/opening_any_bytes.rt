@@ -1,0 +1,52 @@
+//! The opening of an image of any of the three formats that lies in memory.
+ghost use Rattle.std.specs.Prelude.{◌≡◌, ◌%◌, IfErr, OnOk, length, true};
+ghost use Rattle.image_check.specs.Opening.{IsRaisedFor, is_late, size_or_least};
+ghost use Rattle.image_check.specs.OpeningAny.{OpensAny};
+ghost use Rattle.image_check.specs.OpeningBytes.{as_given};
+ghost use Rattle.image_check.specs.Passes.{CountsBlocks, CountsTiles};
+
+use crate::checking::check_noting;
+use crate::errors::OpenRefused;
+use crate::header::FRONT;
+use crate::placing::place_image;
+use crate::versions::{Versions, version_in};
+use raw_region::{RawRegion, Steps};
+use segment_manager::{Mode, Segment};
+use std::alloc::Global;
+
+/// Copies an image of any of the three formats into the region, from `base` on, which is a multiple of 16, and opens it
+/// as [`open_any`](crate::open_any) does. The bytes are all of the image.
+///
+/// # Errors
+///
+/// As [`open_bytes`](crate::open_bytes), where any of the three versions is taken for the current one.
+///
+/// `steps` is raised as there.
+pub fn open_any_bytes(
+    alloc: Global,
+    image: &[u8],
+    region: RawRegion,
+    base: u64,
+    mode: Mode,
+    steps: &mut Steps,
+) -> Result<Segment, OpenRefused>
+    requires aligned { base % 16 ≡ 0 }
+    ensures opens { OpensAny (as_given image.now) region base mode result }
+    ensures steps { IsRaisedFor (size_or_least image.now) steps.old steps.new }
+    ensures tiles { OnOk result (CountsTiles image.now steps.old steps.new) }
+    ensures blocks { OnOk result (CountsBlocks image.now steps.old steps.new) }
+    ensures late { IfErr result (λ refused. is_late refused.cause ≡ true → CountsTiles image.now steps.old steps.new) }
+{
+    let window = match place_image(Versions::All, image, region, base) {
+        Ok(window) => window,
+        Err(refused) => return Err(refused.into_opened()),
+    };
+    let format = version_in(window.header(0, FRONT as u64));
+    match check_noting(format, alloc, &window, steps) {
+        Ok(points) => Ok(window.into_segment(format, points, mode)),
+        Err(cause) => Err(OpenRefused {
+            region: window.into_region(),
+            cause: cause.into_error(),
+        }),
+    }
+}

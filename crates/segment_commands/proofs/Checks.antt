@@ -1,0 +1,116 @@
+-- What a check of several files found so far.
+use Rattle.std.proofs.Common.{◌≡◌, refl, sym, ap, subst, ◌∙◌, ℕ, Bool, List, [], ◌∷◌, ◌++◌, map, fold, max, append-nil, false, true, inl, inr, arith}
+use Rattle.std.specs.Prelude.{◌⊎◌, Option, Result, Ok, Err, MatchResult, flat_map}
+use Rattle.std.specs.List.{FoldsTo}
+use Rattle.std.specs.Result.{IsErr}
+use Rattle.std.proofs.lemmas.List.{flat_map_more, map-append}
+use Rattle.std.proofs.lemmas.List.Sums.{fold-append}
+use Rattle.raw_region.specs.Device.{Took, Writes}
+use Rattle.raw_region.proofs.Laws.{writes-cut, writes-then}
+use Rattle.segment_cli.specs.Reports.{Puts}
+use Rattle.segment_cli.specs.declared.faults.SessionFault.{SessionFault}
+use Rattle.segment_cli.specs.declared.faults.SessionFault.TheVariants.{WriteFault}
+use Rattle.segment_commands.specs.declared.command_faults.CommandFault.{CommandFault}
+use Rattle.segment_commands.specs.Checking.{Checked, ChecksAll, TellsFit, all_unfit_lines, fit_line, fit_lines, status_in, unfit_lines, worst_status}
+use Rattle.segment_commands.specs.Faults.{Session}
+use Rattle.segment_commands.specs.Opening.{VerifiesFile}
+use Rattle.segment_commands.specs.Telling.{IsBrokenOff, IsTold}
+use Rattle.segment_disk.specs.declared.presence.Trouble.{Trouble}
+use Rattle.segment_disk.specs.Events.{Event}
+
+-- ---- one more file
+
+module _ {D : Type 0} (step : D → Event → D → Type 0) where
+  abbrev pub IsAsked : D → Checked → D → Type 0
+  IsAsked d c d' = VerifiesFile step d d' c.path c.found
+
+  asked-more : (first : D) (cs : List Checked) (mid : D) (c : Checked) (last : D) → FoldsTo IsAsked first cs mid → IsAsked mid c last → FoldsTo IsAsked first (cs ++ c ∷ []) last
+  asked-more first [] mid c last p q = (last, subst (λ (d : D). IsAsked d c last) (sym p) q, refl)
+  asked-more first (x ∷ xs) mid c last p q = (p.0, p.1, asked-more p.0 xs mid c last p.2 q)
+
+unfit-more : {E F : Type 0} (old mid new : Took) (said : Result (Unit {0}) E) (said' : Result (Unit {0}) F) (cs : List Checked) (c : Checked) → Writes old mid said (all_unfit_lines cs)
+    → MatchResult said (λ u. Writes mid new said' (unfit_lines c.path c.found c.trouble)) (λ e. (new ≡ mid) × IsErr said') → Writes old new said' (all_unfit_lines (cs ++ c ∷ []))
+unfit-more old mid new (Ok u) said' cs c w h =
+    subst (λ (t : List ℕ). Writes old new said' t) (flat_map_more (λ (c : Checked). unfit_lines c.path c.found c.trouble) [] cs c)
+    (writes-then old mid new u said' (all_unfit_lines cs) (unfit_lines c.path c.found c.trouble) w h)
+unfit-more old mid new (Err e) said' cs c w h =
+    subst (λ (t : List ℕ). Writes old new said' t) (flat_map_more (λ (c : Checked). unfit_lines c.path c.found c.trouble) [] cs c)
+    (subst (λ (k : Took). Writes old k said' (all_unfit_lines cs ++ unfit_lines c.path c.found c.trouble)) (sym h.0)
+    (writes-cut old mid e said' (all_unfit_lines cs) (unfit_lines c.path c.found c.trouble) h.1 w))
+
+fit-more : {A B E F : Type 0} (quiet : Bool) (old mid new : Took) (a : A) (result : Result B F) (cs : List Checked) (c : Checked) → Writes {E = E} old mid (Ok a) (fit_lines quiet cs)
+    → Writes mid new result (fit_line quiet c.path c.found) → Writes old new result (fit_lines quiet (cs ++ c ∷ []))
+fit-more quiet old mid new a result cs c w h =
+    subst (λ (t : List ℕ). Writes old new result t) (flat_map_more (λ (c : Checked). fit_line quiet c.path c.found) [] cs c)
+    (writes-then old mid new a result (fit_lines quiet cs) (fit_line quiet c.path c.found) w h)
+
+-- ---- the files so far: these paths, with what was said on standard error, and the worst status
+
+module _ {D E : Type 0} (step : D → Event → D → Type 0) (disk : D) (err : Took) where
+  pub record Went (disk' : D) (err' : Took) (said : Result (Unit {0}) E) (paths : List (List ℕ)) (worst : ℕ) : Type 0 where
+    pub checked : List Checked
+    pub named : map (λ c. c.path) checked ≡ paths
+    pub asked : FoldsTo (IsAsked step) disk checked disk'
+    pub unfit : Writes err err' said (all_unfit_lines checked)
+    pub worst_is : worst ≡ worst_status checked
+
+  pub none_went : (said : Result (Unit {0}) E) → said ≡ Ok tt → Went disk err said [] 0
+  none_went said e = record {
+    checked = [];
+    named = refl;
+    asked = refl;
+    unfit = subst (λ (r : Result (Unit {0}) E). Writes err err r []) (sym e) (record { ok = sym (append-nil err.bytes); err = tt; counted = omega arith });
+    worst_is = refl;
+  }
+
+  pub one_more : (disk' disk'' : D) (err' err'' : Took) (said said' : Result (Unit {0}) E) (paths : List (List ℕ)) (worst : ℕ) → Went disk' err' said paths worst → (path : List ℕ)
+      (found : Result (Unit {0}) SessionFault) (trouble : Option Trouble) → VerifiesFile step disk' disk'' path found
+      → MatchResult said (λ u. Writes err' err'' said' (unfit_lines path found trouble)) (λ e. (err'' ≡ err') × IsErr said')
+      → Went disk'' err'' said' (paths ++ path ∷ []) (max worst (status_in found))
+  one_more disk' disk'' err' err'' said said' paths worst w path found trouble v h =
+      let c : Checked = record { path = path; found = found; trouble = trouble } in
+      record {
+        checked = w.checked ++ c ∷ [];
+        named = map-append (λ (c : Checked). c.path) w.checked (c ∷ []) ∙ ap (λ (ps : List (List ℕ)). ps ++ path ∷ []) w.named;
+        asked = asked-more step disk w.checked disk' c disk'' w.asked v;
+        unfit = unfit-more err err' err'' said said' w.checked c w.unfit h;
+        worst_is = ap (λ n. max n (status_in found)) w.worst_is ∙ sym (fold-append (λ n (c : Checked). max n (status_in c.found)) 0 w.checked (c ∷ []));
+      }
+
+puts : {E : Type 0} (old new : Took) (said : Result (Unit {0}) E) (text : List ℕ) → Writes old new said text → Puts old new text
+puts old new (Ok u) text w = inl (omega (arith, w.counted), w.ok)
+puts old new (Err e) text w = inr (w.counted, w.err)
+
+-- ---- the answer
+
+-- of one more file the line did not go out
+module _ {O : Type 0} (history : O → Took) (flushes : O → Bool → O → Type 0) (old mid new : O) where
+  abbrev IsLost : List ℕ → Type 0
+  IsLost text = IsBrokenOff history old new text ⊎ IsTold history flushes old new text false
+
+  pub lost-more : {A E : Type 0} (quiet : Bool) (a : A) (cs : List Checked) (c : Checked) → Writes {E = E} (history old) (history mid) (Ok a) (fit_lines quiet cs)
+      → IsBrokenOff history mid new (fit_line quiet c.path c.found) ⊎ IsTold history flushes mid new (fit_line quiet c.path c.found) false → IsLost (fit_lines quiet (cs ++ c ∷ []))
+  lost-more quiet a cs c w (inl b) =
+      let failed : Result (Unit {0}) (Unit {0}) = Err tt in
+      let both = fit-more quiet (history old) (history mid) (history new) a failed cs c w (record { ok = tt; err = b.part; counted = b.failed }) in
+      inl (record { part = both.err; failed = both.counted })
+  lost-more quiet a cs c w (inr t) =
+      let done : Result (Unit {0}) (Unit {0}) = Ok tt in
+      let both = fit-more quiet (history old) (history mid) (history new) a done cs c w (record { ok = t.bytes; err = tt; counted = (let failures = t.failures in omega (arith, failures)) }) in
+      inr (record { bytes = both.ok; failures = (let counted = both.counted in omega (arith, counted)); flushed = t.flushed })
+
+module _ {D O E : Type 0} (step : D → Event → D → Type 0) (disk disk' : D) (history : O → Took) (flushes : O → Bool → O → Type 0) (out out' : O) (err err' : Took) (said : Result (Unit {0}) E)
+    (quiet : Bool) (paths : List (List ℕ)) (worst : ℕ) (w : Went step disk err disk' err' said paths worst) where
+  -- all files were checked, and the output was flushed
+  pub all_checked : IsTold history flushes out out' (fit_lines quiet w.checked) true → ChecksAll step disk disk' history flushes out out' err err' quiet paths (Ok worst)
+  all_checked told = record { checked = w.checked; asked = w.asked; unfit = puts err err' said (all_unfit_lines w.checked) w.unfit; answer = (w.named, w.worst_is, told) }
+
+  -- the output failed behind these
+  pub broken_off : (files rest : List (List ℕ)) → files ≡ paths ++ rest → IsBrokenOff history out out' (fit_lines quiet w.checked) ⊎ IsTold history flushes out out' (fit_lines quiet w.checked) false
+      → ChecksAll step disk disk' history flushes out out' err err' quiet files (Err (Session WriteFault))
+  broken_off files rest e lost = record {
+    checked = w.checked;
+    asked = w.asked;
+    unfit = puts err err' said (all_unfit_lines w.checked) w.unfit;
+    answer = (refl, (rest, e ∙ ap (λ (ps : List (List ℕ)). ps ++ rest) (sym w.named)), lost);
+  }

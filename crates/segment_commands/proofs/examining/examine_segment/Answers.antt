@@ -1,7 +1,0 @@
-use Rattle.segment_commands.proofs.Explained.{examined_file}
-use Rattle.segment_commands.proofs.examining.examine_segment.Goals as goal
-
-pub returns : goal.returns
-returns g c =
-    examined_file g.D.Disk.step c.args.disk.now c.open.new.self c.close.new.self c.args.path.now (g.D.Reader.Source.history c.examine_from-examined.new.reader.inner)
-    c.in-Ok.ensures.asked (rw c.into_inner.ensures at c.close.ensures) c.examine_from-examined.result c.examine_from-examined.ensures

@@ -1,0 +1,71 @@
+-- What a check of several files finds, says and answers.
+use Rattle.std.specs.Prelude.{◌≡◌, ◌⊎◌, ℕ, Bool, true, false, List, [], ◌++◌, Option, Some, None, Result, Ok, Err, MatchResult, codes, flat_map, fold, map, max}
+use Rattle.std.specs.List.{FoldsTo}
+use Rattle.raw_region.specs.Device.{Took, Writes}
+use Rattle.segment_cli.specs.Reports.{Puts, line, session_status, session_words}
+use Rattle.segment_cli.specs.declared.faults.SessionFault.{SessionFault}
+use Rattle.segment_cli.specs.declared.faults.SessionFault.TheVariants.{WriteFault}
+use Rattle.segment_commands.specs.declared.command_faults.CommandFault.{CommandFault}
+use Rattle.segment_commands.specs.Faults.{Session}
+use Rattle.segment_commands.specs.Opening.{VerifiesFile}
+use Rattle.segment_commands.specs.Reports.{trouble_text}
+use Rattle.segment_commands.specs.Telling.{IsBrokenOff, IsTold}
+use Rattle.segment_disk.specs.declared.presence.Trouble.{Trouble}
+use Rattle.segment_disk.specs.Events.{Event}
+use Rattle.segment_lang.specs.Texts.{quoted_text}
+
+-- ---- one file: its path, whether it holds a segment or why it holds none, and what is told of it by the disk
+
+pub record Checked : Type 0 where
+  pub path : List ℕ
+  pub found : Result (Unit {0}) SessionFault
+  pub trouble : Option Trouble
+
+-- its line on standard output, unless the check is quiet
+abbrev pub fit_line : Bool → List ℕ → Result (Unit {0}) SessionFault → List ℕ
+fit_line true path found = []
+fit_line false path (Ok u) = quoted_text path ++ (codes ": ok\n" ++ [])
+fit_line false path (Err fault) = []
+
+-- its lines on standard error
+abbrev pub trouble_line : List ℕ → Option Trouble → List ℕ
+trouble_line path None = []
+trouble_line path (Some trouble) = trouble_text path trouble
+
+abbrev pub unfit_lines : List ℕ → Result (Unit {0}) SessionFault → Option Trouble → List ℕ
+unfit_lines path (Ok u) trouble = []
+unfit_lines path (Err fault) trouble = (quoted_text path ++ (codes ": " ++ (line (session_words fault) ++ []))) ++ trouble_line path trouble
+
+-- its status
+abbrev pub status_in : Result (Unit {0}) SessionFault → ℕ
+status_in (Ok u) = 0
+status_in (Err fault) = session_status fault
+
+-- the line of a file that holds a segment was said, or the output failed
+abbrev pub TellsFit : {O E : Type 0} → (O → Took) → (O → Bool → O → Type 0) → O → O → Bool → List ℕ → Result (Unit {0}) SessionFault → Result (Unit {0}) E → Type 0
+TellsFit {O} {E} history flushes old new quiet path found result = MatchResult result
+    (λ u. Writes {A = Unit {0}} {E = E} (history old) (history new) (Ok tt) (fit_line quiet path found))
+    (λ e. IsBrokenOff history old new (fit_line quiet path found) ⊎ IsTold history flushes old new (fit_line quiet path found) false)
+
+-- ---- all of them
+
+abbrev pub fit_lines : Bool → List Checked → List ℕ
+fit_lines quiet = flat_map (λ c. fit_line quiet c.path c.found)
+
+abbrev pub all_unfit_lines : List Checked → List ℕ
+all_unfit_lines = flat_map (λ c. unfit_lines c.path c.found c.trouble)
+
+abbrev pub worst_status : List Checked → ℕ
+worst_status = fold (λ worst c. max worst (status_in c.found)) 0
+
+-- The files of these paths were checked one after another. Where the output took what was to be said, these are all of
+-- them, and the answer is the worst status; else they are the first ones, and the answer is that the output failed.
+pub record ChecksAll {D O : Type 0} (step : D → Event → D → Type 0) (disk disk' : D) (history : O → Took) (flushes : O → Bool → O → Type 0) (out out' : O) (err err' : Took)
+    (quiet : Bool) (paths : List (List ℕ)) (result : Result ℕ CommandFault) : Type 0 where
+  pub checked : List Checked
+  pub asked : FoldsTo (λ d c d'. VerifiesFile step d d' c.path c.found) disk checked disk'
+  pub unfit : Puts err err' (all_unfit_lines checked)
+  pub answer : MatchResult result
+      (λ status. (map (λ c. c.path) checked ≡ paths) × (status ≡ worst_status checked) × IsTold history flushes out out' (fit_lines quiet checked) true)
+      (λ fault. (fault ≡ Session WriteFault) × ((rest : List (List ℕ)) × (paths ≡ map (λ c. c.path) checked ++ rest))
+      × (IsBrokenOff history out out' (fit_lines quiet checked) ⊎ IsTold history flushes out out' (fit_lines quiet checked) false))

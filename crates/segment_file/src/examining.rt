@@ -1,0 +1,90 @@
+//! The check of the image in a file, of which no segment is made.
+ghost use Rattle.std.specs.Prelude.{◌≡◌, ◌+◌};
+ghost use Rattle.raw_region.specs.Device.{given_since};
+ghost use Rattle.raw_region.specs.Format.{current};
+ghost use Rattle.image_check.specs.Opening.{IsTooSmallFor};
+ghost use Rattle.grow_shrink.specs.LargerRegion.{region_len};
+ghost use Rattle.segment_disk.specs.Events.{nothing_given};
+ghost use Rattle.segment_file.specs.Opening.{ExaminesFile, ExaminesImage, unfit_for};
+ghost use Rattle.segment_file.specs.ReadingOn.{IsFrontGiven};
+
+use crate::heading::Headed;
+use crate::opening::file_region;
+use crate::reading_on::read_on;
+use crate::unfit::Unfit;
+use image_check::{ExamineError, MemoryFault, Versions, examine, examine_bytes};
+use raw_region::{Source, Steps};
+use segment_disk::{Disk, Opened};
+use std::alloc::Global;
+
+/// Why there is no segment of an image. `None` is want of room.
+fn unexamined(error: ExamineError) -> Option<Unfit>
+    ensures { result ≡ unfit_for error }
+{
+    match error {
+        ExamineError::Image(verdict) => Some(Unfit::Image(verdict)),
+        ExamineError::RegionTooSmall => None,
+        ExamineError::OutOfMemory(refusal) => Some(Unfit::OutOfMemory(MemoryFault::BlockMap(
+            refusal,
+        ))),
+        ExamineError::ReadFault => Some(Unfit::ReadFault),
+    }
+}
+
+/// Whether an image that says more bytes than there was room for has a segment. It is read first.
+fn examine_behind<S: Source>(alloc: Global, reader: &mut Headed<S>, len: u64) -> Result<(), Unfit>
+    requires alone { IsFrontGiven (S.history reader.old.inner) }
+    requires small { IsTooSmallFor current (given_since nothing_given (S.history reader.old.inner)) 0 (region_len (len + 0)) }
+    ensures { ExaminesImage len (given_since nothing_given (S.history reader.new.inner)) result }
+{
+    let text = read_on(alloc, reader)?;
+    let region = file_region(alloc, text.len() as u64, 0)?;
+    let image = text.as_slice();
+    match examine_bytes(
+        Versions::Current,
+        alloc,
+        image,
+        region,
+        0,
+        &mut Steps::new(),
+    ) {
+        Ok(_) => Ok(()),
+        Err(refused) => match unexamined(refused.cause) {
+            Some(unfit) => Err(unfit),
+            None => unreachable!(),
+        },
+    }
+}
+
+/// Whether the image of a reader that was told to give `len` bytes has a segment.
+fn examine_image<S: Source>(alloc: Global, reader: &mut Headed<S>, len: u64) -> Result<(), Unfit>
+    requires fresh { S.history reader.old.inner ≡ nothing_given }
+    ensures { ExaminesImage len (given_since nothing_given (S.history reader.new.inner)) result }
+{
+    let region = file_region(alloc, len, 0)?;
+    match examine(alloc, reader, region, 0, &mut Steps::new()) {
+        Ok(_) => Ok(()),
+        Err(refused) => match unexamined(refused.cause) {
+            Some(unfit) => Err(unfit),
+            None => examine_behind(alloc, reader, len),
+        },
+    }
+}
+
+/// Whether the image in a file has a segment. None is made, and the file is closed.
+///
+/// # Errors
+///
+/// Those of [`open_file`](crate::open_file), a class with the place that shows it.
+pub fn examine_file<D: Disk>(alloc: Global, disk: &mut D, path: &str) -> Result<(), Unfit>
+    ensures { ExaminesFile D.step disk.old disk.new path.now result }
+{
+    let Ok(opened) = disk.open(path) else {
+        return Err(Unfit::ReadFault);
+    };
+    let Opened { reader, len } = opened;
+    let mut reader = Headed::new(reader);
+    let examined = examine_image(alloc, &mut reader, len);
+    disk.close(reader.into_inner());
+    examined
+}

@@ -1,0 +1,168 @@
+//! The opening of the image in a file, whatever it says of its size.
+ghost use Rattle.std.specs.Prelude.{◌≡◌, ◌+◌, IfErr, IfOk, length};
+ghost use Rattle.raw_region.specs.Device.{given_since};
+ghost use Rattle.raw_region.specs.Refusals.{refusal_of};
+ghost use Rattle.image_check.specs.declared.errors.OpenError.TheVariants.{RegionTooSmall};
+ghost use Rattle.image_check.specs.Formats.{format_in};
+ghost use Rattle.image_check.specs.Opening.{IsTooSmallFor};
+ghost use Rattle.image_check.specs.OpeningBytes.{as_given};
+ghost use Rattle.grow_shrink.specs.LargerRegion.{region_len};
+ghost use Rattle.segment_disk.specs.Events.{nothing_given};
+ghost use Rattle.segment_file.specs.Opening.{IsWidened, OpensAt, OpensFile, OpensImage, file_error};
+ghost use Rattle.segment_file.specs.ReadingOn.{IsFrontGiven};
+
+use crate::file_errors::FileError;
+use crate::heading::Headed;
+use crate::reading_on::read_on;
+use grow_shrink::{copy_into, region_for, size_of};
+use image_check::{
+    MemoryFault, OpenError, OpenRefused, Versions, open, open_any, open_any_bytes, open_bytes,
+};
+use raw_region::{OutOfMemory, RawRegion, Source, Steps};
+use segment_disk::{Disk, Opened};
+use segment_manager::{Mode, Segment};
+use std::alloc::Global;
+
+/// A region with room for a segment of so many bytes, and for more.
+#[tactic(auto, using(crate::proofs::Rooms::region_capped))]
+pub(crate) fn file_region(alloc: Global, bytes: u64, more: u64) -> Result<RawRegion, OutOfMemory>
+    ensures len { IfOk result (λ region. length region ≡ region_len (bytes + more)) }
+    ensures refused { IfErr result (λ refusal. refusal ≡ refusal_of (region_len (bytes + more))) }
+{
+    region_for(alloc, bytes.saturating_add(more))
+}
+
+/// Opens an image at the front of a region.
+fn open_at<S: Source>(
+    alloc: Global,
+    versions: Versions,
+    mode: Mode,
+    reader: &mut S,
+    region: RawRegion,
+) -> Result<Segment, OpenRefused>
+    requires { S.history reader.old ≡ nothing_given }
+    ensures opens { OpensAt versions (given_since nothing_given (S.history reader.new)) region mode result }
+    ensures alone { IfErr result (λ refused. refused.cause ≡ RegionTooSmall → IsFrontGiven (S.history reader.new)) }
+{
+    match versions {
+        Versions::Current => open(alloc, reader, region, 0, mode, &mut Steps::new()),
+        Versions::All => open_any(alloc, reader, region, 0, mode, &mut Steps::new()),
+    }
+}
+
+/// The same of an image that lies in memory.
+fn open_text(
+    alloc: Global,
+    versions: Versions,
+    mode: Mode,
+    text: &[u8],
+    region: RawRegion,
+) -> Result<Segment, OpenRefused>
+    ensures { OpensAt versions (as_given text.now) region mode result }
+{
+    match versions {
+        Versions::Current => open_bytes(alloc, text, region, 0, mode, &mut Steps::new()),
+        Versions::All => open_any_bytes(alloc, text, region, 0, mode, &mut Steps::new()),
+    }
+}
+
+/// Why an image is not opened. `None` is want of room.
+fn unopened(cause: OpenError) -> Option<FileError>
+    ensures { result ≡ file_error cause }
+{
+    match cause {
+        OpenError::Image(class) => Some(FileError::Image(class)),
+        OpenError::RegionTooSmall => None,
+        OpenError::OutOfMemory(refusal) => Some(FileError::OutOfMemory(MemoryFault::BlockMap(
+            refusal,
+        ))),
+        OpenError::ReadFault => Some(FileError::ReadFault),
+    }
+}
+
+/// A segment with room for so many bytes more than it has, where it has more than `len`: its file grew while it was
+/// read, and its region was made for `len` bytes.
+fn with_room(alloc: Global, segment: Segment, len: u64, more: u64) -> Result<Segment, OutOfMemory>
+    ensures { IsWidened len more segment result }
+{
+    let size = size_of(&segment);
+    if size <= len {
+        return Ok(segment);
+    }
+    let region = file_region(alloc, size, more)?;
+    Ok(copy_into(&segment, region))
+}
+
+/// The segment of an image that says more bytes than there was room for, with room for so many bytes more. The image is
+/// read first, so that it takes no more memory than it has bytes.
+fn open_behind<S: Source>(
+    alloc: Global,
+    versions: Versions,
+    mode: Mode,
+    reader: &mut Headed<S>,
+    len: u64,
+    more: u64,
+) -> Result<Segment, FileError>
+    requires alone { IsFrontGiven (S.history reader.old.inner) }
+    requires small { IsTooSmallFor (format_in versions (S.history reader.old.inner).bytes)
+        (given_since nothing_given (S.history reader.old.inner)) 0 (region_len (len + more)) }
+    ensures { OpensImage versions more mode len (given_since nothing_given (S.history reader.new.inner)) result }
+{
+    let text = read_on(alloc, reader)?;
+    let region = file_region(alloc, text.len() as u64, more)?;
+    match open_text(alloc, versions, mode, text.as_slice(), region) {
+        Ok(segment) => Ok(segment),
+        Err(refused) => match unopened(refused.cause) {
+            Some(error) => Err(error),
+            None => unreachable!(),
+        },
+    }
+}
+
+/// The segment of the image of a reader that was told to give `len` bytes, with room for so many bytes more.
+fn open_image<S: Source>(
+    alloc: Global,
+    versions: Versions,
+    mode: Mode,
+    reader: &mut Headed<S>,
+    len: u64,
+    more: u64,
+) -> Result<Segment, FileError>
+    requires fresh { S.history reader.old.inner ≡ nothing_given }
+    ensures { OpensImage versions more mode len (given_since nothing_given (S.history reader.new.inner)) result }
+{
+    let region = file_region(alloc, len, more)?;
+    match open_at(alloc, versions, mode, reader, region) {
+        Ok(segment) => Ok(with_room(alloc, segment, len, more)?),
+        Err(refused) => match unopened(refused.cause) {
+            Some(error) => Err(error),
+            None => open_behind(alloc, versions, mode, reader, len, more),
+        },
+    }
+}
+
+/// The segment in a file, of any of these versions, in a region with room for so many bytes more. The file is closed.
+///
+/// # Errors
+///
+/// `Image` with the class where the bytes of the file denote no directory. `ReadFault` where the file can't be opened
+/// or read, and `OutOfMemory`.
+pub fn open_file<D: Disk>(
+    alloc: Global,
+    disk: &mut D,
+    path: &str,
+    versions: Versions,
+    mode: Mode,
+    more: u64,
+) -> Result<Segment, FileError>
+    ensures { OpensFile D.step disk.old disk.new path.now versions mode more result }
+{
+    let Ok(opened) = disk.open(path) else {
+        return Err(FileError::ReadFault);
+    };
+    let Opened { reader, len } = opened;
+    let mut reader = Headed::new(reader);
+    let read = open_image(alloc, versions, mode, &mut reader, len, more);
+    disk.close(reader.into_inner());
+    read
+}

@@ -1,0 +1,68 @@
+//! What is done with a file that nobody keeps: it is read, checked, or written by the current format.
+ghost use Rattle.std.specs.Prelude.{◌≡◌};
+ghost use Rattle.image_check.specs.declared.versions.Versions.TheVariants.{Current};
+ghost use Rattle.segment_file.specs.Opening.{OpensFile};
+ghost use Rattle.segment_file.specs.SegmentFiles.{ChecksFile, HoldsFile, Migrates};
+
+use crate::examining::examine_file;
+use crate::file_errors::FileError;
+use crate::file_steps::migrate_held;
+use crate::opening::open_file;
+use image_check::Versions;
+use segment_disk::Disk;
+use segment_manager::{Mode, Segment};
+use std::alloc::Global;
+
+/// The segment in a file, open in a mode. What changes it changes no file: a [`SegmentFile`](crate::SegmentFile) is saved.
+///
+/// `crates/examples/src/prices.rt` has an example.
+///
+/// # Errors
+///
+/// `Image` with the class where the bytes of the file denote no directory. `ReadFault` where the file can't be opened
+/// or read, and `OutOfMemory`.
+pub fn read<D: Disk>(
+    alloc: Global,
+    disk: &mut D,
+    path: &str,
+    mode: Mode,
+) -> Result<Segment, FileError>
+    ensures { OpensFile D.step disk.old disk.new path.now Current mode 0 result }
+{
+    open_file(alloc, disk, path, Versions::Current, mode, 0)
+}
+
+/// Tells whether a file holds a segment. Nothing is opened for writing, and no segment is made.
+///
+/// `crates/examples/src/migrating.rt` has an example.
+///
+/// # Errors
+///
+/// Those of [`read`].
+pub fn check<D: Disk>(alloc: Global, disk: &mut D, path: &str) -> Result<(), FileError>
+    ensures { ChecksFile D.step disk.old disk.new path.now result }
+{
+    match examine_file(alloc, disk, path) {
+        Ok(()) => Ok(()),
+        Err(unfit) => Err(FileError::from(unfit)),
+    }
+}
+
+/// Writes the segment in a file by the current format, whichever of the three it has.
+///
+/// `crates/examples/src/migrating.rt` has an example.
+///
+/// # Errors
+///
+/// Those of [`read`], and `InUse` where another has the right to write the file: it is as it was. `WriteFault` where it
+/// can't be emptied, takes not the whole image, or need not last.
+pub fn migrate<D: Disk>(alloc: Global, disk: &mut D, path: &str) -> Result<(), FileError>
+    ensures { HoldsFile D.step disk.old disk.new path.now (λ held done. Migrates D.step held done path.now result) result }
+{
+    let Ok(mut hold) = disk.hold(path) else {
+        return Err(FileError::InUse);
+    };
+    let answer = migrate_held(alloc, disk, path, &mut hold);
+    disk.release(hold);
+    answer
+}

@@ -151,7 +151,7 @@ module _ (Asks : List ℕ → Needs → Type 0) where
       let least = t.most in
       record {
         parts = t.parts ++ p ∷ [];
-        many = length-append t.parts (p ∷ []) ∙ ap (λ n. n + 1) t.many;
+        many = omega (arith, length-append t.parts (p ∷ []), t.many);
         each = AllByRecursion-append (λ (q : Asking). Asks q.bytes q.needs) t.parts (p ∷ []) t.each (a, tt);
         is = ap (λ l. l ++ one) t.is ∙ ap (λ l. flat_map spelled t.parts ++ l) (sym (append-nil one)) ∙ sym (flat_map-append spelled t.parts (p ∷ []));
         most = record {

@@ -58,10 +58,10 @@ fn put_head<W: Sink>(said: Instance<'_>, count: u64, out: &mut W) -> Result<(), 
 }
 
 /// Writes a line that tells an object: some bytes, its name where it has one, its kind, more bytes, and a number.
-pub(crate) fn put_line<W: Sink>(
-    lead: &[u8],
-    said: Instance<'_>,
-    between: &[u8],
+pub(crate) fn put_line<'a, W: Sink>(
+    lead: &'a [u8],
+    said: Instance<'a>,
+    between: &'a [u8],
     number: u64,
     out: &mut W,
 ) -> Result<(), DeviceFault>

@@ -13,3 +13,18 @@ returns-in-Map-clause-value c = content-lined c.args.kind c.args.count c.args.te
 
 pub returns-in-String-clause-value : goal.returns-in-String-clause-value
 returns-in-String-clause-value c = content-string c.args.kind c.args.count c.args.text.now (seen c.count_string.result) c.in-String.is c.count_string.ensures.value
+
+pub returns-in-Scalar-clause-asks : goal.returns-in-Scalar-clause-asks
+returns-in-Scalar-clause-asks c = rw c.in-Scalar.is c.skip.ensures.asks
+
+pub returns-in-Vector-clause-asks : goal.returns-in-Vector-clause-asks
+returns-in-Vector-clause-asks c = rw c.in-Vector.is c.skip-in-Vector.ensures.asks
+
+pub returns-in-Map-clause-asks : goal.returns-in-Map-clause-asks
+returns-in-Map-clause-asks c = rw c.in-Map.is c.skip-in-Map.ensures.asks
+
+pub returns-in-String-clause-asks : goal.returns-in-String-clause-asks
+returns-in-String-clause-asks c = rw c.in-String.is c.count_string.ensures.asks
+
+pub returns-in-Strings-clause-asks : goal.returns-in-Strings-clause-asks
+returns-in-Strings-clause-asks c = rw c.in-Strings.is c.count_texts.ensures.asks

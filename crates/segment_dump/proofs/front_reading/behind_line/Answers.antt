@@ -7,14 +7,14 @@ bytes-init c = record { skips = record { left = λ line a g e. (line, g, e) }; f
 
 pub bytes-preserved : goal.bytes-preserved
 bytes-preserved c =
-    let other : get_or c.bytes.rest.now 0 0 ≢ 0x0A = c.if-first-eq.false in
+    let other : get_or c.bytes.rest.now 0 0 ≢ 0x0A = c.if-first-eq10.false in
     record {
       skips = skip-goes c.args.text.now c.bytes.rest.now c.in-len1-up.len_at_least other c.bytes.invariant.skips;
       first = first-goes c.args.text.now c.bytes.rest.now c.in-len1-up.len_at_least other c.bytes.invariant.first;
     }
 
-pub returns-then-first-eq-clause-skips : goal.returns-then-first-eq-clause-skips
-returns-then-first-eq-clause-skips c = skip-ends c.args.text.now c.bytes.rest.now c.in-len1-up.len_at_least c.if-first-eq.true c.bytes.invariant.skips
+pub returns-then-first-eq10-clause-skips : goal.returns-then-first-eq10-clause-skips
+returns-then-first-eq10-clause-skips c = skip-ends c.args.text.now c.bytes.rest.now c.in-len1-up.len_at_least c.if-first-eq10.true c.bytes.invariant.skips
 
-pub returns-then-first-eq-clause-lined : goal.returns-then-first-eq-clause-lined
-returns-then-first-eq-clause-lined c = first-ends c.args.text.now c.bytes.rest.now c.in-len1-up.len_at_least c.if-first-eq.true c.bytes.invariant.first
+pub returns-then-first-eq10-clause-lined : goal.returns-then-first-eq10-clause-lined
+returns-then-first-eq10-clause-lined c = first-ends c.args.text.now c.bytes.rest.now c.in-len1-up.len_at_least c.if-first-eq10.true c.bytes.invariant.first

@@ -1,4 +1,4 @@
-use Rattle.segment_dump.proofs.Common.{◌+◌, arith}
+use Rattle.segment_dump.proofs.Common.{◌+◌, [], ◌∷◌, arith}
 use Rattle.std.proofs.lemmas.Option.{IfSome_then}
 use Rattle.segment_dump.proofs.Askings.{can-name-fewer, can-name-here, can-name-more}
 use Rattle.segment_dump.proofs.Readers.{name-bare, name-long}
@@ -20,4 +20,4 @@ returns-clause-long c = can-name-here c.args.text.now c.next_word.result.0.now c
 pub returns-in-Some-clause-long : goal.returns-in-Some-clause-long
 returns-in-Some-clause-long c =
     IfSome_then c.quoted_len.result c.quoted_len.ensures.long (λ r long. can-name-fewer c.args.text.now r.1.now r.0 (1 + r.0) (omega arith)
-    (can-name-more c.args.text.now c.in-Some.rest.now r.1.now 1 r.0 (can-name-here c.args.text.now _ c.in-Some.rest.now c.in-Some.ensures) long))
+    (can-name-more c.args.text.now c.in-Some.rest.now r.1.now 1 r.0 (can-name-here c.args.text.now (0x22 ∷ []) c.in-Some.rest.now c.in-Some.ensures) long))

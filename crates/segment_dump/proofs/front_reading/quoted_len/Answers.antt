@@ -1,4 +1,4 @@
-use Rattle.segment_dump.proofs.Common.{◌+◌, length, None, sym, closed_text, Any, arith}
+use Rattle.segment_dump.proofs.Common.{◌+◌, [], ◌∷◌, length, None, sym, closed_text, Any, arith}
 use Rattle.segment_dump.proofs.Askings.{can-name-fewer, can-name-here, can-name-more, can-name-none}
 use Rattle.segment_dump.proofs.Readers.{IsShort, as-seen, quotes-cut, quotes-end, quotes-more, quotes-start}
 use Rattle.segment_dump.proofs.front_reading.quoted_len.Goals as goal
@@ -12,7 +12,7 @@ returns-in-Some-clause-value c = quotes-end c.args.text.now c.bytes.rest.now c.i
 pub returns-in-Some-clause-long : goal.returns-in-Some-clause-long
 returns-in-Some-clause-long c =
     can-name-fewer c.args.text.now c.in-Some.end.now c.bytes.len (c.bytes.len + 1) (omega arith)
-    (can-name-more c.args.text.now c.bytes.rest.now c.in-Some.end.now c.bytes.len 1 c.bytes.invariant.long (can-name-here c.bytes.rest.now _ c.in-Some.end.now c.in-Some.ensures))
+    (can-name-more c.args.text.now c.bytes.rest.now c.in-Some.end.now c.bytes.len 1 c.bytes.invariant.long (can-name-here c.bytes.rest.now (0x22 ∷ []) c.in-Some.end.now c.in-Some.ensures))
 
 pub returns-in_err-rest-clause-value : goal.returns-in_err-rest-clause-value
 returns-in_err-rest-clause-value c =

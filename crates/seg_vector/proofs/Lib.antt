@@ -3,6 +3,7 @@ pub mod Runs
 pub mod Storage
 pub mod Fewer
 pub mod Typed
+pub mod BlockRows
 pub mod TextBlocks
 pub mod TextCalls
 pub mod TextGrowth
@@ -14,6 +15,7 @@ pub use Runs.*
 pub use Storage.*
 pub use Fewer.*
 pub use Typed.*
+pub use BlockRows.*
 pub use TextBlocks.*
 pub use TextCalls.*
 pub use TextGrowth.*

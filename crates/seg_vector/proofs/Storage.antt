@@ -372,14 +372,14 @@ pub unchanged : (c : Cut) (from n : ℕ) → IsHeap current c.bytes → IsChange
 unchanged c from n heap =
     record { place = record { before = refl; after = refl }; live = heap; rest = record { at = λ k f. refl } }
 
--- an element is written over
-pub overwritten : {old new : Cut} {p : Place} {each len g : ℕ} (i : ℕ) {t : Table} {bytes : List ℕ} (more : List ℕ)
-    → Stands old.bytes p each len t bytes → i < len → length more ≡ each
+-- n elements are written over
+pub overwritten-all : {old new : Cut} {p : Place} {each len g : ℕ} (i n : ℕ) {t : Table} {bytes : List ℕ}
+    (more : List ℕ) → Stands old.bytes p each len t bytes → i + n ≤ len → length more ≡ each * n
     → link_at (bytes_of old.bytes) (place_at p) ≡ Some g → IsChanged current old new (g + each * i) (length more)
     → Has (bytes_of new.bytes) (g + each * i) more → IsRewritten old new p each len t (patched bytes (each * i) more)
-overwritten {new} {p} {each} {len} {g} i {t} {bytes} more s f e link c1 content =
-    let within = more-times each (i + 1) len (omega (arith, f)) in
-    let step : each * (i + 1) ≡ each * i + each = omega arith in
+overwritten-all {new} {p} {each} {len} {g} i n {t} {bytes} more s f e link c1 content =
+    let within = more-times each (i + n) len f in
+    let step : each * (i + n) ≡ each * i + each * n = omega arith in
     let less = more-times each len t.capacity s.fits in let total = s.long in
     let inside : each * i + length more ≤ length bytes = omega (arith, within, step, total, e) in
     rewritten (each * i) len (patched bytes (each * i) more) s link c1 (omega (arith, inside, total, less)) s.fits
@@ -387,6 +387,13 @@ overwritten {new} {p} {each} {len} {g} i {t} {bytes} more s f e link c1 content 
     (Has-patched g (each * i) bytes more inside c1.rest (storage-has s link) content)
     (unchanged new (p.handle + (p.at + 8)) 8 (laid-heap _ _ c1.live)) (ap (word_at (bytes_of new.bytes)) (omega arith)
     ∙ (written-run (each * i) s link c1 (omega (arith, inside, total, less))).words.len_word)
+
+-- one is
+pub overwritten : {old new : Cut} {p : Place} {each len g : ℕ} (i : ℕ) {t : Table} {bytes : List ℕ} (more : List ℕ)
+    → Stands old.bytes p each len t bytes → i < len → length more ≡ each
+    → link_at (bytes_of old.bytes) (place_at p) ≡ Some g → IsChanged current old new (g + each * i) (length more)
+    → Has (bytes_of new.bytes) (g + each * i) more → IsRewritten old new p each len t (patched bytes (each * i) more)
+overwritten {each = each} i more s f e = overwritten-all i 1 more s (omega (arith, f)) (omega (arith, e))
 
 -- ---- elements are left out at the end
 

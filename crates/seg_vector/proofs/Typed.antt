@@ -3,13 +3,15 @@ use W.{◌≡◌, sym, ◌∙◌, ℕ, suc, ◌+◌, ◌*◌, ◌<◌, ◌∷◌
 use W.{refl, zero, Bool, true, List, ◌++◌, take, drop, arith, false, Some, Table, Place, Result, Grows, Stands, IsText}
 use W.{ap, if◌then◌else◌, length-append, take-append-add, drop-append-add, length-insert, length-remove, IsWithoutSpace}
 use W.{subst, list_all-append, take-append-drop, flat_map-append, take-append_seam, capacity_for_one, capacity_for_text}
-use W.{length, append_assoc, append-nil, length-take, MatchResult, IsRewritten, IsTextGrown, IsVectorGrown, IsVectorNow}
+use W.{length, append_assoc, append-nil, length-take, length-drop, MatchResult, IsRewritten, IsTextGrown, IsVectorGrown, IsVectorNow}
 use W.{IsTrue, insert, remove, nat_le, patched, word_at, live_of, Refusal, Erases, Extends, Inserts, IsGrown, drop-nil}
 use W.{flat_map, list_all, and_from, leb-true, bytes_of, no_table, ReadsOne, IsVector, take-nil, KeepsGaps, gaps-refl}
 use W.{slice_get, slice_set, and_parts, length-set, GivesBack, Overwrites, Truncates, IsStanding, IsTextNow, gaps-trans}
-use Rattle.seg_vector.proofs.Storage.{capacity-bytes, exchange-then, grown-gaps, has-place, not-refused, same-storage}
+use Rattle.seg_vector.proofs.Storage.{at-least, capacity-bytes, exchange-then, grown-gaps, has-place, not-refused, same-storage}
 use Rattle.seg_vector.proofs.{Storage.unchanged-rewritten, Storage.wanted-places, Runs.same-some}
 use Rattle.best_fit.specs.Table.{cut_table}
+use Rattle.raw_region.proofs.Laws.{patched-append}
+use Rattle.seg_vector.specs.{Vector.capacity_for_more, VectorCalls.replaced}
 use Rattle.seg_vector.proofs.Words as W
 
 -- ---- what holds of each
@@ -38,6 +40,17 @@ all-at test [] i v e = absurd (cc)
 all-at test (y ∷ ys) zero v e = subst (λ z. test z ≡ true) (same-some e) (and_parts (test y) (list_all test ys) v).0
 all-at test (y ∷ ys) (suc i) v e = all-at test ys i (and_parts (test y) (list_all test ys) v).1 e
 
+-- and one more
+pub all-next : {T : Type 0} → (test : T → Bool) (xs : List T) (y : T) → IsTrue (list_all test xs) → test y ≡ true
+    → IsTrue (list_all test (xs ++ y ∷ []))
+all-next test xs y v e = all-both test xs (y ∷ []) v (all-one test y e)
+
+-- others over those from one on, where there is none of them
+pub replaced-none : {T : Type 0} → (xs : List T) (i : ℕ) (ys : List T) → length ys ≡ 0 → xs ≡ replaced xs i ys
+replaced-none xs i [] e =
+    let at : i ≡ i + 0 = omega arith in sym (take-append-drop i xs) ∙ ap (λ k. take i xs ++ drop k xs) at
+replaced-none xs i (y ∷ ys) e = absurd (omega (arith, e))
+
 -- ---- one element
 
 pub has-element : {T : Type 0} → (xs : List T) (i : ℕ) → i < length xs → (x : T) × (slice_get xs i ≡ Some x)
@@ -57,6 +70,26 @@ module _ {T : Type 0} (size : ℕ) (test : T → Bool) (sp : T → List ℕ)
     (spells : (x : T) → test x ≡ true → length (sp x) ≡ size) where
   one-more : (n : ℕ) (x : T) → test x ≡ true → size * suc n ≡ length (sp x) + size * n
   one-more n x e = let step : size * suc n ≡ size + size * n = omega arith in omega (arith, step, spells x e)
+
+  -- as many bytes as there are in all
+  pub flat-long : (xs : List T) → IsTrue (list_all test xs) → length (flat_map sp xs) ≡ size * length xs
+  flat-long [] v = let none : 0 ≡ size * 0 = omega arith in none
+  flat-long (x ∷ xs) v =
+      let both = and_parts (test x) (list_all test xs) v in
+      length-append (sp x) (flat_map sp xs) ∙ ap (λ k. length (sp x) + k) (flat-long xs both.1)
+      ∙ sym (one-more (length xs) x both.0)
+
+  -- one more that is spelled behind others
+  pub spelled-next : (row : List ℕ) (from : ℕ) (front : List T) (y : T) → IsTrue (list_all test front) → test y ≡ true
+      → from + size * length front + size ≤ length row
+      → patched (patched row from (flat_map sp front)) (from + size * length front) (sp y)
+      ≡ patched row from (flat_map sp (front ++ y ∷ []))
+  spelled-next row from front y v e inside =
+      let long = flat-long front v in
+      ap (λ k. patched (patched row from (flat_map sp front)) (from + k) (sp y)) (sym long)
+      ∙ patched-append row from (flat_map sp front) (sp y) (omega (arith, long, spells y e, inside))
+      ∙ ap (λ bs. patched row from bs) (ap (λ bs. flat_map sp front ++ bs) (sym (append-nil (sp y)))
+      ∙ sym (flat_map-append sp front (y ∷ [])))
 
   -- the first elements have the first bytes
   pub flat-take : (n : ℕ) (xs : List T) → IsTrue (list_all test xs) → take (size * n) (flat_map sp xs) ≡ flat_map sp
@@ -104,6 +137,16 @@ module _ {T : Type 0} (size : ℕ) (test : T → Bool) (sp : T → List ℕ)
       (take i xs) ++ (flat_map sp ys ++ flat_map sp (drop j xs)) = λ n. front n ++ (flat_map sp ys ++ back n) in
       both ∙ ap (λ bs. flat_map sp (take i xs) ++ bs) (sym (flat_map-append sp ys (drop j xs)))
       ∙ sym (flat_map-append sp (take i xs) (ys ++ drop j xs))
+
+  -- others in the places from one on
+  pub flat-replaced : (xs : List T) (i : ℕ) (ys : List T) → IsTrue (list_all test xs) → IsTrue (list_all test ys)
+      → patched (flat_map sp xs) (size * i) (flat_map sp ys) ≡ flat_map sp (replaced xs i ys)
+  flat-replaced xs i ys v w =
+      let fs : List ℕ = flat_map sp xs in let long = flat-long ys w in
+      let step : size * (i + length ys) ≡ size * i + size * length ys = omega arith in
+      let behind : size * i + length (flat_map sp ys) ≡ size * (i + length ys) = omega (arith, step, long) in
+      append_assoc (take (size * i) fs) (flat_map sp ys) (drop (size * i + length (flat_map sp ys)) fs)
+      ∙ flat-edit xs i (i + length ys) (size * i + length (flat_map sp ys)) ys behind v
 
   -- another one in its place
   pub flat-set : (xs : List T) (i : ℕ) (y : T) → IsTrue (list_all test xs) → i < length xs → test y ≡ true
@@ -289,6 +332,22 @@ module _ {T : Type 0} {size : ℕ} {test : T → Bool} {sp : T → List ℕ} (ol
       good) (subst (λ l. IsTrue (list_all test l)) (sym (set-pieces xs i y f)) (all-edit test xs i (suc i) (y ∷ [])
       v.values (all-one test y good)))
 
+  pub replaced-now : (i : ℕ) (ys : List T) → ((x : T) → test x ≡ true → length (sp x) ≡ size)
+      → i + length ys ≤ length xs → IsTrue (list_all test ys) → Overwrites old mid p k i (flat_map sp ys)
+      → IsVectorNow size test sp old mid p t (replaced xs i ys) t
+  replaced-now i ys spells f w h =
+      let r = subst (λ j. Overwrites old mid p j i (flat_map sp ys)) e h (length xs) t (flat_map sp xs) v.stands in
+      let long : length xs ≡ length (replaced xs i ys) = omega (
+        arith,
+        f,
+        length-append (take i xs) (ys ++ drop (i + length ys) xs),
+        length-append ys (drop (i + length ys) xs),
+        length-take i xs,
+        length-drop (i + length ys) xs,
+      ) in
+      vector-now test sp (replaced xs i ys) r long (flat-replaced size test sp spells xs i ys v.values w)
+      (all-edit test xs i (i + length ys) ys v.values w)
+
   pub appended-now : (y : T) → test y ≡ true → Extends old mid p k 1 (sp y)
       → IsVectorNow size test sp old mid p t (xs ++ y ∷ []) t
   appended-now y good h =
@@ -322,6 +381,29 @@ module _ {T : Type 0} {size : ℕ} {test : T → Bool} {sp : T → List ℕ} (ol
   released-now h =
       let r = subst (GivesBack old mid p) e h (length xs) t (flat_map sp xs) v.stands in
       record { change = r.change; gaps = r.gaps; vector = record { stands = r.stands; values = refl } }
+
+-- ---- capacities for more
+
+-- it is enough
+pub enough-for-more : (len more c : ℕ) → len + more ≤ capacity_for_more len more c
+enough-for-more len more c = by-test (nat_le (len + more) c) refl
+  where
+    by-test : (b : Bool) → nat_le (len + more) c ≡ b → len + more ≤ (if b then c else max (max 4 (2 * c)) (len + more))
+    by-test true e = leb-true (len + more) c e
+    by-test false e = grind arith
+
+pub wanted-for-more : {w len capacity n k : ℕ} (more : ℕ) → w ≡ capacity_for_more len more capacity → len ≡ n
+    → capacity ≡ k → w ≡ capacity_for_more n more k
+wanted-for-more more e f g = e ∙ (λ i. capacity_for_more (f i) more (g i))
+
+-- a vector has few elements and places
+pub few-places : {T : Type 0} {size : ℕ} {test : T → Bool} {sp : T → List ℕ} (c : Cut) {p : Place} {xs : List T}
+    {t : Table} → 1 ≤ size → IsVector size test sp c.bytes p xs t
+    → (length xs ≤ t.capacity) × (t.capacity < 1073741824)
+few-places {size = size} c {t = t} some v = (
+  v.stands.fits,
+  omega (arith, capacity-bytes c v.stands.heap v.stands, at-least size t.capacity some),
+)
 
 -- ---- what the calls on bytes do, for texts
 

@@ -7,6 +7,7 @@ ghost use Rattle.seg_vector.specs.Elements.{Erases, Extends, HasSpot, Overwrites
 ghost use Rattle.seg_vector.specs.Standing.{IsStanding, capacity_at, len_at};
 
 use crate::places::{LEN, len_of, link_of};
+use best_fit::theorems::loans_write_one_block;
 use best_fit::{Heap, Place};
 use seg_types::{MAX_SPELLING_LEN, Plain, SHORT_SPELLING_LEN};
 
@@ -169,6 +170,7 @@ pub fn spell<T: Plain>(heap: &mut Heap, handle: u64, at: u64, values: &[T])
     ensures change { IsChanged current heap.old heap.new (handle + at) (T.SIZE * length values.now) }
     ensures content { Has (bytes_of heap.new.bytes) (handle + at) (flat_map T.spelling values.now) }
 {
+    loans_write_one_block();
     put_spellings(heap.block_mut(handle), at as usize, values);
 }
 

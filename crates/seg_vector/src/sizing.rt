@@ -75,6 +75,7 @@ pub fn point_to(heap: &mut Heap, place: Place, array: u64, n: u64)
 /// # Errors
 ///
 /// `NoSpace` where a new block is needed and has no gap that is long enough. Nothing changes.
+#[inline(always)]
 pub fn reserve(heap: &mut Heap, place: Place, each: u64, n: u64) -> Result<(), Refusal>
     requires stands { IsStanding heap.old.bytes place each }
     requires some { 1 ≤ each }

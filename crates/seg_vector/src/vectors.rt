@@ -106,7 +106,7 @@ impl<T: Plain> SegVec<T> {
     /// `OutOfRange` where there are not so many. Nothing changes.
     pub fn overwrite(self, heap: &mut Heap, first: u64, values: &[T]) -> Result<(), Refusal>
         requires { IsSomeVector T.SIZE T.is_value T.spelling heap.old.bytes self.place }
-        ensures { SetsAll T.SIZE T.is_value T.spelling heap.old heap.new self.place first values.now result }
+        ensures sets { SetsAll T.SIZE T.is_value T.spelling heap.old heap.new self.place first values.now result }
         ensures none { length values.now ≡ 0 → heap.new ≡ heap.old }
     {
         let len = self.len(heap);

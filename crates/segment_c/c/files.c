@@ -24,7 +24,7 @@ struct zx_held_file {
     zx_segment *mapped;        /* the segment that lies in its mapping, or null */
     uint8_t *at;               /* the mapping, of `len` bytes */
     uint64_t len;
-    pid_t owner;               /* the process that opened it */
+    unsigned forks;            /* of the process that opened it */
     int folder;                /* where the name stands; of a mapped file that existed AT_FDCWD, and its name is a path */
     int file;                  /* with its lock; -1 if none exists under the name */
     bool is_read;              /* mapped and not changed: others may map it too */
@@ -82,6 +82,9 @@ const char *zx_message(zx_code code) {
 static pthread_mutex_t guard = PTHREAD_MUTEX_INITIALIZER;
 static pthread_once_t is_watching = PTHREAD_ONCE_INIT;
 static struct zx_held_file *all_held;
+static unsigned forks; /* how often this process was forked off, with its parents: in a child it is another number */
+
+static bool is_own(const struct zx_held_file *held) { return held->forks == forks; }
 
 static void before_fork(void) { pthread_mutex_lock(&guard); }
 static void after_fork(void) { pthread_mutex_unlock(&guard); }
@@ -95,6 +98,7 @@ static void close_all(struct zx_held_file *held) {
 /* A child has no mapping either, so its segment is closed, and no view is current. The box of its handle stays
    behind. */
 static void in_child(void) {
+    forks++;
     for (struct zx_held_file *each = all_held; each; each = each->next) {
         close_all(each);
         if (!each->mapped) continue;
@@ -123,7 +127,7 @@ static void release(struct zx_held_file *held) {
     while (*at && *at != held) at = &(*at)->next;
     if (*at) *at = held->next;
     pthread_mutex_unlock(&guard);
-    if (held->file >= 0 && held->owner == getpid()) flock(held->file, LOCK_UN);
+    if (held->file >= 0 && is_own(held)) flock(held->file, LOCK_UN);
     close_all(held);
     free(held);
 }
@@ -141,8 +145,8 @@ static bool leads_to(int folder, const char *name, const struct stat *file) {
 /* Removes the file if it was created and never saved, and releases it. */
 static void abandon(struct zx_held_file *held) {
     struct stat own;
-    bool is_own = held->is_new && held->owner == getpid() && fstat(held->file, &own) == 0;
-    if (is_own && leads_to(held->folder, held->name, &own)) unlinkat(held->folder, held->name, 0);
+    bool is_new = held->is_new && is_own(held) && fstat(held->file, &own) == 0;
+    if (is_new && leads_to(held->folder, held->name, &own)) unlinkat(held->folder, held->name, 0);
     release(held);
 }
 
@@ -324,7 +328,7 @@ static zx_code keep(const char *path, struct zx_held_file **found) {
     struct zx_held_file *held = calloc(1, sizeof *held + strlen(path) + 1);
     if (!held) return ZX_NO_MEMORY;
     strcpy(held->name, path);
-    held->owner = getpid();
+    held->forks = forks;
     held->file = -1;
     held->folder = AT_FDCWD;
     enlist(held);
@@ -348,7 +352,7 @@ static zx_code find(zx_file *file, const char *path, struct zx_held_file **found
         memcpy(held->name, name, len);
         memcpy(folder, path, before);
         memcpy(folder + before, ".", 2);
-        held->owner = getpid();
+        held->forks = forks;
         held->file = -1;
         held->folder = open(folder, O_PATH | O_DIRECTORY | O_CLOEXEC);
     }
@@ -479,9 +483,9 @@ static uint64_t size_said(const uint8_t *image) {
     return size;
 }
 
-/* Where files of one length are mapped again and again: between two pages that stay. With what lies beside a mapping the
-   system keeps its tables for both ends of it; to make and free them would cost as much as all else that an opening asks
-   of it. */
+/* Where files of one length are mapped again and again: between two pages that stay, and for a short one at the front of
+   what one table of the system covers. With what lies beside a mapping the system keeps its tables for both ends of it;
+   to make and free them would cost as much as all else that an opening asks of it. */
 static struct {
     uint8_t *at;  /* null if there are no such pages */
     uint64_t len; /* of the file that was mapped last, in whole pages */
@@ -497,8 +501,14 @@ static void move_place(size_t page, uint64_t len) {
     bool is_second = place.len == len;
     place.len = len;
     if (!is_second) return;
-    uint8_t *at = mmap(NULL, len + 2 * page, PROT_NONE, MAP_PRIVATE | MAP_ANONYMOUS | MAP_NORESERVE, -1, 0);
-    if (at != MAP_FAILED && munmap(at + page, len) == 0) place.at = at + page;
+    size_t table = page / 8 * page, room = len + table + 2 * page;
+    uint8_t *from = mmap(NULL, room, PROT_NONE, MAP_PRIVATE | MAP_ANONYMOUS | MAP_NORESERVE, -1, 0);
+    if (from == MAP_FAILED) return;
+    size_t before = table - (uintptr_t)from % table;
+    place.at = from + before + page;
+    munmap(from, before);
+    munmap(place.at, len);
+    if (before < table) munmap(place.at + len + page, table - before);
 }
 
 /* Where a file of a length may be mapped, if nothing else is there by then; null if that does not matter. */
@@ -554,7 +564,7 @@ static void unmap(zx_file *file, struct zx_held_file *held) {
     bool is_long = !held->is_read && file->segment.lent && zx_size(&file->segment, &size) == ZX_DONE &&
                    (size != held->len || held->is_uncut);
     zx_close(&file->segment);
-    if (held->owner != getpid()) return;
+    if (!is_own(held)) return;
     // a child that is forked from here on has another mapping there, maybe
     pthread_mutex_lock(&guard);
     held->mapped = NULL;
@@ -645,7 +655,7 @@ zx_code zx_file_flush(zx_file *file) {
     if (!held || !held->mapped) return zx_file_save(file);
     file->error = 0;
     if (held->is_read) return ZX_READ_ONLY;
-    if (held->owner != getpid()) return faulty(file, ZX_FILE_FORKED, EPERM);
+    if (!is_own(held)) return faulty(file, ZX_FILE_FORKED, EPERM);
     if (msync(held->at, held->len, MS_SYNC) != 0) return fault(file);
     return held->is_unsynced ? sync_name(file, held) : (zx_code)ZX_DONE;
 }
@@ -771,7 +781,7 @@ zx_code zx_file_save(zx_file *file) {
     if (code != ZX_DONE) return code;
     if (how != ZX_WRITE) return ZX_READ_ONLY;
     if (!file->held) return ZX_FILE_NONE;
-    if (file->held->owner != getpid()) return faulty(file, ZX_FILE_FORKED, EPERM);
+    if (!is_own(file->held)) return faulty(file, ZX_FILE_FORKED, EPERM);
     if (file->held->mapped) return zx_file_flush(file);
     if (is_saved(&file->segment, file->held)) return ZX_DONE;
     code = image_of(&file->segment, &image);
@@ -822,7 +832,7 @@ zx_code zx_file_save_as(zx_file *file, const char *path, uint32_t mode) {
     if (!path) return ZX_NULL_SLICE;
     if (mode < ZX_CREATE_ONLY || mode > ZX_OPEN_OR_CREATE) return ZX_BAD_MODE;
     if (mode != ZX_CREATE_ONLY && file->held) {
-        if (file->held->owner != getpid()) return faulty(file, ZX_FILE_FORKED, EPERM);
+        if (!is_own(file->held)) return faulty(file, ZX_FILE_FORKED, EPERM);
         if (leads_home(file->held, path)) return zx_file_save(file);
     }
     zx_code code = image_of(&file->segment, &image);

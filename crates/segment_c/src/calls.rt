@@ -30,6 +30,7 @@ macro_rules! passed {
 pub(crate) use passed;
 
 /// The key of an object that is there, and the segment.
+#[inline(always)]
 pub fn enter<'a>(
     alloc: Global,
     h: &mut Handle,
@@ -44,6 +45,7 @@ pub fn enter<'a>(
 }
 
 /// The same, and a value that is passed.
+#[inline(always)]
 pub fn enter_with<'a>(
     alloc: Global,
     h: &mut Handle,

@@ -37,16 +37,34 @@ impl Value {
     /// # Errors
     ///
     /// The code by which it is refused.
-    #[tactic(auto, unfolding(crate::specs::Passed::scalar_in))]
     pub fn scalar(&self) -> Result<ScalarValue, u32>
         ensures { MatchResult result (λ value. scalar_in self.now ≡ Some (kind_of_scalar value, value_of_scalar value)) (λ code. (code ≡ 20) × (scalar_in self.now ≡ None)) }
     {
-        let kind = scalar_kind(self.kind).ok_or(BAD_VALUE)?;
-        let number = match kind {
-            ScalarKind::I32 | ScalarKind::I64 => i128::from(self.number),
-            _ => i128::from(self.natural),
-        };
-        ScalarValue::of_number(kind, number).ok_or(BAD_VALUE)
+        self.read().ok_or(BAD_VALUE)
+    }
+
+    /// The same, if there is one.
+    #[tactic(auto, unfolding(crate::specs::Passed::scalar_in, crate::specs::Passed::scalar_kind_of))]
+    fn read(&self) -> Option<ScalarValue>
+        ensures { option_map (λ value. (kind_of_scalar value, value_of_scalar value)) result ≡ scalar_in self.now }
+    {
+        let Value {
+            kind,
+            number,
+            natural,
+        } = *self;
+        match kind {
+            1 => match natural {
+                0 => Some(ScalarValue::Bool(false)),
+                1 => Some(ScalarValue::Bool(true)),
+                _ => None,
+            },
+            2 => u8::try_from(natural).ok().map(ScalarValue::U8),
+            3 => i32::try_from(number).ok().map(ScalarValue::I32),
+            4 => Some(ScalarValue::I64(number)),
+            5 => Some(ScalarValue::U64(natural)),
+            _ => None,
+        }
     }
 
     /// The scalar as it is given.

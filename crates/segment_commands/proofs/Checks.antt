@@ -44,52 +44,18 @@ fit-more quiet old mid new a result cs c w h =
     subst (λ (t : List ℕ). Writes old new result t) (flat_map_more (λ (c : Checked). fit_line quiet c.path c.found) [] cs c)
     (writes-then old mid new a result (fit_lines quiet cs) (fit_line quiet c.path c.found) w h)
 
--- ---- the files so far: these paths, with what was said on standard error, and the worst status
-
-module _ {D E : Type 0} (step : D → Event → D → Type 0) (disk : D) (err : Took) where
-  pub record Went (disk' : D) (err' : Took) (said : Result (Unit {0}) E) (paths : List (List ℕ)) (worst : ℕ) : Type 0 where
-    pub checked : List Checked
-    pub named : map (λ c. c.path) checked ≡ paths
-    pub asked : FoldsTo (IsAsked step) disk checked disk'
-    pub unfit : Writes err err' said (all_unfit_lines checked)
-    pub worst_is : worst ≡ worst_status checked
-
-  pub none_went : (said : Result (Unit {0}) E) → said ≡ Ok tt → Went disk err said [] 0
-  none_went said e = record {
-    checked = [];
-    named = refl;
-    asked = refl;
-    unfit = subst (λ (r : Result (Unit {0}) E). Writes err err r []) (sym e) (record { ok = sym (append-nil err.bytes); err = tt; counted = omega arith });
-    worst_is = refl;
-  }
-
-  pub one_more : (disk' disk'' : D) (err' err'' : Took) (said said' : Result (Unit {0}) E) (paths : List (List ℕ)) (worst : ℕ) → Went disk' err' said paths worst → (path : List ℕ)
-      (found : Result (Unit {0}) SessionFault) (trouble : Option Trouble) → VerifiesFile step disk' disk'' path found
-      → MatchResult said (λ u. Writes err' err'' said' (unfit_lines path found trouble)) (λ e. (err'' ≡ err') × IsErr said')
-      → Went disk'' err'' said' (paths ++ path ∷ []) (max worst (status_in found))
-  one_more disk' disk'' err' err'' said said' paths worst w path found trouble v h =
-      let c : Checked = record { path = path; found = found; trouble = trouble } in
-      record {
-        checked = w.checked ++ c ∷ [];
-        named = map-append (λ (c : Checked). c.path) w.checked (c ∷ []) ∙ ap (λ (ps : List (List ℕ)). ps ++ path ∷ []) w.named;
-        asked = asked-more step disk w.checked disk' c disk'' w.asked v;
-        unfit = unfit-more err err' err'' said said' w.checked c w.unfit h;
-        worst_is = ap (λ n. max n (status_in found)) w.worst_is ∙ sym (fold-append (λ n (c : Checked). max n (status_in c.found)) 0 w.checked (c ∷ []));
-      }
-
 puts : {E : Type 0} (old new : Took) (said : Result (Unit {0}) E) (text : List ℕ) → Writes old new said text → Puts old new text
-puts old new (Ok u) text w = inl (omega (arith, w.counted), w.ok)
+puts old new (Ok u) text w = inl ((let counted = w.counted in omega (arith, counted)), w.ok)
 puts old new (Err e) text w = inr (w.counted, w.err)
 
--- ---- the answer
+named-more : (cs : List Checked) (paths : List (List ℕ)) (c : Checked) → map (λ c. c.path) cs ≡ paths → map (λ c. c.path) (cs ++ c ∷ []) ≡ paths ++ c.path ∷ []
+named-more cs paths c e = map-append (λ (c : Checked). c.path) cs (c ∷ []) ∙ ap (λ (ps : List (List ℕ)). ps ++ c.path ∷ []) e
 
 -- of one more file the line did not go out
 module _ {O : Type 0} (history : O → Took) (flushes : O → Bool → O → Type 0) (old mid new : O) where
-  abbrev IsLost : List ℕ → Type 0
-  IsLost text = IsBrokenOff history old new text ⊎ IsTold history flushes old new text false
-
-  pub lost-more : {A E : Type 0} (quiet : Bool) (a : A) (cs : List Checked) (c : Checked) → Writes {E = E} (history old) (history mid) (Ok a) (fit_lines quiet cs)
-      → IsBrokenOff history mid new (fit_line quiet c.path c.found) ⊎ IsTold history flushes mid new (fit_line quiet c.path c.found) false → IsLost (fit_lines quiet (cs ++ c ∷ []))
+  lost-more : {A E : Type 0} (quiet : Bool) (a : A) (cs : List Checked) (c : Checked) → Writes {E = E} (history old) (history mid) (Ok a) (fit_lines quiet cs)
+      → IsBrokenOff history mid new (fit_line quiet c.path c.found) ⊎ IsTold history flushes mid new (fit_line quiet c.path c.found) false
+      → IsBrokenOff history old new (fit_lines quiet (cs ++ c ∷ [])) ⊎ IsTold history flushes old new (fit_lines quiet (cs ++ c ∷ [])) false
   lost-more quiet a cs c w (inl b) =
       let failed : Result (Unit {0}) (Unit {0}) = Err tt in
       let both = fit-more quiet (history old) (history mid) (history new) a failed cs c w (record { ok = tt; err = b.part; counted = b.failed }) in
@@ -99,18 +65,81 @@ module _ {O : Type 0} (history : O → Took) (flushes : O → Bool → O → Typ
       let both = fit-more quiet (history old) (history mid) (history new) a done cs c w (record { ok = t.bytes; err = tt; counted = (let failures = t.failures in omega (arith, failures)) }) in
       inr (record { bytes = both.ok; failures = (let counted = both.counted in omega (arith, counted)); flushed = t.flushed })
 
-module _ {D O E : Type 0} (step : D → Event → D → Type 0) (disk disk' : D) (history : O → Took) (flushes : O → Bool → O → Type 0) (out out' : O) (err err' : Took) (said : Result (Unit {0}) E)
-    (quiet : Bool) (paths : List (List ℕ)) (worst : ℕ) (w : Went step disk err disk' err' said paths worst) where
-  -- all files were checked, and the output was flushed
-  pub all_checked : IsTold history flushes out out' (fit_lines quiet w.checked) true → ChecksAll step disk disk' history flushes out out' err err' quiet paths (Ok worst)
-  all_checked told = record { checked = w.checked; asked = w.asked; unfit = puts err err' said (all_unfit_lines w.checked) w.unfit; answer = (w.named, w.worst_is, told) }
+-- ---- the files so far
 
-  -- the output failed behind these
-  pub broken_off : (files rest : List (List ℕ)) → files ≡ paths ++ rest → IsBrokenOff history out out' (fit_lines quiet w.checked) ⊎ IsTold history flushes out out' (fit_lines quiet w.checked) false
-      → ChecksAll step disk disk' history flushes out out' err err' quiet files (Err (Session WriteFault))
-  broken_off files rest e lost = record {
-    checked = w.checked;
-    asked = w.asked;
-    unfit = puts err err' said (all_unfit_lines w.checked) w.unfit;
-    answer = (refl, (rest, e ∙ ap (λ (ps : List (List ℕ)). ps ++ rest) (sym w.named)), lost);
+module _ {D O E : Type 0} (step : D → Event → D → Type 0) (history : O → Took) (flushes : O → Bool → O → Type 0) (disk : D) (err : Took) (out : O) (quiet : Bool) where
+  -- the files of these paths were checked, the output took their lines, and this is their worst status
+  pub record Going (disk' : D) (err' : Took) (out' : O) (said : Result (Unit {0}) E) (paths : List (List ℕ)) (worst : ℕ) : Type 0 where
+    pub checked : List Checked
+    pub named : map (λ c. c.path) checked ≡ paths
+    pub asked : FoldsTo (IsAsked step) disk checked disk'
+    pub unfit : Writes err err' said (all_unfit_lines checked)
+    pub fit : Writes {A = Unit {0}} {E = Unit {0}} (history out) (history out') (Ok tt) (fit_lines quiet checked)
+    pub worst_is : worst ≡ worst_status checked
+
+  pub none_going : (said : Result (Unit {0}) E) → said ≡ Ok tt → Going disk err out said [] 0
+  none_going said e = record {
+    checked = [];
+    named = refl;
+    asked = refl;
+    unfit = subst (λ (r : Result (Unit {0}) E). Writes err err r []) (sym e) (record { ok = sym (append-nil err.bytes); err = tt; counted = omega arith });
+    fit = record { ok = sym (append-nil (history out).bytes); err = tt; counted = omega arith };
+    worst_is = refl;
   }
+
+  module _ (disk' disk'' : D) (err' err'' : Took) (out' out'' : O) (said said' : Result (Unit {0}) E) (paths : List (List ℕ)) (worst : ℕ) (going : Going disk' err' out' said paths worst)
+      (path : List ℕ) (found : Result (Unit {0}) SessionFault) (trouble : Option Trouble) (asked : VerifiesFile step disk' disk'' path found)
+      (unfit : MatchResult said (λ u. Writes err' err'' said' (unfit_lines path found trouble)) (λ e. (err'' ≡ err') × IsErr said')) where
+    pub going_more : {F : Type 0} → Writes {A = Unit {0}} {E = F} (history out') (history out'') (Ok tt) (fit_line quiet path found) → Going disk'' err'' out'' said' (paths ++ path ∷ []) (max worst (status_in found))
+    going_more w =
+        let done : Result (Unit {0}) (Unit {0}) = Ok tt in
+        let c : Checked = record { path = path; found = found; trouble = trouble } in
+        record {
+          checked = going.checked ++ c ∷ [];
+          named = named-more going.checked paths c going.named;
+          asked = asked-more step disk going.checked disk' c disk'' going.asked asked;
+          unfit = unfit-more err err' err'' said said' going.checked c going.unfit unfit;
+          fit = fit-more quiet (history out) (history out') (history out'') tt done going.checked c going.fit (record { ok = w.ok; err = tt; counted = w.counted });
+          worst_is = ap (λ n. max n (status_in found)) going.worst_is ∙ sym (fold-append (λ n (c : Checked). max n (status_in c.found)) 0 going.checked (c ∷ []));
+        }
+
+    -- the line of the last one did not go out
+    pub going_lost : IsBrokenOff history out' out'' (fit_line quiet path found) ⊎ IsTold history flushes out' out'' (fit_line quiet path found) false → (files rest : List (List ℕ))
+        → files ≡ (paths ++ path ∷ []) ++ rest → ChecksAll step disk disk'' history flushes out out'' err err'' quiet files (Err (Session WriteFault))
+    going_lost lost files rest e =
+        let c : Checked = record { path = path; found = found; trouble = trouble } in
+        record {
+          checked = going.checked ++ c ∷ [];
+          asked = asked-more step disk going.checked disk' c disk'' going.asked asked;
+          unfit = puts err err'' said' (all_unfit_lines (going.checked ++ c ∷ [])) (unfit-more err err' err'' said said' going.checked c going.unfit unfit);
+          answer = (
+            refl,
+            (rest, e ∙ ap (λ (ps : List (List ℕ)). ps ++ rest) (sym (named-more going.checked paths c going.named))),
+            lost-more history flushes out out' out'' quiet tt going.checked c going.fit lost,
+          );
+        }
+
+  -- behind the last file
+  module _ (disk' : D) (err' : Took) (out' out'' : O) (said : Result (Unit {0}) E) (files : List (List ℕ)) (worst : ℕ) (going : Going disk' err' out' said files worst) (same : history out'' ≡ history out') where
+    all_told : (ok : Bool) → flushes out' ok out'' → IsTold history flushes out out'' (fit_lines quiet going.checked) ok
+    all_told ok flush = record {
+      bytes = ap (λ (t : Took). t.bytes) same ∙ going.fit.ok;
+      failures = (let counted = going.fit.counted in let failures = ap (λ (t : Took). t.failures) same in omega (arith, counted, failures));
+      flushed = record { before = out'; flush = flush; same = same };
+    }
+
+    pub going_done : flushes out' true out'' → ChecksAll step disk disk' history flushes out out'' err err' quiet files (Ok worst)
+    going_done flush = record {
+      checked = going.checked;
+      asked = going.asked;
+      unfit = puts err err' said (all_unfit_lines going.checked) going.unfit;
+      answer = (going.named, going.worst_is, all_told true flush);
+    }
+
+    pub going_kept : flushes out' false out'' → ChecksAll step disk disk' history flushes out out'' err err' quiet files (Err (Session WriteFault))
+    going_kept flush = record {
+      checked = going.checked;
+      asked = going.asked;
+      unfit = puts err err' said (all_unfit_lines going.checked) going.unfit;
+      answer = (refl, ([], sym (append-nil (map (λ (c : Checked). c.path) going.checked) ∙ going.named)), inr (all_told false flush));
+    }

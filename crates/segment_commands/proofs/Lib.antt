@@ -1,6 +1,7 @@
 mod Ran
 mod Verified
 mod Opened
+mod Grown
 mod Commanded
 mod NewSegments
 mod Linted

@@ -30,13 +30,13 @@ use Rattle.segment_commands.specs.declared.command_faults.CommandFault.{CommandF
 no_fault : (s : State) (fault : SessionFault) → let answer : Result State SessionFault = Ok s in answer ≡ Err fault → ⊥
 no_fault s fault e = cc
 
-no_error : (s : State) (error : FileError) → let answer : Result State FileError = Ok s in answer ≡ Err error → ⊥
+pub no_error : (s : State) (error : FileError) → let answer : Result State FileError = Ok s in answer ≡ Err error → ⊥
 no_error s error e = cc
 
 same_segment : (s t : State) → let answer : Result State SessionFault = Ok s in answer ≡ Ok t → t ≡ s
 same_segment s t e = cc
 
-was_read : (x : Result State FileError) (s : State) → Ok s ≡ as_session x → x ≡ Ok s
+pub was_read : (x : Result State FileError) (s : State) → Ok s ≡ as_session x → x ≡ Ok s
 was_read (Ok t) s e = ap (λ (u : State). Ok u) (same_segment s t e)
 was_read (Err error) s e = absurd (no_fault s (session_fault error) e)
 

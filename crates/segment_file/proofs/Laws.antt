@@ -36,7 +36,7 @@ read-fits versions len more mode image s r t =
 
 -- and there is for the bytes that it was to have more
 module _ (len extra : ℕ) (mode : Mode) (image : Given) (s : State) (r : IsRead Current len extra mode image s) where
-  segment-of : IsSegment s.cut.bytes
+  pub segment-of : IsSegment s.cut.bytes
   segment-of = subst IsSegment (sym r.opened.bytes) (r.opened.denotes.0, record { denotes = r.opened.denotes.1 })
 
   room-is : length s.cut.bytes ≤ length r.region → room_of s.cut ≡ length r.region

@@ -1,3 +1,4 @@
+mod Kept
 mod Rooms
 mod Fronts
 mod Unopened

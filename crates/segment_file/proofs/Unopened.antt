@@ -1,6 +1,7 @@
 -- What a call of image_check answers of an image, and that its refusals are those of a file.
+use Rattle.std.specs.Prelude.{IfErr}
 use Rattle.std.proofs.Common.{◌≡◌, ◌⊎◌, ℕ, ◌+◌, inl, inr, List, length, Option, Some, None, Result, Ok, Err, refl, sym, ap, subst, ◌∙◌, arith}
-use Rattle.raw_region.specs.Device.{Given}
+use Rattle.raw_region.specs.Device.{Gave, Given, Reads}
 use Rattle.raw_region.specs.Format.{current}
 use Rattle.raw_region.specs.Memory.{SamePlace, cut_at}
 use Rattle.raw_region.specs.declared.refused_memory.OutOfMemory.{OutOfMemory as NoMemory}
@@ -14,7 +15,7 @@ use Rattle.image_check.specs.declared.versions.Versions.{Versions}
 use Rattle.image_check.specs.declared.versions.Versions.TheVariants.{Current, All}
 use Rattle.image_check.specs.EarlyTests.{size_word}
 use Rattle.image_check.specs.Formats.{format_in, format_of}
-use Rattle.image_check.specs.Opening.{IsImage, IsTooSmallFor, IsWhyNot}
+use Rattle.image_check.specs.Opening.{IsImage, IsTooSmallFor, IsWhyNot, ReadsFrontAlone, cause_of, failed_reads}
 use Rattle.image_check.specs.OpeningAny.{IsRenewed}
 use Rattle.image_check.specs.OpeningBytes.{OpensBytes, as_given}
 use Rattle.image_check.proofs.Facts.{why-by_format, why-given}
@@ -22,6 +23,8 @@ use Rattle.grow_shrink.specs.LargerRegion.{region_len}
 use Rattle.segment_file.specs.declared.file_errors.FileError.{FileError}
 use Rattle.segment_file.specs.declared.file_errors.FileError.TheVariants.{Image, OutOfMemory, ReadFault}
 use Rattle.image_check.specs.declared.errors.MemoryFault.TheVariants.{BlockMap}
+use Rattle.segment_disk.specs.Events.{nothing_given}
+use Rattle.segment_file.specs.ReadingOn.{IsFrontGiven}
 use Rattle.segment_file.specs.Opening.{IsCramped, IsNarrow, IsOpenedBy, IsRead, IsWhyUnopened, IsWide, IsWholeImage, IsWithoutMemory, OpensAt, file_error, file_region}
 use Rattle.segment_file.proofs.Rooms.{room-as-said, room-as-told}
 
@@ -67,6 +70,21 @@ roomless-by format capacity image (NoImage c) w e = absurd (some_none (Image c) 
 roomless-by format capacity image NoRoom w e = w
 roomless-by format capacity image (NoBlocks refusal) w e = absurd (some_none (OutOfMemory (BlockMap refusal)) e)
 roomless-by format capacity image NotRead w e = absurd (some_none ReadFault e)
+
+-- ---- the front alone
+
+-- a call that found no room gave the front, and no more
+pub front-alone : {A : Type 0} (new : Gave) (cause : OpenError) → (let result : Result A OpenError = Err cause in Reads nothing_given new (failed_reads result))
+    → (let result : Result A OpenError = Err cause in ReadsFrontAlone nothing_given new result) → cause ≡ NoRoom → IsFrontGiven new
+front-alone new (NoImage c) r a is = absurd (cc)
+front-alone new NoRoom r a is = record { long = a refl; sound = r.counted }
+front-alone new (NoBlocks refusal) r a is = absurd (cc)
+front-alone new NotRead r a is = absurd (cc)
+
+pub alone-opened : (new : Gave) (result : Result State OpenRefused) → Reads nothing_given new (failed_reads (cause_of result)) → ReadsFrontAlone nothing_given new (cause_of result)
+    → IfErr result (λ refused. refused.cause ≡ NoRoom → IsFrontGiven new)
+alone-opened new (Ok s) r a = tt
+alone-opened new (Err refused) r a = front-alone {A = State} new refused.cause r a
 
 -- ---- its segment
 

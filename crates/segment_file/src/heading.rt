@@ -1,5 +1,5 @@
 //! A reader that keeps the first bytes that it gives.
-ghost use Rattle.std.specs.Prelude.{◌≡◌, ◌⊎◌, ◌+◌, ◌≤◌, ◌<◌, ◌++◌, true, false, length, take, IfSome, None};
+ghost use Rattle.std.specs.Prelude.{◌≡◌, ◌+◌, ◌*◌, ◌≤◌, ◌<◌, ◌++◌, true, false, length, take, IfSome, None};
 ghost use Rattle.segment_disk.specs.Events.{nothing_given};
 ghost use Rattle.segment_file.specs.ReadingOn.{IsFrontGiven};
 
@@ -33,7 +33,8 @@ pub(crate) struct Headed<S: Source> {
     ghost all: { is_all ≡ true → take kept front ≡ (S.history inner).bytes },
     ghost count: { is_all ≡ true → length (S.history inner).bytes ≡ kept },
     ghost sound: { is_all ≡ true → (S.history inner).failures ≡ 0 },
-    ghost lost: { is_all ≡ false → (24 < length (S.history inner).bytes) ⊎ (0 < (S.history inner).failures) },
+    // it gave more than 24, or failed
+    ghost lost: { is_all ≡ false → 24 < length (S.history inner).bytes + 25 * (S.history inner).failures },
 }
 
 impl<S: Source> Headed<S> {

@@ -202,32 +202,36 @@ fn read_command<'a>(
         (λ e. asked_in name.now (rows_of (found_of words.now)) ≡ None) }
     ensures wrong { IfErr result (λ e. wrong_by e ≡ Some (wrong_in name.now (rows_of (found_of words.now)))) }
 {
-    match (name, word_of(words, "file")) {
-        ("lint", _) => Ok(Invocation::Lint),
-        ("language", _) => Ok(Invocation::Language),
-        (_, None) => Err(UsageError::File),
-        ("create", Some(file)) => Ok(Invocation::Create(file, number_in(words)?)),
-        ("run", Some(file)) => read_run(alloc, file, words, lines),
-        ("check", Some(file)) => read_check(file, words, files),
-        ("grow", Some(file)) => {
+    if name == "lint" {
+        return Ok(Invocation::Lint);
+    }
+    if name == "language" {
+        return Ok(Invocation::Language);
+    }
+    let Some(file) = word_of(words, "file") else {
+        return Err(UsageError::File);
+    };
+    match name {
+        "create" => Ok(Invocation::Create(file, number_in(words)?)),
+        "run" => read_run(alloc, file, words, lines),
+        "check" => read_check(file, words, files),
+        "grow" => {
             let bytes = number_in(words)?;
             Ok(change_of(file, Change::Grow(bytes), keeping_in(words)?))
         }
-        ("shrink", Some(file)) => Ok(change_of(file, Change::Shrink, keeping_in(words)?)),
-        ("migrate", Some(file)) => Ok(change_of(file, Change::Migrate, keeping_in(words)?)),
-        ("stat", Some(file)) => Ok(Invocation::Tell(file, Report::Figures)),
-        ("draw", Some(file)) if is_set(words, "html") => Ok(Invocation::Tell(file, Report::Page)),
-        ("draw", Some(file)) => Ok(Invocation::Tell(file, Report::Picture)),
-        ("dump", Some(file)) if is_set(words, "json") => Ok(Invocation::Tell(file, Report::Json)),
-        ("dump", Some(file)) if is_set(words, "capacities") => {
-            Ok(Invocation::Tell(file, Report::Capacities))
-        }
-        ("dump", Some(file)) => Ok(Invocation::Tell(file, Report::Dump)),
-        ("names", Some(file)) => {
+        "shrink" => Ok(change_of(file, Change::Shrink, keeping_in(words)?)),
+        "migrate" => Ok(change_of(file, Change::Migrate, keeping_in(words)?)),
+        "stat" => Ok(Invocation::Tell(file, Report::Figures)),
+        "draw" if is_set(words, "html") => Ok(Invocation::Tell(file, Report::Page)),
+        "draw" => Ok(Invocation::Tell(file, Report::Picture)),
+        "dump" if is_set(words, "json") => Ok(Invocation::Tell(file, Report::Json)),
+        "dump" if is_set(words, "capacities") => { Ok(Invocation::Tell(file, Report::Capacities)) }
+        "dump" => Ok(Invocation::Tell(file, Report::Dump)),
+        "names" => {
             let most = count_in(words, "most")?;
             Ok(Invocation::Names(file, word_of(words, "prefix").unwrap_or(""), most))
         }
-        ("load", Some(file)) => {
+        "load" => {
             let size = count_in(words, "size")?;
             Ok(Invocation::Load(file, size, keeping_in(words)?))
         }

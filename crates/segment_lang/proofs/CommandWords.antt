@@ -22,7 +22,7 @@ use Rattle.segment_lang.specs.Reading.{content, counted_kind, destroying_ptr, ea
 use Rattle.segment_lang.specs.Reading.{key_of, making, making_each, new_key, putting, quoted_of, reading, skip_blanks}
 use Rattle.segment_lang.specs.Reading.{without_return, value_for, with_key, with_key_literal, with_key_number}
 use Rattle.segment_lang.specs.Reading.{with_key_number_literal, with_number}
-use Rattle.segment_lang.specs.Tokens.{at_end, behind_word, next_two, next_word, only_word, three_words, two_words}
+use Rattle.segment_lang.specs.Tokens.{at_end, behind_word, next_two, next_word, only_word}
 use Rattle.segment_lang.specs.Tokens.{up_to_blank}
 use Rattle.segment_lang.specs.Arguments.{Written, assigning_at, counted_values, handle_of, literals_at, making_at}
 use Rattle.segment_lang.specs.Arguments.{making_each_at, numbers_at, of_one, of_two, of_three}
@@ -281,10 +281,10 @@ command_in_front line part rest reader e short h =
 
 -- ---- whether a line is a command
 
-pub no_error : {o : Option Command} {r : Reading} → true ≡ is_some o → as_reading o ≡ r → is_wrong r ≡ false
-no_error {None} h e = absurd (cc)
-no_error {Some c} h e = ap is_wrong (sym e)
+pub no_error : (o : Option Command) (r : Reading) → true ≡ is_some o → as_reading o ≡ r → is_wrong r ≡ false
+no_error None r h e = absurd (cc)
+no_error (Some c) r h e = ap is_wrong (sym e)
 
-pub bad_syntax : {o : Option Command} {r : Reading} → false ≡ is_some o → as_reading o ≡ r → BadSyntax ≡ r
-bad_syntax {None} h e = e
-bad_syntax {Some c} h e = absurd (cc)
+pub bad_syntax : (o : Option Command) (r : Reading) → false ≡ is_some o → as_reading o ≡ r → BadSyntax ≡ r
+bad_syntax None r h e = e
+bad_syntax (Some c) r h e = absurd (cc)

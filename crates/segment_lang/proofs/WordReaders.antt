@@ -51,15 +51,15 @@ pub then_some : {A B C : Type 0} (g : B → C) (f : A → Option B) (x : Option 
 then_some g f x = map_then g f x ∙ some_map g (option_and_then f x)
 
 -- what is there is made a command of
-pub map_made : {A B C : Type 0} (g : B → C) (f : A → B) {x : Option A} {y : Option B}
+pub map_made : {A B C : Type 0} (g : B → C) (f : A → B) (x : Option A) (y : Option B)
     → MatchOption x (y ≡ None) (λ a. IsSomeAnd y (λ b. b ≡ f a)) → option_map g y ≡ option_map (λ a. g (f a)) x
-map_made g f {None} {y} h = ap (option_map g) h
-map_made g f {Some a} {None} h = absurd h
-map_made g f {Some a} {Some b} h = ap (λ b. Some (g b)) h
+map_made g f None y h = ap (option_map g) h
+map_made g f (Some a) None h = absurd h
+map_made g f (Some a) (Some b) h = ap (λ b. Some (g b)) h
 
-pub some_of : {A B : Type 0} {f : A → B} {x : Option A} {y : Option B} → option_map f x ≡ y → is_some x ≡ is_some y
-some_of {x = None} h = ap is_some h
-some_of {x = Some a} h = ap is_some h
+pub some_of : {A B : Type 0} (f : A → B) (x : Option A) (y : Option B) → option_map f x ≡ y → is_some x ≡ is_some y
+some_of f None y h = ap is_some h
+some_of f (Some a) y h = ap is_some h
 
 pub end_some : {A : Type 0} (a : A) (b : Bool) → is_some (cond b (Some a) None) ≡ b
 end_some a true = refl

@@ -78,7 +78,8 @@ impl<T: Copy, const N: usize> Buffer<T, N> {
     {
         let count = (N - self.len).min(more.len());
         let end = self.len + count;
-        self.values[self.len..end].copy_from_slice(&more[..count]);
+        let values = &mut self.values[..];
+        values[self.len..end].copy_from_slice(&more[..count]);
         self.len = end;
     }
 }

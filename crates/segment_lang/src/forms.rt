@@ -102,86 +102,72 @@ pub enum DeedForm {
     AllDeallocated,
 }
 
+/// The form of a deed.
+macro_rules! deed {
+    ($form:ident) => {
+        CommandForm::Deed(DeedForm::$form)
+    };
+}
+
 /// The command words, each with its form, by the place that `place_of` gives them.
 static FORMS: [&[(&[u8], CommandForm)]; 32] = [
-    &[(b"remove", CommandForm::Deed(DeedForm::Remove))],
-    &[
-        (b"clear", CommandForm::Deed(DeedForm::Clear)),
-        (b"append", CommandForm::Deed(DeedForm::Append)),
-    ],
+    &[(b"remove", deed!(Remove))],
+    &[(b"clear", deed!(Clear)), (b"append", deed!(Append))],
     &[(b"push", CommandForm::Push)],
     &[],
     &[
-        (b"reserve", CommandForm::Deed(DeedForm::Reserve)),
-        (b"free", CommandForm::Deed(DeedForm::Free)),
-        (b"reserve_named", CommandForm::Deed(DeedForm::ReserveNamed)),
-        (
-            b"reserve_unique",
-            CommandForm::Deed(DeedForm::ReserveUnique),
-        ),
+        (b"reserve", deed!(Reserve)),
+        (b"free", deed!(Free)),
+        (b"reserve_named", deed!(ReserveNamed)),
+        (b"reserve_unique", deed!(ReserveUnique)),
     ],
     &[],
-    &[
-        (b"lookup", CommandForm::Deed(DeedForm::Lookup)),
-        (b"zero_free", CommandForm::Deed(DeedForm::ZeroFree)),
-    ],
-    &[(b"sanity", CommandForm::Deed(DeedForm::Sanity))],
+    &[(b"lookup", deed!(Lookup)), (b"zero_free", deed!(ZeroFree))],
+    &[(b"sanity", deed!(Sanity))],
     &[(b"put", CommandForm::Put)],
-    &[(
-        b"all_deallocated",
-        CommandForm::Deed(DeedForm::AllDeallocated),
-    )],
+    &[(b"all_deallocated", deed!(AllDeallocated))],
     &[],
     &[
-        (b"set", CommandForm::Deed(DeedForm::Set)),
-        (b"erase", CommandForm::Deed(DeedForm::Erase)),
-        (b"unique", CommandForm::Deed(DeedForm::ListKinds)),
+        (b"set", deed!(Set)),
+        (b"erase", deed!(Erase)),
+        (b"unique", deed!(ListKinds)),
     ],
     &[],
-    &[
-        (b"show", CommandForm::Deed(DeedForm::Show)),
-        (b"info", CommandForm::Deed(DeedForm::Info)),
-    ],
+    &[(b"show", deed!(Show)), (b"info", deed!(Info))],
     &[],
     &[(b"size", CommandForm::Size)],
     &[(b"pop", CommandForm::Pop)],
     &[],
     &[],
-    &[(b"assign", CommandForm::Deed(DeedForm::Assign))],
+    &[(b"assign", deed!(Assign))],
     &[],
     &[],
     &[
-        (b"destroy", CommandForm::Deed(DeedForm::Destroy)),
-        (b"destroy_ptr", CommandForm::Deed(DeedForm::DestroyPtr)),
+        (b"destroy", deed!(Destroy)),
+        (b"destroy_ptr", deed!(DestroyPtr)),
     ],
     &[
-        (b"construct", CommandForm::Deed(DeedForm::Construct)),
-        (b"construct_it", CommandForm::Deed(DeedForm::ConstructIt)),
+        (b"construct", deed!(Construct)),
+        (b"construct_it", deed!(ConstructIt)),
     ],
     &[],
     &[],
     &[
-        (b"find", CommandForm::Deed(DeedForm::Find)),
-        (
-            b"find_or_construct",
-            CommandForm::Deed(DeedForm::FindOrConstruct),
-        ),
+        (b"find", deed!(Find)),
+        (b"find_or_construct", deed!(FindOrConstruct)),
     ],
-    &[(b"insert", CommandForm::Deed(DeedForm::Insert))],
+    &[(b"insert", deed!(Insert))],
     &[
-        (b"blocks", CommandForm::Deed(DeedForm::Blocks)),
-        (b"num_named", CommandForm::Deed(DeedForm::NumNamed)),
-        (b"num_unique", CommandForm::Deed(DeedForm::NumUnique)),
+        (b"blocks", deed!(Blocks)),
+        (b"num_named", deed!(NumNamed)),
+        (b"num_unique", deed!(NumUnique)),
     ],
     &[],
-    &[(b"list", CommandForm::Deed(DeedForm::ListNames))],
+    &[(b"list", deed!(ListNames))],
     &[
         (b"get", CommandForm::Get),
-        (b"shrink", CommandForm::Deed(DeedForm::Shrink)),
-        (
-            b"shrink_indexes",
-            CommandForm::Deed(DeedForm::ShrinkIndexes),
-        ),
+        (b"shrink", deed!(Shrink)),
+        (b"shrink_indexes", deed!(ShrinkIndexes)),
     ],
 ];
 
@@ -278,8 +264,8 @@ pub fn read_deed<'a>(form: DeedForm, bytes: &'a [u8], scratch: &'a mut Text) -> 
         DeedForm::Free => read_alone(Deed::Free, bytes),
         DeedForm::NumNamed => read_alone(Deed::NumNamed, bytes),
         DeedForm::NumUnique => read_alone(Deed::NumUnique, bytes),
-        DeedForm::ReserveNamed => only_number(bytes).map(Deed::ReserveNamed),
-        DeedForm::ReserveUnique => only_number(bytes).map(Deed::ReserveUnique),
+        DeedForm::ReserveNamed => Some(Deed::ReserveNamed(only_number(bytes)?)),
+        DeedForm::ReserveUnique => Some(Deed::ReserveUnique(only_number(bytes)?)),
         DeedForm::ShrinkIndexes => read_alone(Deed::ShrinkIndexes, bytes),
         DeedForm::ZeroFree => read_alone(Deed::ZeroFree, bytes),
         DeedForm::Sanity => read_alone(Deed::Sanity, bytes),

@@ -13,6 +13,13 @@ use crate::numbers::number_of;
 use crate::words::Word;
 use seg_types::{Kind, MAX_ARRAY_LEN, ScalarKind};
 
+/// A kind of maps.
+macro_rules! map {
+    ($keys:ident, $values:ident) => {
+        Kind::Map(ScalarKind::$keys, ScalarKind::$values)
+    };
+}
+
 /// The kinds, each behind how it is printed.
 static KINDS: [(&[u8], Kind); 37] = [
     (b"bool", Kind::Scalar(ScalarKind::Bool)),
@@ -27,52 +34,31 @@ static KINDS: [(&[u8], Kind); 37] = [
     (b"vec<i32>", Kind::Vector(ScalarKind::I32)),
     (b"vec<i64>", Kind::Vector(ScalarKind::I64)),
     (b"vec<u64>", Kind::Vector(ScalarKind::U64)),
-    (
-        b"map<bool,bool>",
-        Kind::Map(ScalarKind::Bool, ScalarKind::Bool),
-    ),
-    (b"map<bool,u8>", Kind::Map(ScalarKind::Bool, ScalarKind::U8)),
-    (
-        b"map<bool,i32>",
-        Kind::Map(ScalarKind::Bool, ScalarKind::I32),
-    ),
-    (
-        b"map<bool,i64>",
-        Kind::Map(ScalarKind::Bool, ScalarKind::I64),
-    ),
-    (
-        b"map<bool,u64>",
-        Kind::Map(ScalarKind::Bool, ScalarKind::U64),
-    ),
-    (b"map<u8,bool>", Kind::Map(ScalarKind::U8, ScalarKind::Bool)),
-    (b"map<u8,u8>", Kind::Map(ScalarKind::U8, ScalarKind::U8)),
-    (b"map<u8,i32>", Kind::Map(ScalarKind::U8, ScalarKind::I32)),
-    (b"map<u8,i64>", Kind::Map(ScalarKind::U8, ScalarKind::I64)),
-    (b"map<u8,u64>", Kind::Map(ScalarKind::U8, ScalarKind::U64)),
-    (
-        b"map<i32,bool>",
-        Kind::Map(ScalarKind::I32, ScalarKind::Bool),
-    ),
-    (b"map<i32,u8>", Kind::Map(ScalarKind::I32, ScalarKind::U8)),
-    (b"map<i32,i32>", Kind::Map(ScalarKind::I32, ScalarKind::I32)),
-    (b"map<i32,i64>", Kind::Map(ScalarKind::I32, ScalarKind::I64)),
-    (b"map<i32,u64>", Kind::Map(ScalarKind::I32, ScalarKind::U64)),
-    (
-        b"map<i64,bool>",
-        Kind::Map(ScalarKind::I64, ScalarKind::Bool),
-    ),
-    (b"map<i64,u8>", Kind::Map(ScalarKind::I64, ScalarKind::U8)),
-    (b"map<i64,i32>", Kind::Map(ScalarKind::I64, ScalarKind::I32)),
-    (b"map<i64,i64>", Kind::Map(ScalarKind::I64, ScalarKind::I64)),
-    (b"map<i64,u64>", Kind::Map(ScalarKind::I64, ScalarKind::U64)),
-    (
-        b"map<u64,bool>",
-        Kind::Map(ScalarKind::U64, ScalarKind::Bool),
-    ),
-    (b"map<u64,u8>", Kind::Map(ScalarKind::U64, ScalarKind::U8)),
-    (b"map<u64,i32>", Kind::Map(ScalarKind::U64, ScalarKind::I32)),
-    (b"map<u64,i64>", Kind::Map(ScalarKind::U64, ScalarKind::I64)),
-    (b"map<u64,u64>", Kind::Map(ScalarKind::U64, ScalarKind::U64)),
+    (b"map<bool,bool>", map!(Bool, Bool)),
+    (b"map<bool,u8>", map!(Bool, U8)),
+    (b"map<bool,i32>", map!(Bool, I32)),
+    (b"map<bool,i64>", map!(Bool, I64)),
+    (b"map<bool,u64>", map!(Bool, U64)),
+    (b"map<u8,bool>", map!(U8, Bool)),
+    (b"map<u8,u8>", map!(U8, U8)),
+    (b"map<u8,i32>", map!(U8, I32)),
+    (b"map<u8,i64>", map!(U8, I64)),
+    (b"map<u8,u64>", map!(U8, U64)),
+    (b"map<i32,bool>", map!(I32, Bool)),
+    (b"map<i32,u8>", map!(I32, U8)),
+    (b"map<i32,i32>", map!(I32, I32)),
+    (b"map<i32,i64>", map!(I32, I64)),
+    (b"map<i32,u64>", map!(I32, U64)),
+    (b"map<i64,bool>", map!(I64, Bool)),
+    (b"map<i64,u8>", map!(I64, U8)),
+    (b"map<i64,i32>", map!(I64, I32)),
+    (b"map<i64,i64>", map!(I64, I64)),
+    (b"map<i64,u64>", map!(I64, U64)),
+    (b"map<u64,bool>", map!(U64, Bool)),
+    (b"map<u64,u8>", map!(U64, U8)),
+    (b"map<u64,i32>", map!(U64, I32)),
+    (b"map<u64,i64>", map!(U64, I64)),
+    (b"map<u64,u64>", map!(U64, U64)),
 ];
 
 /// The kind of the first row of a word.

@@ -91,7 +91,8 @@ pub fn read_destroy_ptr(bytes: &[u8]) -> Option<Deed<'_>>
         ≡ option_map asked.DestroyPtr (option_and_then handle_of (only_word bytes.now)) }
 {
     let word = only_word(bytes)?;
-    handle_of(word).map(Deed::DestroyPtr)
+    let handle = handle_of(word)?;
+    Some(Deed::DestroyPtr(handle))
 }
 
 /// A key, whatever it is read for.

@@ -9,3 +9,4 @@ pub mod ToChange
 pub mod Stored
 pub mod Changeable
 pub mod ElementRuns
+pub mod Ranges

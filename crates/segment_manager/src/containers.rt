@@ -6,6 +6,7 @@ pub(crate) mod element_runs;
 pub(crate) mod fillings;
 pub(crate) mod finding_containers;
 pub(crate) mod maps;
+pub(crate) mod ranges;
 pub(crate) mod releasing;
 pub(crate) mod storage;
 pub(crate) mod storages;

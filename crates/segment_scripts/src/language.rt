@@ -59,215 +59,50 @@ pub fn command_rows() -> &'static [CommandRow]
     &LANGUAGE
 }
 
-const LANGUAGE: [CommandRow; 35] = [
-    CommandRow {
-        word: "construct",
-        usage: "construct KIND[k] NEWKEY ARGS",
-        answer: "#H",
-        does: "makes an object",
-    },
-    CommandRow {
-        word: "construct_it",
-        usage: "construct_it KIND[k] NEWKEY V1 .. Vk",
-        answer: "#H",
-        does: "makes an array of exactly these k values; scalar kinds only",
-    },
-    CommandRow {
-        word: "find",
-        usage: "find KIND NAMEKEY",
-        answer: "#H COUNT or none",
-        does: "looks up; error 7 for an object of another kind",
-    },
-    CommandRow {
-        word: "find_or_construct",
-        usage: "find_or_construct KIND[k] NAMEKEY ARGS",
-        answer: "#H COUNT",
-        does: "gives the object of that kind unchanged, whatever k and ARGS; where there is none makes it",
-    },
-    CommandRow {
-        word: "destroy",
-        usage: "destroy NAMEKEY",
-        answer: "true or false",
-        does: "false: there was none",
-    },
-    CommandRow {
-        word: "destroy_ptr",
-        usage: "destroy_ptr #n",
-        answer: "true",
-        does: "destroys an object of any class",
-    },
-    CommandRow {
-        word: "show",
-        usage: "show KEY",
-        answer: "kind and value",
-        does: "of the whole object (LANGUAGE.md section 9)",
-    },
-    CommandRow {
-        word: "info",
-        usage: "info KEY",
-        answer: "class, name, kind, count, handle, measures",
-        does: "all but the value (LANGUAGE.md section 9)",
-    },
-    CommandRow {
-        word: "get",
-        usage: "get KEY I",
-        answer: "element",
-        does: "of a scalar object or vector; a byte of a string",
-    },
-    CommandRow {
-        word: "set",
-        usage: "set KEY I V",
-        answer: "ok",
-        does: "of the same; error 9 only for vec<string>",
-    },
-    CommandRow {
-        word: "push",
-        usage: "push KEY V",
-        answer: "ok",
-        does: "vector: adds at the end",
-    },
-    CommandRow {
-        word: "pop",
-        usage: "pop KEY",
-        answer: "element",
-        does: "vector: takes the last; of an empty one error 8",
-    },
-    CommandRow {
-        word: "insert",
-        usage: "insert KEY I V",
-        answer: "ok",
-        does: "vector: puts V before place I; I may be the length",
-    },
-    CommandRow {
-        word: "erase",
-        usage: "erase KEY I",
-        answer: "ok",
-        does: "vector: takes out element I",
-    },
-    CommandRow {
-        word: "reserve",
-        usage: "reserve KEY N",
-        answer: "ok",
-        does: "vector, string: capacity at least N",
-    },
-    CommandRow {
-        word: "shrink",
-        usage: "shrink KEY",
-        answer: "ok",
-        does: "vector, string: capacity to the length",
-    },
-    CommandRow {
-        word: "clear",
-        usage: "clear KEY",
-        answer: "ok",
-        does: "vector, string: length 0, capacity and storage stay",
-    },
-    CommandRow {
-        word: "assign",
-        usage: "assign KEY V ..",
-        answer: "ok",
-        does: "vector: these elements, perhaps none; string: one TEXT",
-    },
-    CommandRow {
-        word: "append",
-        usage: "append KEY TEXT",
-        answer: "ok",
-        does: "string: adds at the end",
-    },
-    CommandRow {
-        word: "put",
-        usage: "put KEY K V",
-        answer: "true or false",
-        does: "map: true for a new key, false where a value was replaced",
-    },
-    CommandRow {
-        word: "lookup",
-        usage: "lookup KEY K",
-        answer: "value or none",
-        does: "map: the value of a key",
-    },
-    CommandRow {
-        word: "remove",
-        usage: "remove KEY K",
-        answer: "true or false",
-        does: "map: whether the key was there",
-    },
-    CommandRow {
-        word: "list",
-        usage: "list",
-        answer: "lines NAME KIND COUNT #H, then end",
-        does: "named objects, rising by name bytes",
-    },
-    CommandRow {
-        word: "unique",
-        usage: "unique",
-        answer: "lines KIND COUNT #H, then end",
-        does: "unique objects, rising by kind code",
-    },
-    CommandRow {
-        word: "blocks",
-        usage: "blocks",
-        answer: "lines OFFSET LENGTH WORD, then end",
-        does: "tiles by offset; WORD is object, index, storage, node or free",
-    },
-    CommandRow {
-        word: "size",
-        usage: "size",
-        answer: "number",
-        does: "bytes of the segment",
-    },
-    CommandRow {
-        word: "free",
-        usage: "free",
-        answer: "number",
-        does: "sum of the whole lengths of the free blocks",
-    },
-    CommandRow {
-        word: "num_named",
-        usage: "num_named",
-        answer: "number",
-        does: "entries of the index",
-    },
-    CommandRow {
-        word: "num_unique",
-        usage: "num_unique",
-        answer: "number",
-        does: "entries of the index",
-    },
-    CommandRow {
-        word: "reserve_named",
-        usage: "reserve_named N",
-        answer: "ok",
-        does: "index capacity at least N",
-    },
-    CommandRow {
-        word: "reserve_unique",
-        usage: "reserve_unique N",
-        answer: "ok",
-        does: "index capacity at least N",
-    },
-    CommandRow {
-        word: "shrink_indexes",
-        usage: "shrink_indexes",
-        answer: "ok",
-        does: "each index capacity to its count, named first",
-    },
-    CommandRow {
-        word: "zero_free",
-        usage: "zero_free",
-        answer: "ok",
-        does: "clears the free bytes (FORMAT.md section 13)",
-    },
-    CommandRow {
-        word: "sanity",
-        usage: "sanity",
-        answer: "true",
-        does: "whether the segment is sound; it always is",
-    },
-    CommandRow {
-        word: "all_deallocated",
-        usage: "all_deallocated",
-        answer: "true or false",
-        does: "whether no block is in use, index blocks included",
-    },
-];
+/// The rows of a table: of each command its word, its usage, its answer and what it does.
+macro_rules! rows {
+    ($($word:literal, $usage:literal, $answer:literal, $does:literal;)*) => {
+        [$(CommandRow { word: $word, usage: $usage, answer: $answer, does: $does }),*]
+    };
+}
+
+const LANGUAGE: [CommandRow; 35] = rows! {
+    "construct", "construct KIND[k] NEWKEY ARGS", "#H", "makes an object";
+    "construct_it", "construct_it KIND[k] NEWKEY V1 .. Vk", "#H",
+        "makes an array of exactly these k values; scalar kinds only";
+    "find", "find KIND NAMEKEY", "#H COUNT or none", "looks up; error 7 for an object of another kind";
+    "find_or_construct", "find_or_construct KIND[k] NAMEKEY ARGS", "#H COUNT",
+        "gives the object of that kind unchanged, whatever k and ARGS; where there is none makes it";
+    "destroy", "destroy NAMEKEY", "true or false", "false: there was none";
+    "destroy_ptr", "destroy_ptr #n", "true", "destroys an object of any class";
+    "show", "show KEY", "kind and value", "of the whole object (LANGUAGE.md section 9)";
+    "info", "info KEY", "class, name, kind, count, handle, measures", "all but the value (LANGUAGE.md section 9)";
+    "get", "get KEY I", "element", "of a scalar object or vector; a byte of a string";
+    "set", "set KEY I V", "ok", "of the same; error 9 only for vec<string>";
+    "push", "push KEY V", "ok", "vector: adds at the end";
+    "pop", "pop KEY", "element", "vector: takes the last; of an empty one error 8";
+    "insert", "insert KEY I V", "ok", "vector: puts V before place I; I may be the length";
+    "erase", "erase KEY I", "ok", "vector: takes out element I";
+    "reserve", "reserve KEY N", "ok", "vector, string: capacity at least N";
+    "shrink", "shrink KEY", "ok", "vector, string: capacity to the length";
+    "clear", "clear KEY", "ok", "vector, string: length 0, capacity and storage stay";
+    "assign", "assign KEY V ..", "ok", "vector: these elements, perhaps none; string: one TEXT";
+    "append", "append KEY TEXT", "ok", "string: adds at the end";
+    "put", "put KEY K V", "true or false", "map: true for a new key, false where a value was replaced";
+    "lookup", "lookup KEY K", "value or none", "map: the value of a key";
+    "remove", "remove KEY K", "true or false", "map: whether the key was there";
+    "list", "list", "lines NAME KIND COUNT #H, then end", "named objects, rising by name bytes";
+    "unique", "unique", "lines KIND COUNT #H, then end", "unique objects, rising by kind code";
+    "blocks", "blocks", "lines OFFSET LENGTH WORD, then end",
+        "tiles by offset; WORD is object, index, storage, node or free";
+    "size", "size", "number", "bytes of the segment";
+    "free", "free", "number", "sum of the whole lengths of the free blocks";
+    "num_named", "num_named", "number", "entries of the index";
+    "num_unique", "num_unique", "number", "entries of the index";
+    "reserve_named", "reserve_named N", "ok", "index capacity at least N";
+    "reserve_unique", "reserve_unique N", "ok", "index capacity at least N";
+    "shrink_indexes", "shrink_indexes", "ok", "each index capacity to its count, named first";
+    "zero_free", "zero_free", "ok", "clears the free bytes (FORMAT.md section 13)";
+    "sanity", "sanity", "true", "whether the segment is sound; it always is";
+    "all_deallocated", "all_deallocated", "true or false", "whether no block is in use, index blocks included";
+};

@@ -69,6 +69,7 @@ fn put_wrong<W: Sink>(error: LineError, out: &mut W) -> Result<Answered, DeviceF
 }
 
 /// Answers `size`, with what stands behind it.
+#[inline(always)]
 fn answer_size<W: Sink>(
     segment: &Segment,
     rest: &[u8],

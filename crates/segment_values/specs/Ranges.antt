@@ -1,29 +1,19 @@
--- Elements of an array or a vector of scalars that are read, or written, by one call: so many from a place on.
-use Rattle.std.specs.Prelude.{◌≡◌, ◌≤◌, ℕ, ◌+◌, ◌*◌, ℤ, Bool, ◌||◌, IsTrue, Option, Some, None, Result, Ok, Err, List, [], ◌∷◌, drop}
-use Rattle.std.specs.Prelude.{IfOk, length, map, nat_le, slice_set, take, if◌then◌else◌}
+-- Elements of an array or a vector of scalars that are read by one call: so many from a place on.
+use Rattle.std.specs.Prelude.{◌≡◌, ◌≤◌, ℕ, ◌+◌, ◌*◌, ℤ, IsTrue, Result, Ok, Err, List}
+use Rattle.std.specs.Prelude.{length, map}
 use Rattle.std.specs.List.{list_all}
-use Rattle.raw_region.specs.Memory.{SameBut, bytes_of, part}
-use Rattle.seg_types.specs.declared.kinds.Kind.{Kind}
-use Rattle.seg_types.specs.declared.kinds.Kind.TheVariants.{Scalar, Vector}
+use Rattle.raw_region.specs.Memory.{part}
 use Rattle.seg_types.specs.declared.kinds.ScalarKind.{ScalarKind}
 use Rattle.seg_types.specs.declared.refusals.Refusal.{Refusal}
-use Rattle.seg_types.specs.declared.refusals.Refusal.TheVariants.{NotFound, OutOfRange, ReadOnly, WrongKind}
-use Rattle.seg_types.specs.Kinds.{is_value, same_kind, size_of}
-use Rattle.seg_types.specs.Names.{Key, ByHandle}
+use Rattle.seg_types.specs.Kinds.{is_value, size_of}
+use Rattle.seg_types.specs.Names.{ByHandle}
 use Rattle.seg_vector.specs.Vector.{spelled}
-use Rattle.best_fit.specs.declared.places.Place.{Place}
 use Rattle.segment_manager.specs.declared.containers.element_runs.ElementRun.{ElementRun}
-use Rattle.segment_manager.specs.declared.modes.Mode.{Mode}
 use Rattle.segment_manager.specs.declared.objects.targets.Object.{Object as Located}
-use Rattle.segment_manager.specs.Answers.{Answer, Done, Refused}
-use Rattle.segment_manager.specs.Directory.{Directory, Value, kind_of, object_at}
+use Rattle.segment_manager.specs.Directory.{Directory}
 use Rattle.segment_manager.specs.objects.ElementLists.{list_at, numbers_in}
-use Rattle.segment_manager.specs.objects.Located.{IsObject}
-use Rattle.segment_manager.specs.objects.Standing.{place_at}
-use Rattle.segment_manager.specs.State.{Answers, Moves, State, StandsFor, Stays}
-use Rattle.segment_manager.specs.Step.{changed, is_read_only, with_items}
-
--- ---- reading
+use Rattle.segment_manager.specs.State.{Answers, State, StandsFor}
+pub use Rattle.segment_manager.specs.containers.Ranges.{is_row, numbers_if, range_at, range_in, range_of}
 
 -- the elements of an object that was located, which is an array or a vector of scalars
 abbrev pub row_of : Located → Directory → List ℤ
@@ -46,11 +36,3 @@ pub record HasRow (s : State) (o : Located) (k : ScalarKind) (run : ElementRun) 
 abbrev pub read_into : {A : Type 0} → (A → ℤ) → List A → Result (Unit {0}) Refusal → Result (List ℤ) Refusal
 read_into whole row (Ok u) = Ok (map whole row)
 read_into whole row (Err why) = Err why
-
--- ---- writing
-
--- an object that was located has them, and is still there
-pub record HasRange (old new : State) (o : Located) (first : ℕ) (zs : List ℤ) : Type 0 where
-  pub stays : Stays old new
-  pub here : IsObject o new
-  pub denotes : (d : Directory) → StandsFor old.cut.bytes d → StandsFor new.cut.bytes (with_range d (ByHandle o.handle) first zs)

@@ -5,7 +5,9 @@
 
 #include <errno.h>
 #include <fcntl.h>
+#include <pthread.h>
 #include <signal.h>
+#include <stdatomic.h>
 #include <stdio.h>
 #include <stdlib.h>
 #include <sys/mman.h>
@@ -413,6 +415,45 @@ static void forked(void) {
     IS(stands(), 6);
 }
 
+static atomic_bool goes_on;
+
+/* Opens, changes and closes the file, and makes it longer and shorter, again and again. */
+static void *opened_by_a_thread(void *number) {
+    zx_file file = ZX_CLOSED_FILE;
+    while (atomic_load(&goes_on)) {
+        bool is = zx_file_open(&file, path, WRITE, 0) == ZX_DONE && set(&file, ++*(int64_t *)number) == ZX_DONE;
+        is = is && zx_file_grow(&file, 1 << 16) == ZX_DONE && zx_file_shrink(&file) == ZX_DONE;
+        if (!is || zx_file_close(&file) != ZX_DONE) return number;
+    }
+    return NULL;
+}
+
+/* Children of a process of which a thread has files: whatever that does meanwhile, they have their memory, and no file. */
+static void forked_meanwhile(void) {
+    int64_t number = 5;
+    int status = -1;
+    pthread_t thread;
+    void *failed = &number;
+    seed(5);
+    atomic_store(&goes_on, true);
+    fflush(stdout);
+    IS(pthread_create(&thread, NULL, opened_by_a_thread, &number), 0);
+    for (int i = 0; i < 200; i++) {
+        uint8_t *room = mmap(NULL, 8192, PROT_READ | PROT_WRITE, MAP_PRIVATE | MAP_ANONYMOUS, -1, 0);
+        pid_t child = fork();
+        if (child == 0) {
+            memset(room, 7, 8192);
+            _exit(room[8191] == 7 ? 0 : 1);
+        }
+        IS(waitpid(child, &status, 0) == child && status == 0, true);
+        munmap(room, 8192);
+    }
+    atomic_store(&goes_on, false);
+    IS(pthread_join(thread, &failed), 0);
+    IS(failed == NULL, true);
+    IS(stands(), number);
+}
+
 /* What was changed until a process is killed is there. */
 static void killed(void) {
     int ends[2];
@@ -561,6 +602,7 @@ int main(int count, char **words) {
     by_its_path();
     what_was_left();
     forked();
+    forked_meanwhile();
     killed();
     killed_within_a_call(atoi(words[2]));
     two_processes();

@@ -26,13 +26,16 @@ said-if : {d : Directory} {key : Key} {o : Located} (r : Option Object) → obje
 said-if None e f = absurd (cc)
 said-if {o} (Some p) e f = record { object = p; is = e; said = same_Some o (located p) f }
 
+located-said : (d : Directory) (key : Key) {o : Located} → Some o ≡ located_at d key → IsSaidAt d key o
+located-said d key e = said-if (object_at d key) refl e
+
 -- it is located by its handle
 pub locates : {s : State} {key : Key} {o : Located} → Answers s (λ d. located_at d key) (Some o) → IsLocated s key o
 locates {s} {key} {o} a = record {
   at = a;
   here = record {
     answers = λ d k.
-        let p = said-if (object_at d key) refl (a.answers d k) in
+        let p = located-said d key (a.answers d k) in
         ap Some p.said ∙ sym (ap (λ (q : Located). option_map located (object_at d (ByHandle q.handle))) p.said
         ∙ ap (option_map located) (by-handle key k.denotes.directory p.is));
   };
@@ -43,7 +46,7 @@ pub handle-located : {s : State} (key : Key) {o : Located} → Answers s (λ d. 
     → Answers s (λ d. handle_at d key) (Some o.handle)
 handle-located key a = record {
   answers = λ d k.
-      let p = said-if (object_at d key) refl (a.answers d k) in
+      let p = located-said d key (a.answers d k) in
       ap (λ (q : Located). Some q.handle) p.said ∙ sym (ap (option_map (λ (o : Object). handle o.extent)) p.is);
 }
 
@@ -63,7 +66,7 @@ pub located-there : {s t : State} (view : s ≡ t) (key : Key) {q : Located} →
     → Answers t (λ d. located_at d key) (Some q) → (o : Object) → StandsAt s.cut.bytes q.handle o → q ≡ located o
 located-there {s} {t} view key {q} g a o stands =
     let b = subst (λ (u : State). Answers u (λ d. located_at d key) (Some q)) (sym view) a in
-    let p = said-if (object_at g.0 key) refl (b.answers g.0 g.1) in
+    let p = located-said g.0 key (b.answers g.0 g.1) in
     let there = here s.cut.bytes g.0 key q.handle g.1.denotes ((handle-located key b).answers g.0 g.1) in
     p.said ∙ ap located (same_Some p.object there.object (sym p.is ∙ there.is)) ∙ alike there.stands stands
 

@@ -10,6 +10,7 @@ use Rattle.seg_types.specs.declared.refusals.Refusal.{Refusal}
 use Rattle.seg_types.specs.declared.refusals.Refusal.TheVariants.{NotFound, OutOfRange, ReadOnly, WrongKind}
 use Rattle.seg_types.specs.{Kinds.same_kind, Kinds.size_of, Names.Key}
 use Rattle.seg_vector.specs.Vector.{capacity_for_more}
+pub use Rattle.seg_vector.specs.VectorCalls.{replaced}
 use Rattle.segment_manager.specs.declared.modes.Mode.{Mode}
 use Rattle.segment_manager.specs.Answers.{Answer, Done, Refused}
 use Rattle.segment_manager.specs.Directory.{Directory, Elements, Object, Value, kind_of, live, object_at}
@@ -42,11 +43,6 @@ range_at d key k first n = range_in (elim (object_at d key) as (λ _. Result (Li
 
 -- ---- writing
 
--- a list with others in the places from one on
-abbrev pub replaced : List ℤ → ℕ → List ℤ → List ℤ
-replaced old first [] = old
-replaced old first (z ∷ zs) = replaced (slice_set old first z) (first + 1) zs
-
 -- the directory in which the object of a key has these elements from a place on
 abbrev pub with_range : Directory → Key → ℕ → List ℤ → Directory
 with_range d key first zs = elim (object_at d key) as (λ _. Directory) [ None ↦ d | Some o ↦ changed d o (with_items o.value (replaced (numbers_in o.value) first zs)) ]
@@ -78,7 +74,6 @@ extend d o v more =
     (λ u. Reply Done (changed d o (Elements k (zs ++ more) u))))
 
 abbrev pub extended : Mode → Directory → Key → ScalarKind → List ℤ → Answer × Directory
-unfolding live
 extended mode d key k more =
     perform d (live d) (if is_read_only mode then Refuse ReadOnly else
     with (found_at d key) (λ o. if same_kind (Vector k) (kind_of o.value) then extend d o o.value more

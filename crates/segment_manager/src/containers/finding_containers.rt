@@ -11,6 +11,7 @@ use seg_vector::Place;
 impl Segment {
     /// Where the container stands of the object of a key: `NotFound` where there is none, `WrongKind` where it is of
     /// another kind.
+    #[inline(always)]
     pub(crate) fn find_container<O: Target>(&self, key: &O, kind: Kind) -> Result<Place, Refusal>
         requires { O.stands key.now self.now }
         ensures { Answers self.now (λ d. container_at d (O.key key.now) kind) result }
@@ -22,6 +23,7 @@ impl Segment {
     }
 
     /// The same, where the container is to be changed: `ReadOnly` where the segment is open for reading.
+    #[inline(always)]
     pub(crate) fn find_to_change<O: Target>(&self, key: &O, kind: Kind) -> Result<Place, Refusal>
         requires { O.stands key.now self.now }
         ensures { MatchResult result (IsToChange self.now (O.key key.now) kind)

@@ -1,4 +1,9 @@
-use Rattle.std.proofs.Common.{inr}
+use Rattle.std.proofs.Common.{inl, inr, Ok, subst}
+use Rattle.segment_manager.specs.declared.modes.Mode.TheVariants.{Write}
+use Rattle.image_check.specs.declared.versions.Versions.TheVariants.{Current}
+use Rattle.segment_commands.specs.Opening.{OpensWith}
+use Rattle.segment_commands.specs.Resizing.{more_by}
+use Rattle.segment_commands.proofs.Grown.{roomy_by}
 use Rattle.segment_commands.proofs.Commanded.{resized, not_resized, same_fault}
 use Rattle.segment_commands.proofs.resizing.resize_held.Goals as goal
 
@@ -6,7 +11,7 @@ pub returns-in-Ok-tell_and_write : goal.returns-in-Ok-tell_and_write
 returns-in-Ok-tell_and_write g c = inr (inr (record {
   segment = c.in_ok-segment.segment;
   read = c.open_segment.new.disk;
-  opens = c.in_ok-segment.ensures;
+  opens = rw c.more_for.ensures at c.in_ok-segment.ensures;
   resized = c.resize_segment.new.segment;
   becomes = c.in-Ok.ensures.resized;
   goes = resized g.D.Disk.step c.open_segment.new.disk c.tell_and_write.new.disk c.args.path.now c.args.making
@@ -19,7 +24,7 @@ pub returns-in-Ok : goal.returns-in-Ok
 returns-in-Ok g c = inr (inr (record {
   segment = c.in_ok-segment.segment;
   read = c.open_segment.new.disk;
-  opens = c.in_ok-segment.ensures;
+  opens = rw c.more_for.ensures at c.in_ok-segment.ensures;
   resized = c.resize_segment.new.segment;
   becomes = c.in-Ok.ensures.resized;
   goes = not_resized g.D.Disk.step c.open_segment.new.disk c.tell_and_write.new.disk c.args.path.now c.args.making
@@ -27,3 +32,17 @@ returns-in-Ok g c = inr (inr (record {
       c.in-Err-tell_and_write.field-0 _ c.in-Err-tell_and_write.ensures;
   answer = λ fault e. same_fault _ fault e;
 }))
+
+pub returns-in-Err : goal.returns-in-Err
+returns-in-Err g c =
+    let opens : OpensWith g.D.Disk.step c.args.disk.now c.open_segment.new.disk c.args.path.now Current Write (more_by c.args.how) (Ok c.in_ok-segment.segment) =
+    rw c.more_for.ensures at c.in_ok-segment.ensures in
+    inr (inl (record {
+      segment = c.in_ok-segment.segment;
+      opens = opens;
+      error = c.in-Err.error;
+      roomy = roomy_by g.D.Disk.step c.args.disk.now c.open_segment.new.disk c.args.path.now c.in_ok-segment.segment c.args.how c.in-Err.error opens c.in-Err.ensures.refused;
+      refused_by = c.in-Err.ensures.refused;
+      silent = search;
+      refused = search;
+    }))

@@ -14,22 +14,22 @@ returns-in-Size c =
 pub returns-in-Get : goal.returns-in-Get
 returns-in-Get c =
     rw c.in-Get.is (c.is_some.ensures
-    ∙ some_of (c.key_and_number.ensures asked.Get ∙ sym (of_key_number asked.Get c.args.bytes.now)))
+    ∙ some_of _ _ _ (c.key_and_number.ensures asked.Get ∙ sym (of_key_number asked.Get c.args.bytes.now)))
 
 pub returns-in-Push : goal.returns-in-Push
 returns-in-Push c =
     rw c.in-Push.is (c.is_some-in-Push.ensures
-    ∙ some_of (c.key_and_literal.ensures asked.Push ∙ sym (of_key_literal asked.Push c.args.bytes.now)))
+    ∙ some_of _ _ _ (c.key_and_literal.ensures asked.Push ∙ sym (of_key_literal asked.Push c.args.bytes.now)))
 
 pub returns-in-Put : goal.returns-in-Put
 returns-in-Put c =
     rw c.in-Put.is (c.is_some-in-Put.ensures
-    ∙ some_of (c.key_and_pair.ensures ∙ sym (of_putting c.args.bytes.now)))
+    ∙ some_of _ _ _ (c.key_and_pair.ensures ∙ sym (of_putting c.args.bytes.now)))
 
 pub returns-in-Pop : goal.returns-in-Pop
 returns-in-Pop c =
     rw c.in-Pop.is (c.is_some-in-Pop.ensures
-    ∙ some_of (c.only_key.ensures asked.Pop ∙ sym (of_key asked.Pop key_of c.args.bytes.now)))
+    ∙ some_of _ _ _ (c.only_key.ensures asked.Pop ∙ sym (of_key asked.Pop key_of c.args.bytes.now)))
 
 pub returns-in-Deed : goal.returns-in-Deed
-returns-in-Deed c = rw c.in-Deed.is (c.is_some-in-Deed.ensures ∙ some_of c.read_deed.ensures)
+returns-in-Deed c = rw c.in-Deed.is (c.is_some-in-Deed.ensures ∙ some_of _ _ _ c.read_deed.ensures)

@@ -1,4 +1,5 @@
-use Rattle.std.proofs.Common.{◌∙◌, sym}
+use Rattle.std.proofs.Common.{◌∙◌, ap, sym}
+use Rattle.std.specs.Option.{option_map}
 use Rattle.seg_types.specs.Commands as asked
 use Rattle.segment_lang.specs.declared.commands.Deed.TheVariants as deed
 use Rattle.segment_lang.specs.Reading.{key_of, name_key, new_key}
@@ -33,12 +34,12 @@ returns-in-DestroyPtr c = rw c.in-DestroyPtr.is (c.read_destroy_ptr.ensures ∙ 
 
 pub returns-in-Show : goal.returns-in-Show
 returns-in-Show c =
-    rw c.in-Show.is (map_made deed_of deed.Show c.map.ensures.cases ∙ c.only_key.ensures asked.Show
+    rw c.in-Show.is (map_made deed_of deed.Show _ _ c.map.ensures.cases ∙ c.only_key.ensures asked.Show
     ∙ sym (of_key asked.Show key_of c.args.bytes.now))
 
 pub returns-in-Info : goal.returns-in-Info
 returns-in-Info c =
-    rw c.in-Info.is (map_made deed_of deed.Info c.map-in-Info.ensures.cases ∙ c.only_key-in-Info.ensures asked.Info
+    rw c.in-Info.is (map_made deed_of deed.Info _ _ c.map-in-Info.ensures.cases ∙ c.only_key-in-Info.ensures asked.Info
     ∙ sym (of_key asked.Info key_of c.args.bytes.now))
 
 pub returns-in-Set : goal.returns-in-Set
@@ -56,12 +57,12 @@ returns-in-Reserve c = rw c.in-Reserve.is (c.read_reserve.ensures ∙ sym (of_ke
 
 pub returns-in-Shrink : goal.returns-in-Shrink
 returns-in-Shrink c =
-    rw c.in-Shrink.is (map_made deed_of deed.Shrink c.map-in-Shrink.ensures.cases ∙ c.only_key-in-Shrink.ensures asked.Shrink
+    rw c.in-Shrink.is (map_made deed_of deed.Shrink _ _ c.map-in-Shrink.ensures.cases ∙ c.only_key-in-Shrink.ensures asked.Shrink
     ∙ sym (of_key asked.Shrink key_of c.args.bytes.now))
 
 pub returns-in-Clear : goal.returns-in-Clear
 returns-in-Clear c =
-    rw c.in-Clear.is (map_made deed_of deed.Clear c.map-in-Clear.ensures.cases ∙ c.only_key-in-Clear.ensures asked.Clear
+    rw c.in-Clear.is (map_made deed_of deed.Clear _ _ c.map-in-Clear.ensures.cases ∙ c.only_key-in-Clear.ensures asked.Clear
     ∙ sym (of_key asked.Clear key_of c.args.bytes.now))
 
 pub returns-in-Assign : goal.returns-in-Assign
@@ -76,15 +77,23 @@ returns-in-Lookup c = rw c.in-Lookup.is (c.read_lookup.ensures ∙ sym (of_key_l
 pub returns-in-Remove : goal.returns-in-Remove
 returns-in-Remove c = rw c.in-Remove.is (c.read_remove.ensures ∙ sym (of_key_literal asked.Remove c.args.bytes.now))
 
-pub returns-in-ReserveNamed : goal.returns-in-ReserveNamed
-returns-in-ReserveNamed c =
-    rw c.in-ReserveNamed.is (map_made deed_of deed.ReserveNamed c.map-in-ReserveNamed.ensures.cases ∙ c.only_number.ensures asked.ReserveNamed
-    ∙ sym (of_number asked.ReserveNamed c.args.bytes.now))
+pub returns-in_ok-only_number-in-ReserveNamed : goal.returns-in_ok-only_number-in-ReserveNamed
+returns-in_ok-only_number-in-ReserveNamed c =
+    rw c.in-ReserveNamed.is (c.in_ok-only_number-in-ReserveNamed.ensures asked.ReserveNamed ∙ sym (of_number asked.ReserveNamed c.args.bytes.now))
 
-pub returns-in-ReserveUnique : goal.returns-in-ReserveUnique
-returns-in-ReserveUnique c =
-    rw c.in-ReserveUnique.is (map_made deed_of deed.ReserveUnique c.map-in-ReserveUnique.ensures.cases ∙ c.only_number-in-ReserveUnique.ensures asked.ReserveUnique
-    ∙ sym (of_number asked.ReserveUnique c.args.bytes.now))
+pub returns-in_err-only_number-in-ReserveNamed : goal.returns-in_err-only_number-in-ReserveNamed
+returns-in_err-only_number-in-ReserveNamed c =
+    rw c.in-ReserveNamed.is (ap (option_map deed_of) c.from_residual.ensures
+    ∙ c.in_err-only_number-in-ReserveNamed.ensures asked.ReserveNamed ∙ sym (of_number asked.ReserveNamed c.args.bytes.now))
+
+pub returns-in_ok-only_number-in-ReserveUnique : goal.returns-in_ok-only_number-in-ReserveUnique
+returns-in_ok-only_number-in-ReserveUnique c =
+    rw c.in-ReserveUnique.is (c.in_ok-only_number-in-ReserveUnique.ensures asked.ReserveUnique ∙ sym (of_number asked.ReserveUnique c.args.bytes.now))
+
+pub returns-in_err-only_number-in-ReserveUnique : goal.returns-in_err-only_number-in-ReserveUnique
+returns-in_err-only_number-in-ReserveUnique c =
+    rw c.in-ReserveUnique.is (ap (option_map deed_of) c.from_residual-in_err-only_number-in-ReserveUnique.ensures
+    ∙ c.in_err-only_number-in-ReserveUnique.ensures asked.ReserveUnique ∙ sym (of_number asked.ReserveUnique c.args.bytes.now))
 
 pub returns-in-ListNames : goal.returns-in-ListNames
 returns-in-ListNames c = rw c.in-ListNames.is (c.read_alone.ensures ∙ sym (ends asked.ListNames c.args.bytes.now))

@@ -8,8 +8,8 @@ returns-in-Nothing c = ap is_wrong (sym c.in-Nothing.ensures)
 
 pub returns-then-is_command : goal.returns-then-is_command
 returns-then-is_command c =
-    no_error (sym c.if-is_command.true ∙ c.is_command.ensures) c.in-Form.ensures
+    no_error _ _ (sym c.if-is_command.true ∙ c.is_command.ensures) c.in-Form.ensures
 
 pub returns-else-is_command : goal.returns-else-is_command
 returns-else-is_command c =
-    bad_syntax (sym c.if-is_command.false ∙ c.is_command.ensures) c.in-Form.ensures
+    bad_syntax _ _ (sym c.if-is_command.false ∙ c.is_command.ensures) c.in-Form.ensures

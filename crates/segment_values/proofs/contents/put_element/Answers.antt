@@ -16,29 +16,29 @@ returns-in-Err g c =
     of-none
     (λ d k. sym (ap (string_text sp c.args.index) (c.in-Err.ensures.answers d k) ∙ string-part c.args.segment.now c.args.object c.requires.object sp c.args.index c.in-String.is d k))
 
-pub returns-in-Ok-in-Strings : goal.returns-in-Ok-in-Strings
-returns-in-Ok-in-Strings g c =
+pub returns-in-Ok-texts_get : goal.returns-in-Ok-texts_get
+returns-in-Ok-texts_get g c =
     let sp = g.L.Layout.spelling c.args.layout.now in
-    of-one c.put_text-in-Strings.ensures
-    (λ d k. ap (element_text sp c.args.index) (c.in-Ok-in-Strings.ensures.answers d k) ∙ text-part c.args.segment.now c.args.object c.requires.object sp c.args.index c.in-Strings.is d k)
+    of-one c.put_text-in-Ok-texts_get.ensures
+    (λ d k. ap (element_text sp c.args.index) (c.in-Ok-texts_get.ensures.answers d k) ∙ text-part c.args.segment.now c.args.object c.requires.object sp c.args.index c.in-Strings.is d k)
 
-pub returns-in-Err-in-Strings : goal.returns-in-Err-in-Strings
-returns-in-Err-in-Strings g c =
+pub returns-in-Err-texts_get : goal.returns-in-Err-texts_get
+returns-in-Err-texts_get g c =
     let sp = g.L.Layout.spelling c.args.layout.now in
     of-none
-    (λ d k. sym (ap (element_text sp c.args.index) (c.in-Err-in-Strings.ensures.answers d k) ∙ text-part c.args.segment.now c.args.object c.requires.object sp c.args.index c.in-Strings.is d k))
+    (λ d k. sym (ap (element_text sp c.args.index) (c.in-Err-texts_get.ensures.answers d k) ∙ text-part c.args.segment.now c.args.object c.requires.object sp c.args.index c.in-Strings.is d k))
 
-pub returns-in-Ok-in_default : goal.returns-in-Ok-in_default
-returns-in-Ok-in_default g c =
+pub returns-in-Ok-get_any : goal.returns-in-Ok-get_any
+returns-in-Ok-get_any g c =
     let sp = g.L.Layout.spelling c.args.layout.now in
-    let v = c.in-Ok-in_default.value in
+    let v = c.in-Ok-get_any.value in
     of-one {text = sp.scalar c.args.index (kind_of_scalar v) (value_of_scalar v)} c.put_scalar.ensures
-    (λ d k. ap (element_text sp c.args.index) (c.in-Ok-in_default.ensures.answers d k)
+    (λ d k. ap (element_text sp c.args.index) (c.in-Ok-get_any.ensures.answers d k)
     ∙ scalar-part c.args.segment.now c.args.object c.requires.object sp c.args.index c.in_default.not-String c.in_default.not-Strings c.requires.kind d k)
 
-pub returns-in-Err-in_default : goal.returns-in-Err-in_default
-returns-in-Err-in_default g c =
+pub returns-in-Err-get_any : goal.returns-in-Err-get_any
+returns-in-Err-get_any g c =
     let sp = g.L.Layout.spelling c.args.layout.now in
     of-none
-    (λ d k. sym (ap (element_text sp c.args.index) (c.in-Err-in_default.ensures.answers d k)
+    (λ d k. sym (ap (element_text sp c.args.index) (c.in-Err-get_any.ensures.answers d k)
     ∙ scalar-part c.args.segment.now c.args.object c.requires.object sp c.args.index c.in_default.not-String c.in_default.not-Strings c.requires.kind d k))

@@ -1,0 +1,56 @@
+-- The storage grows, and then the values are put in behind the others.
+use Rattle.seg_vector.proofs.{◌+◌, ◌≤◌, arith, length, subst, live_of, IsGrown, IsVector}
+use Rattle.seg_vector.proofs.{enough-for-more, few-places, flat_map, grown-of, grown-then}
+use Rattle.seg_vector.proofs.{table-places, too-many, wanted-for-more}
+use Rattle.seg_vector.specs.Vector.{capacity_for_more}
+use Rattle.seg_vector.proofs.vectors.SegVec.extend.Goals as goal
+
+pub returns-then-more-gt-MAX_SEGMENT_LEN : goal.returns-then-more-gt-MAX_SEGMENT_LEN
+returns-then-more-gt-MAX_SEGMENT_LEN g c xs t v =
+    let more = length c.args.values.now in let enough = enough-for-more (length xs) more t.capacity in
+    too-many c.args.heap.now (capacity_for_more (length xs) more t.capacity) v.stands g.met.T.Plain.sizes.0
+    (omega (arith, enough, c.if-more-gt-MAX_SEGMENT_LEN.true))
+
+pub capacity_for_more-wanted-requires-clause-needed : goal.capacity_for_more-wanted-requires-clause-needed
+capacity_for_more-wanted-requires-clause-needed g c =
+    let v = c.requires.1.1 in let few = few-places c.args.heap.now g.met.T.Plain.sizes.0 v in
+    omega (
+      arith,
+      few.0,
+      few.1,
+      c.len.ensures c.requires.0 c.requires.1.0 v,
+      c.if-more-gt-MAX_SEGMENT_LEN.false,
+    )
+
+pub capacity_for_more-wanted-requires-clause-twice : goal.capacity_for_more-wanted-requires-clause-twice
+capacity_for_more-wanted-requires-clause-twice g c =
+    let v = c.requires.1.1 in let few = few-places c.args.heap.now g.met.T.Plain.sizes.0 v in
+    omega (arith, few.1, c.capacity.ensures c.requires.0 c.requires.1.0 v)
+
+pub put_all-requires : goal.put_all-requires
+put_all-requires g c =
+    let xs = c.requires.0 in let t = c.requires.1.0 in let v = c.requires.1.1 in
+    let more = length c.args.values.now in
+    let wanted = wanted-for-more more c.capacity_for_more-wanted.ensures (c.len.ensures xs t v)
+    (c.capacity.ensures xs t v) in
+    let grown = grown-of c.args.heap.now c.reserve.new.heap c.SIZE.ensures v
+    (λ len capacity. c.capacity_for_more-wanted.result) (λ n u bytes s. c.in_ok-reserve.ensures n u bytes s) in
+    let places = table-places (live_of c.args.heap.now.bytes) g.T.Plain.SIZE c.capacity_for_more-wanted.result t
+    grown.grown in
+    let enough = enough-for-more (length xs) more t.capacity in
+    (xs, (grown.table, (record { stands = grown.stands; values = v.values }, omega (arith, places, wanted, enough))))
+
+pub returns : goal.returns
+returns g c xs t v =
+    let more = length c.args.values.now in let A = c.args.heap.now in let B = c.reserve.new.heap in
+    let wanted = wanted-for-more more c.capacity_for_more-wanted.ensures (c.len.ensures xs t v)
+    (c.capacity.ensures xs t v) in
+    let grown = subst (λ n. IsGrown A B c.args.self.place g.T.Plain.SIZE n (length xs) t
+    (flat_map g.T.Plain.spelling xs)) wanted (grown-of A B c.SIZE.ensures v
+    (λ len capacity. c.capacity_for_more-wanted.result) (λ n u bytes s. c.in_ok-reserve.ensures n u bytes s)) in
+    let places = table-places (live_of A.bytes) g.T.Plain.SIZE (capacity_for_more (length xs) more t.capacity) t
+    grown.grown in
+    let enough = enough-for-more (length xs) more t.capacity in
+    let mid : IsVector g.T.Plain.SIZE g.T.Plain.is_value g.T.Plain.spelling B.bytes c.args.self.place xs grown.table =
+    record { stands = grown.stands; values = v.values } in
+    grown-then v grown (c.put_all.ensures xs grown.table mid (omega (arith, places, enough)))

@@ -1,0 +1,115 @@
+//! Elements of arrays and vectors of scalars, so many written or put in by one call.
+ghost use Rattle.std.specs.Prelude.{◌≡◌, OnErr, OnOk, false, length, map};
+ghost use Rattle.seg_types.specs.declared.kinds.Kind.TheVariants.{Vector as VectorOf};
+ghost use Rattle.seg_types.specs.{declared.kinds.ScalarKind.ScalarKind as AnyScalarKind, Names.ByHandle};
+ghost use Rattle.segment_manager.specs.{Step.is_read_only, objects.Located.IsLocated, State.done_answer};
+ghost use Rattle.segment_manager.specs.containers.Ranges.{ChangesRange, ExtendsVector, WritesRange};
+
+use crate::objects::targets::{Object, Target, locate};
+use crate::segment::Segment;
+use seg_types::{Kind, Refusal, Scalar};
+use seg_vector::{SegVec, spell};
+
+impl Segment {
+    /// Makes the values of a row elements of the object of a key, from `first` on. The object is an array of scalars of
+    /// the type, or a vector of them. It is looked up once, and the row is copied as a whole. Of an empty row nothing
+    /// changes, and of an array no other byte.
+    ///
+    /// Example: `segment.write_range(&name, 2, &[6i64, 7])?`.
+    ///
+    /// # Errors
+    ///
+    /// `ReadOnly` where the segment is open for reading, and else `NotFound` where no object has the key, `WrongKind`
+    /// where it is of another kind, `OutOfRange` where it has not so many elements there. Nothing changes.
+    pub fn write_range<T: Scalar, O: Target>(
+        &mut self,
+        key: &O,
+        first: u64,
+        values: &[T],
+    ) -> Result<(), Refusal>
+        requires { O.stands key.now self.old }
+        ensures step { WritesRange self.old self.new (O.key key.now) T.kind first (map T.whole values.now)
+            (done_answer result) }
+        ensures refused { OnErr result (self.new ≡ self.old) }
+        ensures none { length values.now ≡ 0 → self.new ≡ self.old }
+        ensures frame { OnOk result (ChangesRange self.old self.new (O.key key.now) T.kind first (length values.now)) }
+    {
+        if self.is_read_only() {
+            return Err(Refusal::ReadOnly);
+        }
+        let object = locate(self, key)?;
+        match object.kind {
+            Kind::Vector(_) => self.write_in_vector(&object, first, values),
+            _ => self.write_in_array(&object, first, values),
+        }
+    }
+
+    /// The same of a vector that was located, in a segment that may be changed.
+    fn write_in_vector<T: Scalar>(
+        &mut self,
+        object: &Object,
+        first: u64,
+        values: &[T],
+    ) -> Result<(), Refusal>
+        requires object { IsLocated self.old (ByHandle object.now.handle) object.now }
+        requires writing { is_read_only self.old.mode ≡ false }
+        requires vector { (k : AnyScalarKind) × (object.now.kind ≡ VectorOf k) }
+        ensures step { WritesRange self.old self.new (ByHandle object.now.handle) T.kind first (map T.whole values.now)
+            (done_answer result) }
+        ensures refused { OnErr result (self.new ≡ self.old) }
+        ensures none { length values.now ≡ 0 → self.new ≡ self.old }
+    {
+        let place = object.container(Kind::Vector(T::kind()))?;
+        SegVec::<T>::at(place).overwrite(&mut self.heap, first, values)
+    }
+
+    /// The same of an object of another kind, of which no other byte changes.
+    fn write_in_array<T: Scalar>(
+        &mut self,
+        object: &Object,
+        first: u64,
+        values: &[T],
+    ) -> Result<(), Refusal>
+        requires object { IsLocated self.old (ByHandle object.now.handle) object.now }
+        requires writing { is_read_only self.old.mode ≡ false }
+        requires other { (k : AnyScalarKind) → object.now.kind ≡ VectorOf k → ⊥ }
+        ensures step { WritesRange self.old self.new (ByHandle object.now.handle) T.kind first (map T.whole values.now)
+            (done_answer result) }
+        ensures refused { OnErr result (self.new ≡ self.old) }
+        ensures none { length values.now ≡ 0 → self.new ≡ self.old }
+        ensures frame { OnOk result (ChangesRange self.old self.new (ByHandle object.now.handle) T.kind first
+            (length values.now)) }
+    {
+        let count = u64::from(object.count);
+        if object.kind != Kind::Scalar(T::kind()) {
+            return Err(Refusal::WrongKind);
+        }
+        if first > count || values.len() as u64 > count - first {
+            return Err(Refusal::OutOfRange);
+        }
+        if !values.is_empty() {
+            let at = object.value_at() + T::SIZE * first;
+            spell(&mut self.heap, object.handle, at, values);
+        }
+        Ok(())
+    }
+
+    /// Puts the values of a row behind the last element of the vector of a key, a vector of the type. Where there are
+    /// not places for all of them, it gets twice as many as before, and at least 4, and as many as are needed.
+    ///
+    /// Example: `segment.vec_extend(&name, &[6i64, 7])?`.
+    ///
+    /// # Errors
+    ///
+    /// `ReadOnly` where the segment is open for reading, and else `NotFound` where no object has the key, `WrongKind`
+    /// where it is of another kind, `NoSpace` where its storage cannot be regrown. Nothing changes.
+    pub fn vec_extend<T: Scalar, O: Target>(&mut self, key: &O, values: &[T]) -> Result<(), Refusal>
+        requires { O.stands key.now self.old }
+        ensures step { ExtendsVector self.old self.new (O.key key.now) T.kind (map T.whole values.now)
+            (done_answer result) }
+        ensures refused { OnErr result (self.new ≡ self.old) }
+    {
+        let place = self.find_to_change(key, Kind::Vector(T::kind()))?;
+        SegVec::<T>::at(place).extend(&mut self.heap, values)
+    }
+}

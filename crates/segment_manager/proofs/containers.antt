@@ -34,3 +34,5 @@ pub mod Changeable
 pub mod PairCommands
 pub mod ToChange
 pub mod ElementRuns
+pub mod RangeCalls
+pub mod Extending

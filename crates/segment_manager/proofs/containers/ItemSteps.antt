@@ -10,7 +10,7 @@ use common.{eqb-true, current, live_of, Command, code_of, place_at, Contents, El
 use common.{option_to_list, kind_of_code, IsWithoutSpace, container_at, container_place, is_good_value, with_capacity}
 use Rattle.segment_manager.proofs.containers.Refilled.{HoldsAt, Refill, holds-at, room-asked, refill-steps_of_kind}
 use Rattle.segment_manager.proofs.Steps.{by_no_change_of_kind, open-writing, step_of_kind-found}
-use Rattle.segment_manager.proofs.containers.Contained.{contents-fit, contents-stand}
+use Rattle.segment_manager.proofs.containers.Contained.{contents-changed, contents-fit, contents-stand}
 use Rattle.segment_manager.proofs.containers.Safely.{done-so, stays}
 use Rattle.segment_manager.proofs.{Codes.code-read, Frame.object-roomy, objects.Here.standing}
 
@@ -105,6 +105,16 @@ module _ {A : Type 0} {L : Listing A} (old new : Cut) {d : Directory} {key : Key
   abbrev pub with_elements : List A → Table → Directory
   with_elements xs t = changed d h.object (L.value xs t)
 
+  -- the bytes denote it
+  pub items-denote : (xs : List A) (u : Table) → ListedNow L old new p h.table xs u
+      → Denotes current new.bytes (with_elements xs u)
+  items-denote xs u now = contents-changed old new d key h.object (L.value xs u) (items_in L h.items h.table)
+      (items_in L xs u) den h.is (ap contents_of h.value ∙ L.held h.items h.table) (L.held xs u)
+      (L.of_kind xs u ∙ sym (ap kind_of h.value ∙ L.of_kind h.items h.table))
+      (subst (λ (g : Bool). IsTrue g) (sym (L.values xs u)) now.values)
+      (subst (λ q. IsRefilled old new q (items_in L h.items h.table) (items_in L xs u)) (sym h.at)
+      (record { change = now.change; stands = now.stands }))
+
   -- the object has others now
   items-refill : (xs : List A) (u : Table) (c : Command) (answer : Answer) → perform d (live d) (effect d c)
       ≡ (answer, with_elements xs u) → ListedNow L old new p h.table xs u → Refill old new d key c answer
@@ -141,7 +151,7 @@ module _ {A : Type 0} (L : Listing A) (s : State) (key : Key) (p : Place) (b : I
   abbrev Held : Directory → Type 0
   Held d = HoldsItems L s.cut.bytes d key p
 
-  found-items : (d : Directory) → StandsFor s.cut.bytes d → Held d
+  pub found-items : (d : Directory) → StandsFor s.cut.bytes d → Held d
   found-items d l = holds-items L s.cut.bytes d key p l.denotes (found.answers d l)
 
   -- some stand there

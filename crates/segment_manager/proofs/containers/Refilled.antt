@@ -135,7 +135,7 @@ told-some {A} d key kind say o b e f = ap (λ (r : Option Object). elim r as (λ
 pub same_Err : {A : Type 0} (x y : Refusal) → (let r : Result A Refusal = Err x in r) ≡ Err y → x ≡ y
 same_Err x y e = cc
 
-not-Err : {A P : Type 0} (a : A) (x : Refusal) → (let r : Result A Refusal = Ok a in r) ≡ Err x → P
+pub not-Err : {A P : Type 0} (a : A) (x : Refusal) → (let r : Result A Refusal = Ok a in r) ≡ Err x → P
 not-Err a x e = absurd (cc)
 
 -- the object of the key stands at the place, and is of the kind

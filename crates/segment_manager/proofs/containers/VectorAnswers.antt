@@ -9,6 +9,14 @@ use common.{None, Some, arith, false, refl, subst, take, Table, Place, Value, Re
 use common.{slice_get-get_or, slice_get-map, slice_get_past, value_of_literal, capacity_for_one, IsWithoutSpace, ℕ}
 use common.{IsSomeVector, IsVectorGrown, container_at, is_good_value, with_capacity, IsStepOfKind, AnswersSafely, ℤ}
 use common.{list_all, flat_map, size_of, Refusal, NoSpace, Assigns, Element, Refused, Elements, kind_of, perform}
+use common.{grown_table, current, Denotes, Option, Plan, StandsFor}
+use Rattle.segment_manager.proofs.containers.RangeCalls.{RangeWritten, range-done, range-elements, range-refused}
+use Rattle.segment_manager.proofs.containers.RangeCalls.{range-short, range-written, row-elements, whole-replaced}
+use Rattle.segment_manager.proofs.containers.Extending.{VectorExtended, extended-done, extended-found, extended-refused}
+use Rattle.segment_manager.proofs.containers.Extending.{extended-room}
+use Rattle.segment_manager.proofs.containers.Refilled.{then_room}
+use Rattle.segment_manager.specs.containers.Ranges.{extended, numbers_if, replaced}
+use Rattle.seg_vector.specs.{Vector.capacity_for_more, VectorCalls.ExtendsBy, VectorCalls.SetsAll}
 use Rattle.segment_manager.proofs.containers.Safely.{pick-outside, pick-space, Answered, answered, done-so, kept-gaps}
 use Rattle.segment_manager.proofs.{containers.Safely.same-live, Common.live_of}
 use Rattle.best_fit.specs.Heap.{KeepsGaps}
@@ -16,6 +24,7 @@ use Rattle.seg_vector.proofs.Laws.{same-extents}
 use Rattle.segment_manager.proofs.containers.ContentPlans.{assign-plan, erase-plan, get-plan, insert-plan, pop-plan}
 use Rattle.segment_manager.proofs.containers.ContentPlans.{push-plan, set-plan}
 use Rattle.segment_manager.proofs.containers.ItemSteps.{HoldsItems, ListedGrown, ListedNow, Listing, changes-safely}
+use Rattle.segment_manager.proofs.containers.ItemSteps.{found-items, items-denote}
 use Rattle.segment_manager.proofs.containers.ItemSteps.{grows-safely, items-full, items-grown, items-now, items-refused}
 use Rattle.segment_manager.proofs.containers.ItemSteps.{items-stay, items-steps, so-too, some-items, vector-only}
 use Rattle.segment_manager.proofs.Whole.{IsOfKind, whole-insert, whole-reached, whole-remove, whole-set, whole-spelled}
@@ -266,3 +275,66 @@ module _ {T : Type 0} {k : ScalarKind} {w : T → ℤ} {size : ℕ} {test : T �
           (sym (whole-values k w size test sp law ys) ∙ v)) ∙ (λ i. with_capacity (sym law.long i) (length-map ys w i)
           h.table (λ u. Reply Done (changed d h.object (Elements k (map w ys) u))))) (λ d h. so-too _ _ _ r
           (a h.items h.table (vector d h)) (λ q. grown-so q)))
+
+      -- ---- others over those from one on, and behind the last
+
+      pub vector-overwritten : (first : ℕ) (ys : List T) (r : Result (Unit {0}) Refusal)
+          → SetsAll size test sp s.cut new p first ys r → RangeWritten s t new key k first (map w ys) r
+      vector-overwritten first ys (Ok u) a = range-written s key k first (map w ys) t view b new
+          (a some.items some.table (vector b.0 some)).1.change.place (λ d l.
+          let h = found-items typed s key p b found d l in
+          range-done s.mode d key k first (map w ys) writing h.object h.is (map w h.items)
+          (ap (numbers_if k) h.value ∙ row-elements k (map w h.items) h.table)
+          (let inside = (a h.items h.table (vector d h)).0 in
+          omega (arith, inside, length-map ys w, length-map h.items w))) (λ d l.
+          let h = found-items typed s key p b found d l in
+          subst (Denotes current new.bytes)
+          (ap (λ zs. changed d h.object (Elements k zs h.table)) (whole-replaced w h.items first ys)
+          ∙ sym (range-elements d key h.object k (map w h.items) h.table first (map w ys) h.is h.value))
+          (items-denote s.cut new l.denotes h (replaced h.items first ys) h.table
+          (now-so (a h.items h.table (vector d h)).1)))
+      vector-overwritten first ys (Err e) a =
+          let out = a some.items some.table (vector b.0 some) in
+          range-refused s key k first (map w ys) t view b new OutOfRange e out.refusal out.same (λ d l.
+          let h = found-items typed s key p b found d l in
+          range-short s.mode d key k first (map w ys) writing h.object h.is (map w h.items)
+          (ap (numbers_if k) h.value ∙ row-elements k (map w h.items) h.table)
+          (let outside = (a h.items h.table (vector d h)).outside in
+          omega (arith, outside, length-map ys w, length-map h.items w)))
+
+      module _ (ys : List T) (d : Directory) (h : Holds d) where
+        abbrev wanted_places : ℕ
+        wanted_places = capacity_for_more (length (map w h.items)) (length (map w ys)) h.table.capacity
+
+        abbrev behind_last : Table → Plan
+        behind_last u = Reply Done (changed d h.object (Elements k (map w h.items ++ map w ys) u))
+
+        asked-places : {r : Option Table} → grown_table (live_of s.cut.bytes) size
+            (capacity_for_more (length h.items) (length ys) h.table.capacity) h.table ≡ r
+            → grown_table (live_of s.cut.bytes) (size_of k) wanted_places h.table ≡ r
+        asked-places e = (λ i. grown_table (live_of s.cut.bytes) (sym law.long i)
+            (capacity_for_more (length-map h.items w i) (length-map ys w i) h.table.capacity) h.table) ∙ e
+
+        extends-to : (l : StandsFor s.cut.bytes d) (r : Option Table) → grown_table (live_of s.cut.bytes) size
+            (capacity_for_more (length h.items) (length ys) h.table.capacity) h.table ≡ r
+            → extended s.mode d key k (map w ys) ≡ then_room d (live d) h.table behind_last r
+        extends-to l r e = extended-found s.mode d key k (map w ys) writing h.object h.is (map w h.items) h.table h.value
+            ∙ extended-room d l.denotes k wanted_places h.table behind_last r (asked-places e)
+
+      pub vector-extended : (ys : List T) (r : Result (Unit {0}) Refusal) → ExtendsBy size test sp s.cut new p ys r
+          → VectorExtended s t new key k (map w ys) r
+      vector-extended ys (Ok u) a = extended-done s key k (map w ys) t view b new
+          (a some.items some.table (vector b.0 some)).now.change.place (λ d l.
+          let h = found-items typed s key p b found d l in
+          let r = a h.items h.table (vector d h) in
+          record {
+            after = changed d h.object (Elements k (map w (h.items ++ ys)) r.table);
+            is = extends-to ys d h l (Some r.table) r.grown
+                ∙ ap (λ zs. (Done, changed d h.object (Elements k zs r.table))) (sym (map-append w h.items ys));
+            denotes = items-denote s.cut new l.denotes h (h.items ++ ys) r.table (now-so r.now);
+          })
+      vector-extended ys (Err e) a =
+          let out = a some.items some.table (vector b.0 some) in
+          extended-refused s key k (map w ys) t view b new NoSpace e out.refusal out.same (λ d l.
+          let h = found-items typed s key p b found d l in
+          extends-to ys d h l None (a h.items h.table (vector d h)).none)

@@ -30,7 +30,7 @@ list_all-set t (y ∷ ys) (suc i) z h v = and_from (t y) (list_all t (set ys i z
     (list_all-set t ys i z (second (t y) (list_all t ys) h) v)
 
 -- as many values make the object another
-numbers-object : (o : Object) (k : ScalarKind) (zs new : List ℤ) → IsTrue (is_object current o) → o.value ≡ Numbers k zs
+pub numbers-object : (o : Object) (k : ScalarKind) (zs new : List ℤ) → IsTrue (is_object current o) → o.value ≡ Numbers k zs
     → length new ≡ length zs → IsTrue (list_all (is_value k) new)
     → IsTrue (is_object current (with_value o (Numbers k new)))
 numbers-object o k zs new h e many all =

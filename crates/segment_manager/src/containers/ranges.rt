@@ -1,5 +1,5 @@
 //! Elements of arrays and vectors of scalars, so many written or put in by one call.
-ghost use Rattle.std.specs.Prelude.{◌≡◌, OnErr, OnOk, false, length, map};
+ghost use Rattle.std.specs.Prelude.{◌≡◌, ◌+◌, OnErr, OnOk, false, length, map, nat_le};
 ghost use Rattle.seg_types.specs.declared.kinds.Kind.TheVariants.{Vector as VectorOf};
 ghost use Rattle.seg_types.specs.{declared.kinds.ScalarKind.ScalarKind as AnyScalarKind, Names.ByHandle};
 ghost use Rattle.segment_manager.specs.{Step.is_read_only, objects.Located.IsLocated, State.done_answer};
@@ -80,17 +80,18 @@ impl Segment {
         ensures frame { OnOk result (ChangesRange self.old self.new (ByHandle object.now.handle) T.kind first
             (length values.now)) }
     {
-        let count = u64::from(object.count);
-        if object.kind != Kind::Scalar(T::kind()) {
+        let kind = Kind::Scalar(T::kind());
+        if kind.code() != object.kind.code() {
             return Err(Refusal::WrongKind);
         }
-        if first > count || values.len() as u64 > count - first {
+        if !has_range(u64::from(object.count), first, values.len() as u64) {
             return Err(Refusal::OutOfRange);
         }
-        if !values.is_empty() {
-            let at = object.value_at() + T::SIZE * first;
-            spell(&mut self.heap, object.handle, at, values);
+        if values.is_empty() {
+            return Ok(());
         }
+        let at = object.value_at() + T::SIZE * first;
+        spell(&mut self.heap, object.handle, at, values);
         Ok(())
     }
 
@@ -109,7 +110,17 @@ impl Segment {
             (done_answer result) }
         ensures refused { OnErr result (self.new ≡ self.old) }
     {
-        let place = self.find_to_change(key, Kind::Vector(T::kind()))?;
+        if self.is_read_only() {
+            return Err(Refusal::ReadOnly);
+        }
+        let place = self.find_container(key, Kind::Vector(T::kind()))?;
         SegVec::<T>::at(place).extend(&mut self.heap, values)
     }
+}
+
+/// Whether so many elements have `count` from `first` on.
+fn has_range(len: u64, first: u64, count: u64) -> bool
+    ensures { result ≡ nat_le (first + count) len }
+{
+    first <= len && count <= len - first
 }

@@ -35,6 +35,7 @@ impl Object {
     }
 
     /// Where its container stands: `WrongKind` where it is of another kind.
+    #[inline(always)]
     pub(crate) fn container(self, kind: Kind) -> Result<Place, Refusal>
         ensures { result ≡ container_in self kind }
     {
@@ -51,6 +52,7 @@ impl Object {
 
     /// Where its element of an index stands: `WrongKind` where it has no scalars of the kind, `OutOfRange` where it has
     /// no such element.
+    #[inline(always)]
     pub(crate) fn element(self, kind: ScalarKind, index: u64) -> Result<Place, Refusal>
         ensures { result ≡ element_in self kind index }
     {

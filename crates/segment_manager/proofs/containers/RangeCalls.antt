@@ -1,0 +1,506 @@
+-- Elements of arrays and vectors that one call writes: what comes of it in each directory.
+use Rattle.segment_manager.proofs.Common as common
+use common.{◌≡◌, refl, sym, ap, subst, ◌∙◌, ℕ, ◌+◌, ◌*◌, ◌<◌, ◌≤◌, ℤ, Bool, true, false, ◌||◌, Option, Some, None, Result}
+use common.{Ok, Err, List, ◌++◌, length, map, take, drop, if◌then◌else◌, arith, IsTrue, list_all, nat_le, le-leb, lt-leb}
+use common.{length-append, length-map, map-append, take-map, eq-eqb, ne_eqb, append_assoc, Cut, SameBut, Has, bytes_of}
+use common.{current, handle, Kind, ScalarKind, Scalar, Vector, code_of, same_kind, is_value, size_of, spelled, spelling}
+use common.{Refusal, NotFound, OutOfRange, ReadOnly, WrongKind, Key, ByHandle, Mode, Answer, Done, Refused, Directory}
+use common.{Object, Value, Numbers, Elements, Bytes, Pairs, Texts, kind_of, count_of, value_extents, padded, object_at}
+use common.{changed, is_read_only, with_items, Answers, State, StandsFor, Denotes, IsValueAt, IsChanged, Located}
+use common.{IsLocated, head_len, is_object, Place, IsSegment, StandsAt, same_Some, value_len, mul-le-mul_left}
+use common.{done_answer, IsMissing, OnErr, SamePlace, Table, kind_of_code, leb-true, [], flat_map, has_room, live_of}
+use Rattle.std.proofs.lemmas.List.{nil_from_length}
+use Rattle.segment_manager.proofs.{Calling.denotes-heap, objects.Standings.standing-room, containers.ItemSteps.one-kind}
+use Rattle.segment_manager.proofs.Whole.{IsOfKind, whole-spelled, whole-values}
+use Rattle.std.proofs.lemmas.Bool.{leb-false}
+use Rattle.segment_manager.specs.objects.Located.{container_in, located, value_in}
+use Rattle.std.specs.Prelude.{IfOk, OnOk}
+use Rattle.std.proofs.lemmas.List.{drop-map, length-drop, length-take}
+use Rattle.raw_region.specs.Memory.{patched}
+use Rattle.raw_region.proofs.Bytes.{Has-patched}
+use Rattle.seg_vector.proofs.Typed.{all-both, flat-replaced}
+use Rattle.std.proofs.lemmas.{Bool.and_parts, List.Folds.list_all-append, List.take-append-drop}
+use Rattle.segment_manager.specs.containers.Ranges.{ChangesRange, WritesRange, is_row, numbers_if, range_at, range_in}
+use Rattle.segment_manager.specs.containers.Ranges.{range_of, replaced, with_range, written, written_if}
+use Rattle.segment_manager.specs.objects.{ElementLists.numbers_in, Standing.place_at, Standing.place_in}
+use Rattle.segment_manager.specs.objects.Standing.{element_at}
+use Rattle.segment_manager.proofs.{objects.Locating.said-at, objects.Locating.same-object, objects.Here.standing}
+use Rattle.segment_manager.proofs.{objects.Stored.numbers-good, objects.Written.numbers-object, Codes.code-read}
+use Rattle.segment_manager.proofs.{Codes.numbers-only, objects.Stored.ElementAt, objects.Stored.element-found}
+use Rattle.segment_manager.proofs.{objects.ObjectLists.key-found, objects.Exchanged.denotes-rewritten}
+use Rattle.segment_manager.proofs.{Frame.object-roomy, blocks.Blocks.spelling-length, blocks.Blocks.spelled-length}
+use Rattle.segment_manager.proofs.objects.Rewritten.{value_start, with_value}
+use Rattle.segment_manager.proofs.containers.Safely.{seen-refused}
+
+-- ---- a list with others in the places from one on
+
+pub replaced-length : {T : Type 0} (xs : List T) (i : ℕ) (ys : List T) → i + length ys ≤ length xs
+    → length (replaced xs i ys) ≡ length xs
+replaced-length xs i ys h = omega (
+  arith,
+  h,
+  length-append (take i xs) (ys ++ drop (i + length ys) xs),
+  length-append ys (drop (i + length ys) xs),
+  length-take i xs,
+  length-drop (i + length ys) xs,
+)
+
+all-parts : {T : Type 0} (test : T → Bool) (n : ℕ) (xs : List T) → IsTrue (list_all test xs)
+    → IsTrue (list_all test (take n xs)) × IsTrue (list_all test (drop n xs))
+all-parts test n xs v = and_parts (list_all test (take n xs)) (list_all test (drop n xs))
+    (sym (list_all-append test (take n xs) (drop n xs)) ∙ ap (list_all test) (take-append-drop n xs) ∙ v)
+
+pub all-replaced : {T : Type 0} (test : T → Bool) (xs : List T) (i : ℕ) (ys : List T) → IsTrue (list_all test xs)
+    → IsTrue (list_all test ys) → IsTrue (list_all test (replaced xs i ys))
+all-replaced test xs i ys v w = all-both test (take i xs) (ys ++ drop (i + length ys) xs) (all-parts test i xs v).0
+    (all-both test ys (drop (i + length ys) xs) w (all-parts test (i + length ys) xs v).1)
+
+pub whole-replaced : {T : Type 0} (w : T → ℤ) (xs : List T) (i : ℕ) (ys : List T)
+    → map w (replaced xs i ys) ≡ replaced (map w xs) i (map w ys)
+whole-replaced w xs i ys =
+    let many = length-map ys w in
+    map-append w (take i xs) (ys ++ drop (i + length ys) xs)
+    ∙ ap (λ zs. map w (take i xs) ++ zs) (map-append w ys (drop (i + length ys) xs))
+    ∙ (λ j. sym (take-map w i xs) j ++ (map w ys ++ sym (drop-map w (i + length ys) xs) j))
+    ∙ ap (λ n. take i (map w xs) ++ (map w ys ++ drop (i + n) (map w xs))) (sym many)
+
+-- ---- what is answered
+
+abbrev row_in : ScalarKind → Option Object → Result (List ℤ) Refusal
+row_in k r =
+    elim r as (λ _. Result (List ℤ) Refusal) [ None ↦ Err NotFound | Some o ↦ numbers_if k o.value ]
+
+abbrev range_with : Directory → ℕ → List ℤ → Option Object → Directory
+range_with d first zs r = elim r as (λ _. Directory) [
+  | None ↦ d
+  | Some o ↦ changed d o (with_items o.value (replaced (numbers_in o.value) first zs))
+]
+
+module _ (mode : Mode) (d : Directory) (key : Key) (k : ScalarKind) (first : ℕ) (zs : List ℤ) where
+  open-for : is_read_only mode ≡ false → (q : Result (List ℤ) Refusal) → row_in k (object_at d key) ≡ q
+      → written mode d key k first zs ≡ written_if (range_in q first (length zs)) d (with_range d key first zs)
+  open-for e q f = λ i.
+      if e i then (Refused ReadOnly, d)
+      else written_if (range_in (f i) first (length zs)) d (with_range d key first zs)
+
+  pub range-reading : is_read_only mode ≡ true → written mode d key k first zs ≡ (Refused ReadOnly, d)
+  range-reading e = ap (λ b. if b then (Refused ReadOnly, d)
+      else written_if (range_at d key k first (length zs)) d (with_range d key first zs)) e
+
+  pub range-nowhere : is_read_only mode ≡ false → object_at d key ≡ None
+      → written mode d key k first zs ≡ (Refused NotFound, d)
+  range-nowhere e f = open-for e (Err NotFound) (ap (row_in k) f)
+
+  pub range-other : is_read_only mode ≡ false → (o : Object) → object_at d key ≡ Some o
+      → numbers_if k o.value ≡ Err WrongKind → written mode d key k first zs ≡ (Refused WrongKind, d)
+  range-other e o f g = open-for e (Err WrongKind) (ap (row_in k) f ∙ g)
+
+  module _ (e : is_read_only mode ≡ false) (o : Object) (f : object_at d key ≡ Some o) (ns : List ℤ)
+      (g : numbers_if k o.value ≡ Ok ns) where
+    range-if : (b : Bool) → nat_le (first + length zs) (length ns) ≡ b → written mode d key k first zs
+        ≡ written_if (if b then Ok (take (length zs) (drop first ns)) else Err OutOfRange) d (with_range d key first zs)
+    range-if b h = open-for e (Ok ns) (ap (row_in k) f ∙ g)
+        ∙ ap (λ c. written_if (if c then Ok (take (length zs) (drop first ns)) else Err OutOfRange) d
+        (with_range d key first zs)) h
+
+    pub range-short : length ns < first + length zs → written mode d key k first zs ≡ (Refused OutOfRange, d)
+    range-short h = range-if false (lt-leb (first + length zs) (length ns) h)
+
+    pub range-done : first + length zs ≤ length ns
+        → written mode d key k first zs ≡ (Done, with_range d key first zs)
+    range-done h = range-if true (le-leb (first + length zs) (length ns) h)
+
+-- the directory in which they are others, of an array and of a vector
+pub range-numbers : (d : Directory) (key : Key) (o : Object) (k : ScalarKind) (ns : List ℤ) (first : ℕ) (zs : List ℤ)
+    → object_at d key ≡ Some o → o.value ≡ Numbers k ns
+    → with_range d key first zs ≡ changed d o (Numbers k (replaced ns first zs))
+range-numbers d key o k ns first zs is value = ap (range_with d first zs) is
+    ∙ ap (λ v. changed d o (with_items v (replaced (numbers_in v) first zs))) value
+
+pub range-elements : (d : Directory) (key : Key) (o : Object) (k : ScalarKind) (ns : List ℤ) (t : Table) (first : ℕ)
+    (zs : List ℤ) → object_at d key ≡ Some o → o.value ≡ Elements k ns t
+    → with_range d key first zs ≡ changed d o (Elements k (replaced ns first zs) t)
+range-elements d key o k ns t first zs is value = ap (range_with d first zs) is
+    ∙ ap (λ v. changed d o (with_items v (replaced (numbers_in v) first zs))) value
+
+-- ---- the segment
+
+-- what the call did
+pub record RangeWritten (s t : State) (new : Cut) (key : Key) (k : ScalarKind) (first : ℕ) (zs : List ℤ)
+    (r : Result (Unit {0}) Refusal) : Type 0 where
+  pub step : WritesRange t (record s { cut = new }) key k first zs (done_answer r)
+  pub refused : OnErr r ((record s { cut = new }) ≡ t)
+  pub segment : IsSegment new.bytes
+
+module _ (s : State) (key : Key) (k : ScalarKind) (first : ℕ) (zs : List ℤ) where
+  -- nothing changes
+  pub range-stays : (why : Refusal) → ((d : Directory) → StandsFor s.cut.bytes d
+      → written s.mode d key k first zs ≡ (Refused why, d)) → WritesRange s s key k first zs (Refused why)
+  range-stays why each = record {
+    stays = record { mode = refl; place = record { before = refl; after = refl } };
+    answers = λ d st. sym (ap (λ (n : Answer × Directory). n.0) (each d st));
+    denotes = λ d st. subst (λ (n : Answer × Directory). StandsFor s.cut.bytes n.1) (sym (each d st)) st;
+  }
+
+  -- the elements are others
+  range-moves : (new : Cut) → SamePlace s.cut new → ((d : Directory) → StandsFor s.cut.bytes d
+      → written s.mode d key k first zs ≡ (Done, with_range d key first zs)) → ((d : Directory)
+      → StandsFor s.cut.bytes d → Denotes current new.bytes (with_range d key first zs))
+      → WritesRange s (record s { cut = new }) key k first zs Done
+  range-moves new place each leads = record {
+    stays = record { mode = refl; place = place };
+    answers = λ d st. sym (ap (λ (n : Answer × Directory). n.0) (each d st));
+    denotes = λ d st. subst (λ (n : Answer × Directory). StandsFor new.bytes n.1) (sym (each d st))
+        (record { denotes = leads d st });
+  }
+
+  -- the same, as the view before the call names the segment
+  module _ (t : State) (view : s ≡ t) (b : IsSegment s.cut.bytes) (new : Cut) where
+    pub range-written : {u : Unit {0}} → SamePlace s.cut new → ((d : Directory) → StandsFor s.cut.bytes d
+        → written s.mode d key k first zs ≡ (Done, with_range d key first zs)) → ((d : Directory)
+        → StandsFor s.cut.bytes d → Denotes current new.bytes (with_range d key first zs))
+        → RangeWritten s t new key k first zs (Ok u)
+    range-written place each leads = record {
+      step = subst (λ (u : State). WritesRange u (record s { cut = new }) key k first zs Done) view
+          (range-moves new place each leads);
+      refused = tt;
+      segment = (with_range b.0 key first zs, record { denotes = leads b.0 b.1 });
+    }
+
+    pub range-refused : (why e : Refusal) → e ≡ why → new ≡ s.cut → ((d : Directory) → StandsFor s.cut.bytes d
+        → written s.mode d key k first zs ≡ (Refused why, d)) → RangeWritten s t new key k first zs (Err e)
+    range-refused why e is same each = record {
+      step = subst (λ (u : State). WritesRange u (record s { cut = new }) key k first zs (Refused e)) view
+          (subst (λ (r : Refusal). WritesRange s (record s { cut = new }) key k first zs (Refused r)) (sym is)
+          (subst (λ (c : Cut). WritesRange s (record s { cut = c }) key k first zs (Refused why)) (sym same)
+          (range-stays why each)));
+      refused = seen-refused {R = Unit {0}} s t view new (Err e) same;
+      segment = subst (λ (c : Cut). IsSegment c.bytes) (sym same) b;
+    }
+
+-- no object has the key
+pub why-missing : (s : State) (key : Key) (k : ScalarKind) (first : ℕ) (zs : List ℤ) → is_read_only s.mode ≡ false
+    → {why : Refusal} → IsMissing s key why → WritesRange s s key k first zs (Refused why)
+why-missing s key k first zs writing m =
+    subst (λ (r : Refusal). WritesRange s s key k first zs (Refused r)) (sym m.is) (range-stays s key k first zs NotFound
+    (λ d st. range-nowhere s.mode d key k first zs writing (m.missing d st)))
+
+-- under a key as under the handle of its object
+pub range-by_key : (s t : State) (key : Key) (o : Located) → IsLocated s key o → (k : ScalarKind) (first : ℕ)
+    (zs : List ℤ) (answer : Answer) → WritesRange s t (ByHandle o.handle) k first zs answer
+    → WritesRange s t key k first zs answer
+range-by_key s t key o l k first zs answer m =
+    let same : (d : Directory) → StandsFor s.cut.bytes d
+    → written s.mode d (ByHandle o.handle) k first zs ≡ written s.mode d key k first zs = λ d st.
+    ap (λ (r : Option Object). if is_read_only s.mode then (Refused ReadOnly, d)
+    else written_if (range_in (row_in k r) first (length zs)) d (range_with d first zs r))
+    (sym (same-object s key o l d st)) in
+    record {
+      stays = m.stays;
+      answers = λ d st. m.answers d st ∙ ap (λ (n : Answer × Directory). n.0) (same d st);
+      denotes = λ d st. subst (λ (n : Answer × Directory). StandsFor t.cut.bytes n.1) (same d st) (m.denotes d st);
+    }
+
+-- ---- kinds
+
+-- kinds that differ have other codes
+no-same : (a b : Kind) → (a ≡ b → ⊥) → same_kind a b ≡ false
+no-same a b n = ne_eqb (code_of a) (code_of b)
+    (λ e. n (same_Some a b (sym (code-read a) ∙ ap kind_of_code e ∙ code-read b)))
+
+-- a vector of another kind has no such row, nor has what is no array of it
+pub row-none : (k : ScalarKind) (v : Value) → same_kind (Vector k) (kind_of v) ≡ false
+    → same_kind (Scalar k) (kind_of v) ≡ false → numbers_if k v ≡ Err WrongKind
+row-none k v e f = λ i. if e i || f i then Ok (numbers_in v) else Err WrongKind
+
+pub row-elements : (k : ScalarKind) (ns : List ℤ) (t : Table) → numbers_if k (Elements k ns t) ≡ Ok ns
+row-elements k ns t = ap (λ b. if b || same_kind (Scalar k) (Vector k) then Ok ns else Err WrongKind)
+    (eq-eqb (code_of (Vector k)) (code_of (Vector k)) refl)
+
+or-true : (b : Bool) → (b || true) ≡ true
+or-true true = refl
+or-true false = refl
+
+pub row-numbers : (k : ScalarKind) (ns : List ℤ) → numbers_if k (Numbers k ns) ≡ Ok ns
+row-numbers k ns =
+    ap (λ b. if same_kind (Vector k) (Scalar k) || b then Ok ns else Err WrongKind)
+    (eq-eqb (code_of (Scalar k)) (code_of (Scalar k)) refl)
+    ∙ ap (λ b. if b then Ok ns else Err WrongKind) (or-true (same_kind (Vector k) (Scalar k)))
+
+-- ---- an array
+
+module _ (old new : Cut) (d : Directory) (key : Key) (o : Object) (k : ScalarKind) (ns : List ℤ) (first : ℕ)
+    (zs : List ℤ) (den : Denotes current old.bytes d) (is : object_at d key ≡ Some o) (value : o.value ≡ Numbers k ns)
+    (fits : first + length zs ≤ length ns) (good : IsTrue (list_all (is_value k) zs)) where
+  -- where the elements begin that are written
+  abbrev spot : ℕ
+  spot = value_start o + size_of k * first
+
+  -- the bytes denote the directory with the new elements
+  pub array-denotes : IsChanged current old new spot (size_of k * length zs)
+      → Has (bytes_of new.bytes) spot (spelled k zs)
+      → Denotes current new.bytes (changed d o (Numbers k (replaced ns first zs)))
+  array-denotes c w =
+      let s : StandsAt old.bytes (handle o.extent) o = standing old.bytes d key o den is in
+      let f = key-found current d key o den.directory is in
+      let roomy = object-roomy current o s.good in
+      let room = roomy.room in let long : value_len o.value ≡ size_of k * length ns = ap value_len value in
+      let many : length (spelled k zs) ≡ size_of k * length zs = spelled-length k zs in
+      let all : length (spelled k ns) ≡ size_of k * length ns = spelled-length k ns in
+      let step : size_of k * (first + length zs) ≡ size_of k * first + size_of k * length zs = omega arith in
+      let inside = mul-le-mul_left (size_of k) fits in
+      let new_good = numbers-object o k ns (replaced ns first zs) s.good value (replaced-length ns first zs fits)
+      (all-replaced (is_value k) ns first zs (numbers-good o k ns s.good value) good) in
+      let was : Has (bytes_of old.bytes) (value_start o) (spelled k ns) =
+      subst (λ v. IsValueAt (bytes_of old.bytes) (value_start o) v) value s.said.value in
+      let rest = subst (λ n. SameBut (bytes_of old.bytes) (bytes_of new.bytes) spot n) (sym many) c.rest in
+      let at : IsValueAt (bytes_of new.bytes) (value_start o) (Numbers k (replaced ns first zs)) =
+      subst (Has (bytes_of new.bytes) (value_start o)) (flat-replaced (size_of k) (is_value k) (spelling k)
+      (λ z v. spelling-length k z) ns first zs (numbers-good o k ns s.good value) good)
+      (Has-patched (value_start o) (size_of k * first) (spelled k ns) (spelled k zs)
+      (omega (arith, many, all, step, inside)) rest was w) in
+      denotes-rewritten o (Numbers k (replaced ns first zs)) den f (ap kind_of (sym value))
+      (replaced-length ns first zs fits ∙ ap count_of (sym value)) (ap value_extents (sym value)) new_good
+      (omega arith) (omega (arith, room, long, step, inside)) c at
+
+-- ---- an array that was located
+
+record HasNumbers (d : Directory) (o : Located) (k : ScalarKind) : Type 0 where
+  object : Object
+  is : object_at d (ByHandle o.handle) ≡ Some object
+  said : o ≡ located object
+  numbers : List ℤ
+  value : object.value ≡ Numbers k numbers
+
+module _ (s : State) (o : Located) (l : IsLocated s (ByHandle o.handle) o) (k : ScalarKind) (first : ℕ)
+    (zs : List ℤ) where
+  -- of another kind, and no vector
+  pub array-other : is_read_only s.mode ≡ false → ((j : ScalarKind) → o.kind ≡ Vector j → ⊥)
+      → same_kind (Scalar k) o.kind ≡ false → WritesRange s s (ByHandle o.handle) k first zs (Refused WrongKind)
+  array-other writing never other = range-stays s (ByHandle o.handle) k first zs WrongKind (λ d st.
+      let p = said-at s (ByHandle o.handle) o l d st in
+      let kind : o.kind ≡ kind_of p.object.value = ap (λ (q : Located). q.kind) p.said in
+      range-other s.mode d (ByHandle o.handle) k first zs writing p.object p.is (row-none k p.object.value
+      (no-same (Vector k) (kind_of p.object.value) (λ e. never k (kind ∙ sym e))) (sym (ap (same_kind (Scalar k)) kind)
+      ∙ other)))
+
+  module _ (is : o.kind ≡ Scalar k) where
+    numbers-of : (d : Directory) → StandsFor s.cut.bytes d → HasNumbers d o k
+    numbers-of d st =
+        let p = said-at s (ByHandle o.handle) o l d st in
+        let kind : o.kind ≡ kind_of p.object.value = ap (λ (q : Located). q.kind) p.said in
+        let n = numbers-only k p.object.value
+        (eq-eqb (code_of (Scalar k)) (code_of (kind_of p.object.value)) (ap code_of (sym is ∙ kind))) in
+        record { object = p.object; is = p.is; said = p.said; numbers = n.0; value = n.1 }
+
+    many : {d : Directory} (h : HasNumbers d o k) → o.count ≡ length h.numbers
+    many h = ap (λ (q : Located). q.count) h.said ∙ ap count_of h.value
+
+    row-of : {d : Directory} (h : HasNumbers d o k) → numbers_if k h.object.value ≡ Ok h.numbers
+    row-of h = ap (numbers_if k) h.value ∙ row-numbers k h.numbers
+
+    -- there are not so many
+    pub array-short : is_read_only s.mode ≡ false → nat_le (first + length zs) o.count ≡ false
+        → WritesRange s s (ByHandle o.handle) k first zs (Refused OutOfRange)
+    array-short writing f = range-stays s (ByHandle o.handle) k first zs OutOfRange (λ d st.
+        let h = numbers-of d st in
+        range-short s.mode d (ByHandle o.handle) k first zs writing h.object h.is h.numbers (row-of h)
+        (let l = leb-false (first + length zs) o.count f in omega (arith, l, many h)))
+
+    -- where they stand
+    abbrev pub row_spot : ℕ
+    row_spot = o.handle + (value_in o + size_of k * first)
+
+    module _ (t : State) (view : s ≡ t) (b : IsSegment s.cut.bytes) (new : Cut) (writing : is_read_only t.mode ≡ false)
+        (fits : nat_le (first + length zs) o.count ≡ true) (good : IsTrue (list_all (is_value k) zs))
+        (c : IsChanged current s.cut new row_spot (size_of k * length zs))
+        (w : Has (bytes_of new.bytes) row_spot (spelled k zs)) where
+      inside : {d : Directory} (h : HasNumbers d o k) → first + length zs ≤ length h.numbers
+      inside h = let l = leb-true (first + length zs) o.count fits in omega (arith, l, many h)
+
+      same-spot : {d : Directory} (h : HasNumbers d o k) → row_spot ≡ value_start h.object + size_of k * first
+      same-spot h = ap (λ (q : Located). q.handle + (value_in q + size_of k * first)) h.said
+          ∙ (let e : handle h.object.extent + (head_len + padded (length h.object.name) + size_of k * first)
+          ≡ value_start h.object + size_of k * first = omega arith in e)
+
+      -- they are written
+      pub array-written : RangeWritten s t new (ByHandle o.handle) k first zs (Ok tt)
+      array-written = range-written s (ByHandle o.handle) k first zs t view b new c.place (λ d st.
+          let h = numbers-of d st in
+          range-done s.mode d (ByHandle o.handle) k first zs
+          (subst (λ (u : State). is_read_only u.mode ≡ false) (sym view) writing) h.object h.is h.numbers (row-of h)
+          (inside h)) (λ d st.
+          let h = numbers-of d st in
+          subst (Denotes current new.bytes)
+          (sym (range-numbers d (ByHandle o.handle) h.object k h.numbers first zs h.is h.value))
+          (array-denotes s.cut new d (ByHandle o.handle) h.object k h.numbers first zs st.denotes h.is h.value (inside h)
+          good (subst (λ at. IsChanged current s.cut new at (size_of k * length zs)) (same-spot h) c)
+          (subst (λ at. Has (bytes_of new.bytes) at (spelled k zs)) (same-spot h) w)))
+
+-- ---- no other byte of an array
+
+abbrev But : State → State → ℕ → Result Place Refusal → Type 0
+But old new n r = IfOk r (λ (p : Place). SameBut (bytes_of old.cut.bytes) (bytes_of new.cut.bytes) (p.handle + p.at) n)
+
+module _ (s t : State) (o : Located) (l : IsLocated s (ByHandle o.handle) o) (k : ScalarKind) (first n : ℕ) where
+  but-if : (d : Directory) → StandsFor s.cut.bytes d → ((p : Place) → ElementAt s.cut.bytes d (ByHandle o.handle) k
+      first p → SameBut (bytes_of s.cut.bytes) (bytes_of t.cut.bytes) (p.handle + p.at) (size_of k * n))
+      → (r : Result Place Refusal) → place_at d (ByHandle o.handle) k first ≡ r → But s t (size_of k * n) r
+  but-if d st each (Ok p) e = each p (element-found st.denotes (sym e))
+  but-if d st each (Err why) e = tt
+
+  pub array-but : SameBut (bytes_of s.cut.bytes) (bytes_of t.cut.bytes) (o.handle + (value_in o + size_of k * first))
+      (size_of k * n) → ChangesRange s t (ByHandle o.handle) k first n
+  array-but but d st = but-if d st (λ p x.
+      let q = said-at s (ByHandle o.handle) o l d st in
+      let same : o ≡ located x.object = q.said ∙ ap located (same_Some q.object x.object (sym q.is ∙ x.is)) in
+      subst (λ at. SameBut (bytes_of s.cut.bytes) (bytes_of t.cut.bytes) at (size_of k * n))
+      (ap (λ (q : Located). q.handle + (value_in q + size_of k * first)) same
+      ∙ (λ j. sym x.stands.at j + sym x.at j)) but) (place_at d (ByHandle o.handle) k first) refl
+
+  -- what is no array has no such element
+  pub vector-but : (j : ScalarKind) → o.kind ≡ Vector j → ChangesRange s t (ByHandle o.handle) k first n
+  vector-but j is d st = but-if d st (λ p x.
+      let q = said-at s (ByHandle o.handle) o l d st in
+      let same = same_Some q.object x.object (sym q.is ∙ x.is) in
+      let kind : Vector j ≡ Scalar k = sym is ∙ ap (λ (u : Located). u.kind) (q.said ∙ ap located same)
+      ∙ ap kind_of x.value in
+      absurd (cc)) (place_at d (ByHandle o.handle) k first) refl
+
+abbrev place_of : Option Object → ScalarKind → ℕ → Result Place Refusal
+place_of r k i = elim r as (λ _. Result Place Refusal) [
+  | None ↦ Err NotFound
+  | Some o ↦ elim (place_in o k i) as (λ _. Result Place Refusal)
+      [ Ok at ↦ Ok (record { handle = handle o.extent; at = at }) | Err r ↦ Err r ]
+]
+
+pub but-by_key : (s t : State) (key : Key) (o : Located) → IsLocated s key o → (k : ScalarKind) (first n : ℕ)
+    → ChangesRange s t (ByHandle o.handle) k first n → ChangesRange s t key k first n
+but-by_key s t key o l k first n m = λ d st.
+    subst (λ (r : Option Object). But s t (size_of k * n) (place_of r k first)) (sym (same-object s key o l d st)) (m d st)
+
+pub on_ok-map : {P Q : Type 0} (r : Result (Unit {0}) Refusal) → (P → Q) → OnOk r P → OnOk r Q
+on_ok-map (Ok a) f p = f p
+on_ok-map (Err why) f p = tt
+
+pub on_ok : {P : Type 0} (r : Result (Unit {0}) Refusal) → P → OnOk r P
+on_ok (Ok a) p = p
+on_ok (Err why) p = tt
+
+-- ---- the calls
+
+-- what the tests of the code say: of its kind, and of how many there are
+pub array-kind : (o : Located) {k l : ScalarKind} {a b : ℕ} → l ≡ k → a ≡ code_of (Scalar l) → b ≡ code_of o.kind
+    → a ≡ b → o.kind ≡ Scalar k
+array-kind o {k} e f g h = sym (one-kind (Scalar k) o.kind (eq-eqb (code_of (Scalar k)) (code_of o.kind)
+    (sym (f ∙ ap (λ (j : ScalarKind). code_of (Scalar j)) e) ∙ h ∙ g)))
+
+pub array-unlike : (o : Located) {k l : ScalarKind} {a b : ℕ} → l ≡ k → a ≡ code_of (Scalar l) → b ≡ code_of o.kind
+    → (a ≡ b → ⊥) → same_kind (Scalar k) o.kind ≡ false
+array-unlike o {k} e f g h = ne_eqb (code_of (Scalar k)) (code_of o.kind)
+    (λ i. h (f ∙ ap (λ (j : ScalarKind). code_of (Scalar j)) e ∙ i ∙ sym g))
+
+pub row-test : {T : Type 0} (w : T → ℤ) (xs : List T) (first : ℕ) {count n : ℕ} {r b : Bool} → n ≡ count
+    → r ≡ nat_le (first + length xs) n → r ≡ b → nat_le (first + length (map w xs)) count ≡ b
+row-test w xs first e f g = (λ i. nat_le (first + length-map xs w i) (sym e i)) ∙ sym f ∙ g
+
+-- nothing was to be written
+pub array-empty : (s : State) (o : Located) → IsLocated s (ByHandle o.handle) o → (k : ScalarKind) (first : ℕ)
+    (zs : List ℤ) → o.kind ≡ Scalar k → is_read_only s.mode ≡ false → nat_le (first + length zs) o.count ≡ true
+    → length zs ≡ 0 → WritesRange s s (ByHandle o.handle) k first zs Done
+array-empty s o l k first zs is writing fits none =
+    let nothing : zs ≡ [] = nil_from_length zs none in
+    range-moves s (ByHandle o.handle) k first zs s.cut (record { before = refl; after = refl }) (λ d st.
+    let h = numbers-of s o l k first zs is d st in
+    range-done s.mode d (ByHandle o.handle) k first zs writing h.object h.is h.numbers
+    (row-of s o l k first zs is h)
+    (let f = leb-true (first + length zs) o.count fits in omega (arith, f, many s o l k first zs is h))) (λ d st.
+    let h = numbers-of s o l k first zs is d st in
+    subst (Denotes current s.cut.bytes)
+    (sym (range-numbers d (ByHandle o.handle) h.object k h.numbers first zs h.is h.value))
+    (array-denotes s.cut s.cut d (ByHandle o.handle) h.object k h.numbers first zs st.denotes h.is h.value
+    (let f = leb-true (first + length zs) o.count fits in omega (arith, f, many s o l k first zs is h))
+    (subst (λ ys. IsTrue (list_all (is_value k) ys)) (sym nothing) refl) (record {
+      place = record { before = refl; after = refl };
+      live = denotes-heap current s.cut.bytes d st.denotes;
+      rest = record { at = λ j out. refl };
+    }) (subst (λ ys. Has (bytes_of s.cut.bytes) (value_start h.object + size_of k * first) (spelled k ys)) (sym nothing)
+    refl)))
+
+-- its block has the room
+pub array-room : (s : State) (b : IsSegment s.cut.bytes) (o : Located) → IsLocated s (ByHandle o.handle) o
+    → (k : ScalarKind) (first : ℕ) (zs : List ℤ) → o.kind ≡ Scalar k → nat_le (first + length zs) o.count ≡ true
+    → {at size n : ℕ} → at ≡ value_in o → size ≡ size_of k → n ≡ size_of k * length zs
+    → IsTrue (has_room (live_of s.cut.bytes) o.handle (at + size * first + n))
+array-room s b o loc k first zs is fits {at} {size} {n} e f g =
+    let h = numbers-of s o loc k first zs is b.0 b.1 in
+    let stands = standing s.cut.bytes b.0 (ByHandle o.handle) h.object b.1.denotes h.is in
+    let own : o.handle ≡ handle h.object.extent = ap (λ (q : Located). q.handle) h.said in
+    let at_is : at ≡ head_len + padded (length h.object.name) = e ∙ ap value_in h.said in
+    let long : value_len h.object.value ≡ size_of k * length h.numbers = ap value_len h.value in
+    let few = leb-true (first + length zs) o.count fits in let all = many s o loc k first zs is h in
+    let inside = mul-le-mul_left (size_of k) (let j : first + length zs ≤ length h.numbers = omega arith in j) in
+    let step : size_of k * (first + length zs) ≡ size_of k * first + size_of k * length zs = omega arith in
+    let each = ap (λ (m : ℕ). m * first) f in
+    subst (λ m. IsTrue (has_room (live_of s.cut.bytes) m (at + size * first + n))) (sym own)
+    (standing-room s.cut.bytes (handle h.object.extent) (at + size * first + n) h.object stands
+    (omega (arith, at_is, long, inside, step, each, g)))
+
+-- values of a type are spelled where the elements stand
+module _ {T : Type 0} {k : ScalarKind} {w : T → ℤ} {size : ℕ} {test : T → Bool} {sp : T → List ℕ}
+    (law : IsOfKind k w size test sp) (s t : State) (view : s ≡ t) (b : IsSegment s.cut.bytes) (o : Located)
+    (l : IsLocated t (ByHandle o.handle) o) (first : ℕ) (values : List T) (is : o.kind ≡ Scalar k)
+    (writing : is_read_only t.mode ≡ false) (fits : nat_le (first + length (map w values)) o.count ≡ true)
+    {at each : ℕ} (at_is : at ≡ value_in o) (each_is : each ≡ size) (good : IsTrue (list_all test values))
+    (new : Cut) (c : IsChanged current s.cut new (o.handle + (at + each * first)) (size * length values)) where
+  abbrev wholes : List ℤ
+  wholes = map w values
+
+  spot-is : o.handle + (at + each * first) ≡ o.handle + (value_in o + size_of k * first)
+  spot-is = λ i. o.handle + (at_is i + (each_is ∙ law.long) i * first)
+
+  long-is : size * length values ≡ size_of k * length wholes
+  long-is = λ i. law.long i * sym (length-map values w) i
+
+  change : IsChanged current s.cut new (o.handle + (value_in o + size_of k * first)) (size_of k * length wholes)
+  change = subst (λ m. IsChanged current s.cut new m (size_of k * length wholes)) spot-is
+      (subst (λ n. IsChanged current s.cut new (o.handle + (at + each * first)) n) long-is c)
+
+  pub array-spelled : Has (bytes_of new.bytes) (o.handle + (at + each * first)) (flat_map sp values)
+      → RangeWritten s t new (ByHandle o.handle) k first wholes (Ok tt)
+  array-spelled h =
+      array-written s o (subst (λ (u : State). IsLocated u (ByHandle o.handle) o) (sym view) l) k first wholes is t view b new
+      writing fits (sym (whole-values k w size test sp law values) ∙ good) change
+      (subst (λ m. Has (bytes_of new.bytes) m (spelled k wholes)) spot-is
+      (subst (Has (bytes_of new.bytes) (o.handle + (at + each * first))) (whole-spelled k w size test sp law values) h))
+
+  -- no other byte changes
+  pub array-framed : ChangesRange t (record s { cut = new }) (ByHandle o.handle) k first (length values)
+  array-framed = array-but t (record s { cut = new }) o l k first (length values)
+      (subst (λ (u : State). SameBut (bytes_of u.cut.bytes) (bytes_of new.bytes)
+      (o.handle + (value_in o + size_of k * first)) (size_of k * length values)) view
+      (subst (λ n. SameBut (bytes_of s.cut.bytes) (bytes_of new.bytes)
+      (o.handle + (value_in o + size_of k * first)) (size_of k * n)) (length-map values w) change.rest))
+
+-- a vector of another kind
+pub vector-other : (s : State) (o : Located) → IsLocated s (ByHandle o.handle) o → (k : ScalarKind) (first : ℕ)
+    (zs : List ℤ) {m : ScalarKind} → m ≡ k → (j : ScalarKind) → o.kind ≡ Vector j → is_read_only s.mode ≡ false
+    → {why : Refusal} → Err why ≡ container_in o (Vector m)
+    → WritesRange s s (ByHandle o.handle) k first zs (Refused why)
+vector-other s o l k first zs {m} same j is writing {why} e =
+    other-if (same_kind (Vector m) o.kind) refl e
+  where
+    other-if : (b : Bool) → same_kind (Vector m) o.kind ≡ b → Err why
+        ≡ (if b then Ok (let p : Place = record { handle = o.handle; at = value_in o } in p) else Err WrongKind)
+        → WritesRange s s (ByHandle o.handle) k first zs (Refused why)
+    other-if true f g = absurd (cc)
+    other-if false f g =
+        let reason : why ≡ WrongKind = cc in
+        subst (λ (r : Refusal). WritesRange s s (ByHandle o.handle) k first zs (Refused r)) (sym reason)
+        (range-stays s (ByHandle o.handle) k first zs WrongKind (λ d st.
+        let p = said-at s (ByHandle o.handle) o l d st in
+        let kind : o.kind ≡ kind_of p.object.value = ap (λ (q : Located). q.kind) p.said in
+        range-other s.mode d (ByHandle o.handle) k first zs writing p.object p.is (row-none k p.object.value
+        (sym (λ i. same_kind (Vector (same i)) (kind i)) ∙ f)
+        (no-same (Scalar k) (kind_of p.object.value) (λ h. let not : Scalar k ≡ Vector j = h ∙ sym kind ∙ is in
+        absurd (cc))))))

@@ -1,0 +1,36 @@
+-- The values are put behind the last of the vector that is found.
+use Rattle.segment_manager.proofs.Common.{exit-is, sym, ap, ◌∙◌, subst, map, Answers, Err, Vector, container_at}
+use Rattle.segment_manager.proofs.{containers.ScalarTypes.of-vector, containers.VectorAnswers.some-vector}
+use Rattle.segment_manager.proofs.containers.{Extending.extended-missing, Extending.extended-reading}
+use Rattle.segment_manager.proofs.containers.{Extending.extended-stays, VectorAnswers.vector-extended}
+use Rattle.segment_manager.proofs.segment.Segment.vec_extend.Goals as goal
+
+pub returns-then-is_read_only-clause-step : goal.returns-then-is_read_only-clause-step
+returns-then-is_read_only-clause-step g c = extended-stays c.args.self.now (g.O.Target.key c.args.key.now)
+    g.T.Scalar.kind (map g.T.Scalar.whole c.args.values.now) _ (λ d st. extended-reading c.args.self.now.mode d
+    (g.O.Target.key c.args.key.now) g.T.Scalar.kind (map g.T.Scalar.whole c.args.values.now)
+    (sym c.is_read_only.ensures ∙ c.if-is_read_only.true))
+
+pub returns-in_err-place-clause-step : goal.returns-in_err-place-clause-step
+returns-in_err-place-clause-step g c = rw (exit-is c.from_residual.result _ c.from_residual.ensures.1)
+    (let there = subst (λ k. Answers c.args.self.now (λ d. container_at d (g.O.Target.key c.args.key.now) (Vector k))
+    (Err c.in_err-place.field-0.0)) c.kind.ensures c.in_err-place.ensures in
+    extended-stays c.args.self.now (g.O.Target.key c.args.key.now) g.T.Scalar.kind
+    (map g.T.Scalar.whole c.args.values.now) _ (λ d st. extended-missing c.args.self.now.mode d
+    (g.O.Target.key c.args.key.now) g.T.Scalar.kind (map g.T.Scalar.whole c.args.values.now)
+    (sym c.is_read_only.ensures ∙ c.if-is_read_only.false) _ (there.answers d st)))
+
+pub extend-requires : goal.extend-requires
+extend-requires g c = some-vector (of-vector g.met.T.Scalar) c.self.view_is _ c.kind.ensures c.at.ensures
+    c.self.invariant c.in_ok-place.ensures
+
+pub invariant_of-self : goal.invariant_of-self
+invariant_of-self g c = (vector-extended (of-vector g.met.T.Scalar) c.self.view_is _ c.kind.ensures c.at.ensures
+    c.self.invariant c.in_ok-place.ensures _ (sym c.is_read_only.ensures ∙ c.if-is_read_only.false) _ _
+    c.extend.ensures).segment
+
+pub returns : goal.returns
+returns g c =
+    let d = vector-extended (of-vector g.met.T.Scalar) c.self.view_is _ c.kind.ensures c.at.ensures c.self.invariant
+    c.in_ok-place.ensures _ (sym c.is_read_only.ensures ∙ c.if-is_read_only.false) _ _ c.extend.ensures in
+    record { step = d.step; refused = d.refused }

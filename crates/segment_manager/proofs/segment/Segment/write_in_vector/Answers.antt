@@ -1,0 +1,34 @@
+-- The values are written over those of the vector that is found, or it is of another kind.
+use Rattle.segment_manager.proofs.Common.{exit-is, ◌≡◌, sym, ap, ◌∙◌, Ok, Err, map, ByHandle, Located, Vector}
+use Rattle.segment_manager.proofs.{Common.refl, containers.ScalarTypes.of-vector, containers.VectorAnswers.some-vector}
+use Rattle.segment_manager.proofs.containers.{RangeCalls.vector-other, Safely.contains}
+use Rattle.segment_manager.proofs.containers.VectorAnswers.{vector-overwritten}
+use Rattle.segment_manager.proofs.segment.Segment.write_in_vector.Goals as goal
+
+pub returns-in_err-place-clause-step : goal.returns-in_err-place-clause-step
+returns-in_err-place-clause-step g c = rw (exit-is c.from_residual.result _ c.from_residual.ensures.1)
+    (vector-other c.args.self.now c.args.object.now c.requires.object g.T.Scalar.kind c.args.first
+    (map g.T.Scalar.whole c.args.values.now) c.kind.ensures _ c.requires.vector.1 c.requires.writing
+    c.in_err-place.ensures)
+
+pub overwrite-requires : goal.overwrite-requires
+overwrite-requires g c = some-vector (of-vector g.met.T.Scalar) c.self.view_is (ByHandle c.args.object.now.handle)
+    c.kind.ensures c.at.ensures c.self.invariant (contains (ByHandle c.args.object.now.handle) (Vector c.kind.result)
+    c.requires.object.at c.in_ok-place.ensures)
+
+pub invariant_of-self : goal.invariant_of-self
+invariant_of-self g c = (vector-overwritten (of-vector g.met.T.Scalar) c.self.view_is
+    (ByHandle c.args.object.now.handle) c.kind.ensures c.at.ensures c.self.invariant
+    (contains (ByHandle c.args.object.now.handle) (Vector c.kind.result) c.requires.object.at c.in_ok-place.ensures) _
+    c.requires.writing _ _ _ c.overwrite.ensures.sets).segment
+
+pub returns : goal.returns
+returns g c =
+    let d = vector-overwritten (of-vector g.met.T.Scalar) c.self.view_is (ByHandle c.args.object.now.handle)
+    c.kind.ensures c.at.ensures c.self.invariant (contains (ByHandle c.args.object.now.handle) (Vector c.kind.result)
+    c.requires.object.at c.in_ok-place.ensures) _ c.requires.writing _ _ _ c.overwrite.ensures.sets in
+    record {
+      step = d.step;
+      refused = d.refused;
+      none = λ e. (λ i. record { cut = c.overwrite.ensures.none e i; mode = c.self.inside.mode }) ∙ c.self.view_is;
+    }

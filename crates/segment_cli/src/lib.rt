@@ -15,7 +15,8 @@ pub use migrations::migrate;
 pub use program_faults::ProgramFault;
 pub use reports::{report, session_line, session_status};
 pub use segment_invocation::{
-    Invocation, InvocationFault, Keeping, ModeName, Running, Saving, Script, UsageError, invocation,
+    Answering, Change, Invocation, InvocationFault, Keeping, ModeName, Report, Running, Saving,
+    Script, UsageError, invocation,
 };
 pub use segment_scripts::{
     Answered, End, Follower, Machine, Nobody, RunFault, Scratch, Until, run, run_until,

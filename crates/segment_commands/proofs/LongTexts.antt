@@ -118,14 +118,14 @@ items-roomy items =
 
 -- ---- a text without its notes is no longer
 
+kept-by : (b : Bool) (c : ℕ) (kept cs : List ℕ) → length kept ≤ length cs → length (if b then [] else c ∷ kept) ≤ suc (length cs)
+kept-by true c kept cs h = omega arith
+kept-by false c kept cs h = omega (arith, h)
+
 kept-short : (start : Bool) (cs : List ℕ) → length (before_notes start cs) ≤ length cs
 kept-short start [] = omega arith
 kept-short false (c ∷ cs) = omega (arith, kept-short (c == 0x0A) cs)
-kept-short true (c ∷ cs) = by (are_notes true (c ∷ cs))
-  where
-    by : (b : Bool) → length (if b then [] else c ∷ before_notes (c == 0x0A) cs) ≤ suc (length cs)
-    by true = omega arith
-    by false = omega (arith, kept-short (c == 0x0A) cs)
+kept-short true (c ∷ cs) = kept-by (are_notes true (c ∷ cs)) c (before_notes (c == 0x0A) cs) cs (kept-short (c == 0x0A) cs)
 
 -- so a room of as many bytes as the text has, or as the largest segment, is one for each text of its vectors of strings
 pub fits-room : (text : List ℕ) (n asked room : ℕ) (items : Items) → without_notes text ≡ dump_text n items

@@ -1,4 +1,4 @@
-use Rattle.std.proofs.Common.{IsTrue, Result, Ok, Err, MatchResult, inr, length, rules}
+use Rattle.std.proofs.Common.{◌≡◌, ℕ, IsTrue, Result, Ok, Err, MatchResult, inr, length, rules}
 use Rattle.raw_region.specs.Device.{Given}
 use Rattle.block_tags.specs.Format.{is_legal_size}
 use Rattle.segment_manager.specs.declared.modes.Mode.TheVariants.{Write}

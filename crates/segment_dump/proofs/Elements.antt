@@ -1,7 +1,7 @@
 -- What the calls answer of a segment, and what an object says of itself.
 use Rattle.segment_dump.proofs.Common.{◌≡◌, ℕ, List, [], ◌∷◌, ◌++◌, length, map, Some, refl, sym, ap, ◌∙◌, option_map}
 use Rattle.segment_dump.proofs.Common.{flat_map, free_bytes, Instance, Number, Directory, live, named_objects, ByHandle}
-use Rattle.segment_dump.proofs.Common.{unique_objects, SaysOf, State, step}
+use Rattle.segment_dump.proofs.Common.{unique_objects, SaysOf, State, StandsFor, step, true}
 use Rattle.std.specs.Prelude.{is_some}
 use Rattle.segment_manager.specs.declared.modes.Mode.{Mode}
 use Rattle.segment_manager.specs.objects.Found.{is_object_at}

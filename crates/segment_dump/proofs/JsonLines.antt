@@ -6,7 +6,13 @@ use Rattle.segment_dump.proofs.Common.{portable, part_of, Content, Scalars, Vect
 use Rattle.segment_dump.proofs.Common.{laid_at, laid_from, laid_object, laid_out}
 use Rattle.segment_dump.specs.Json.{closing, comma_before, in_json, json_at, json_bytes, json_dump, json_key}
 use Rattle.segment_dump.specs.Json.{json_kind, json_line, json_list, json_object, json_pair, json_value, opening}
+use Rattle.segment_dump.proofs.Common.{option_map}
+use Rattle.std.specs.Prelude.{Option, Some, None}
+use Rattle.seg_types.specs.declared.kinds.Kind.{Kind}
 use Rattle.segment_lang.specs.Texts.{value_text}
+use Rattle.segment_manager.specs.declared.objects.targets.Object.{Object as Located}
+use Rattle.segment_manager.specs.objects.Located.{located, located_at}
+use Rattle.segment_manager.specs.State.{Answers}
 use Rattle.segment_dump.proofs.Elements.{flat_map-made}
 use Rattle.segment_dump.proofs.Orders.{kind-made}
 
@@ -23,6 +29,18 @@ value-around (Vector k zs) = list-around (value_text k) zs
 value-around (String bs) = refl
 value-around (Map k v ps) = list-around (json_pair k v) ps
 value-around (Strings ts) = list-around json_bytes ts
+
+-- what is located under the handle of what said this of itself is of its kind
+abbrev kind_or : Kind → Option Located → Kind
+kind_or kind None = kind
+kind_or kind (Some o) = o.kind
+
+pub kind-said : (s : State) (said : Instance) (o : Located) → SaysOf s (ByHandle said.handle) said
+    → Answers s (λ d. located_at d (ByHandle said.handle)) (Some o) → (d : Directory) → StandsFor s.cut.bytes d
+    → o.kind ≡ said.kind
+kind-said s said o h at d st =
+    let f = h.says d st in
+    ap (kind_or said.kind) (at.answers d st ∙ ap (option_map located) f.1) ∙ sym f.2.kind
 
 -- the line of what said this of itself
 pub line-said : (s : State) (said : Instance) → SaysOf s (ByHandle said.handle) said → (d : Directory)

@@ -4,8 +4,8 @@ use Rattle.segment_dump.proofs.Askings.{can-name-fewer, can-name-here, can-name-
 use Rattle.segment_dump.proofs.Readers.{name-bare, name-long}
 use Rattle.segment_dump.proofs.front_reading.name_len.Goals as goal
 
-pub returns-then-len-gt-MOST-clause-value : goal.returns-then-len-gt-MOST-clause-value
-returns-then-len-gt-MOST-clause-value c =
+pub returns-then-len-gt-MAX_SEGMENT_LEN-clause-value : goal.returns-then-len-gt-MAX_SEGMENT_LEN-clause-value
+returns-then-len-gt-MAX_SEGMENT_LEN-clause-value c =
     let w = c.next_word in
     name-long c.args.text.now w.result.0.now w.result.1.now c.in_default.ensures (record { whole = w.ensures.whole; high = w.ensures.word; breaks = w.ensures.breaks }) (omega arith)
 

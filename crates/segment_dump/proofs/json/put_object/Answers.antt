@@ -1,7 +1,7 @@
-use Rattle.segment_dump.proofs.Common.{◌++◌, refl, ByHandle, laid_at}
+use Rattle.segment_dump.proofs.Common.{◌++◌, ap, refl, ByHandle, laid_at}
 use Rattle.segment_dump.specs.Json.{closing, in_json, json_key, json_kind, opening}
 use Rattle.segment_dump.proofs.Elements.{said-here}
-use Rattle.segment_dump.proofs.JsonLines.{line-said}
+use Rattle.segment_dump.proofs.JsonLines.{kind-said, line-said}
 use Rattle.segment_dump.proofs.Owed.{of-cut, of-one, of-same, of-then}
 use Rattle.segment_dump.proofs.json.put_object.Goals as goal
 
@@ -38,5 +38,9 @@ returns g c =
     let said = c.args.said in
     of-same
     (of-then (of-one {owed = λ d. json_key said.class said.name.now} c.in_ok-put_key.ensures (λ d st. refl))
-    (of-then (of-one {owed = λ d. json_kind said.kind} c.in_ok-put_kind.ensures (λ d st. refl)) (rw c.object_here-object.ensures.handle at c.put_value.ensures)))
+    (of-then (of-one {owed = λ d. json_kind said.kind} c.in_ok-put_kind.ensures (λ d st. refl))
+    (of-same (rw c.object_here-object.ensures.handle at c.put_value.ensures)
+    (λ d st. ap (λ k. opening k ++ (laid_at in_json d (ByHandle said.handle) ++ closing k))
+    (kind-said c.args.segment.now said c.object_here-object.result c.requires.said
+    (rw c.object_here-object.ensures.handle at c.object_here-object.ensures.located.at) d st)))))
     (line-said c.args.segment.now said c.requires.said)

@@ -11,8 +11,7 @@ use Rattle.std.specs.Prelude.{Option, Some, None}
 use Rattle.seg_types.specs.declared.kinds.Kind.{Kind}
 use Rattle.segment_lang.specs.Texts.{value_text}
 use Rattle.segment_manager.specs.declared.objects.targets.Object.{Object as Located}
-use Rattle.segment_manager.specs.objects.Located.{located, located_at}
-use Rattle.segment_manager.specs.State.{Answers}
+use Rattle.segment_manager.specs.objects.Located.{IsLocated, located, located_at}
 use Rattle.segment_dump.proofs.Elements.{flat_map-made}
 use Rattle.segment_dump.proofs.Orders.{kind-made}
 
@@ -36,11 +35,13 @@ kind_or kind None = kind
 kind_or kind (Some o) = o.kind
 
 pub kind-said : (s : State) (said : Instance) (o : Located) → SaysOf s (ByHandle said.handle) said
-    → Answers s (λ d. located_at d (ByHandle said.handle)) (Some o) → (d : Directory) → StandsFor s.cut.bytes d
+    → o.handle ≡ said.handle → IsLocated s (ByHandle o.handle) o → (d : Directory) → StandsFor s.cut.bytes d
     → o.kind ≡ said.kind
-kind-said s said o h at d st =
+kind-said s said o h e is d st =
     let f = h.says d st in
-    ap (kind_or said.kind) (at.answers d st ∙ ap (option_map located) f.1) ∙ sym f.2.kind
+    let same : Some o ≡ located_at d (ByHandle said.handle) =
+    is.at.answers d st ∙ ap (λ n. located_at d (ByHandle n)) e in
+    ap (kind_or said.kind) (same ∙ ap (option_map located) f.1) ∙ sym f.2.kind
 
 -- the line of what said this of itself
 pub line-said : (s : State) (said : Instance) → SaysOf s (ByHandle said.handle) said → (d : Directory)

@@ -42,5 +42,5 @@ returns g c =
     (of-same (rw c.object_here-object.ensures.handle at c.put_value.ensures)
     (λ d st. ap (λ k. opening k ++ (laid_at in_json d (ByHandle said.handle) ++ closing k))
     (kind-said c.args.segment.now said c.object_here-object.result c.requires.said
-    (rw c.object_here-object.ensures.handle at c.object_here-object.ensures.located.at) d st)))))
+    c.object_here-object.ensures.handle c.object_here-object.ensures.located d st)))))
     (line-said c.args.segment.now said c.requires.said)

@@ -99,15 +99,8 @@ fn trouble_of<'a>(
 fn keeping_of(asked: &Invocation<'_>) -> Keeping {
     match asked {
         Invocation::ChangeWith(_, _, keeping) | Invocation::Load(_, _, keeping) => *keeping,
-        _ => running_of(asked).keeping,
-    }
-}
-
-/// What a run is asked for beside its file, mode and size.
-fn running_of<'a>(asked: &'a Invocation<'a>) -> &'a Running<'a> {
-    match asked {
-        Invocation::RunWith(_, _, _, how) => how,
-        _ => &Running::PLAIN,
+        Invocation::RunWith(_, _, _, how) => how.keeping,
+        _ => Keeping::PLAIN,
     }
 }
 
@@ -126,14 +119,13 @@ fn command<W: Write + Drop>(
     let mut out = out;
     let answer = match asked {
         Invocation::Create(file, size) => create(alloc, disk, file, *size),
-        Invocation::Run(file, mode, size) | Invocation::RunWith(file, mode, size, _) => {
-            let run = Run {
-                file,
-                mode: *mode,
-                size: *size,
-                how: running_of(asked),
-            };
-            answer(rt, disk, scripts, run, out)?;
+        Invocation::Run(file, mode, size) => {
+            let how = Running::PLAIN;
+            answer(rt, disk, scripts, run_of(file, *mode, *size, &how), out)?;
+            return Ok(0);
+        }
+        Invocation::RunWith(file, mode, size, how) => {
+            answer(rt, disk, scripts, run_of(file, *mode, *size, how), out)?;
             return Ok(0);
         }
         Invocation::Check(file) => check(alloc, disk, file, &mut out),
@@ -198,6 +190,16 @@ struct Run<'a> {
     mode: ModeName,
     size: Option<u64>,
     how: &'a Running<'a>,
+}
+
+/// The run of a file, a mode and a size.
+fn run_of<'a>(file: &'a str, mode: ModeName, size: Option<u64>, how: &'a Running<'a>) -> Run<'a> {
+    Run {
+        file,
+        mode,
+        size,
+        how,
+    }
 }
 
 /// Runs the script that is asked for, and gives its answers to an output that makes of them what is wanted.

@@ -1,4 +1,4 @@
-use Rattle.std.proofs.Common.{inl, inr, Ok, subst}
+use Rattle.std.proofs.Common.{inl, inr, Ok}
 use Rattle.segment_manager.specs.declared.modes.Mode.TheVariants.{Write}
 use Rattle.image_check.specs.declared.versions.Versions.TheVariants.{Current}
 use Rattle.segment_commands.specs.Opening.{OpensWith}
@@ -33,8 +33,8 @@ returns-in-Ok g c = inr (inr (record {
   answer = λ fault e. same_fault _ fault e;
 }))
 
-pub returns-in-Err : goal.returns-in-Err
-returns-in-Err g c =
+pub returns : goal.returns
+returns g c =
     let opens : OpensWith g.D.Disk.step c.args.disk.now c.open_segment.new.disk c.args.path.now Current Write (more_by c.args.how) (Ok c.in_ok-segment.segment) =
     rw c.more_for.ensures at c.in_ok-segment.ensures in
     inr (inl (record {

@@ -1,7 +1,7 @@
 -- One more file was checked: its lines went out, or the output failed.
-use Rattle.std.proofs.Common.{ap, map, ◌∙◌}
+use Rattle.std.proofs.Common.{ap, map, refl, Ok, ◌∙◌}
 use Rattle.segment_commands.specs.Checking.{worse}
-use Rattle.segment_commands.proofs.Checks.{going_lost, going_more, paths-more, paths-rest, unfit_heard}
+use Rattle.segment_commands.proofs.Checks.{going_lost, going_more, none_going, paths-more, paths-rest, unfit_heard}
 use Rattle.segment_commands.proofs.checking.check_all.Goals as goal
 
 pub returns-in_default : goal.returns-in_default
@@ -12,6 +12,12 @@ returns-in_default g c =
     c.files.invariant.going _ c.verify_segment-found.result c.trouble_of.result c.verify_segment-found.ensures
     (unfit_heard History c.files.said _ _ c.put_unfit-said.new.err c.files.err c.put_unfit-said.ensures) c.in_default.ensures
     (map (λ file. file.now) c.args.files.now) _ (paths-rest (λ file. file.now) c.args.files.now c.files.file-index _ c.files-test.true)
+
+pub files-init : goal.files-init
+files-init g c = record {
+  going = none_going g.D.Disk.step g.O.Sink.history g.O.Output.flushes c.args.disk.now (g.E.Sink.history c.args.err.now)
+      c.args.out.now c.args.is_quiet (Ok tt) refl;
+}
 
 pub files-preserved : goal.files-preserved
 files-preserved g c =

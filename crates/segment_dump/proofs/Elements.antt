@@ -1,5 +1,5 @@
 -- What the calls answer of a segment, and what an object says of itself.
-use Rattle.segment_dump.proofs.Common.{◌≡◌, ℕ, List, [], ◌∷◌, ◌++◌, length, map, Some, refl, sym, ap, ◌∙◌, option_map}
+use Rattle.segment_dump.proofs.Common.{◌≡◌, ℕ, List, [], ◌∷◌, ◌++◌, length, map, refl, sym, ap, ◌∙◌}
 use Rattle.segment_dump.proofs.Common.{flat_map, free_bytes, Instance, Number, Directory, live, named_objects, ByHandle}
 use Rattle.segment_dump.proofs.Common.{unique_objects, SaysOf, State, step}
 use Rattle.std.specs.Prelude.{is_some}

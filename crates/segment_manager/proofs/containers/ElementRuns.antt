@@ -22,7 +22,7 @@ use Rattle.seg_vector.proofs.Storage.{stands-room}
 use Rattle.std.specs.Option.{unwrap_or}
 use Rattle.std.specs.Prelude.{IfOk, option_map}
 use Rattle.segment_manager.specs.declared.containers.element_runs.ElementRun.{ElementRun}
-use Rattle.segment_manager.specs.containers.ElementRuns.{IsRunOf, run_at, run_in, run_of, spelled_at, spelled_in}
+use Rattle.segment_manager.specs.containers.ElementRuns.{IsRunOf, run_at, run_in, run_of, spelled_in}
 use Rattle.segment_manager.specs.containers.ElementRuns.{storage_offset}
 
 -- ---- what is read

@@ -1,10 +1,10 @@
 -- Elements that one call puts behind the last of a vector: what comes of it in each directory.
 use Rattle.segment_manager.proofs.Common as common
 use common.{◌≡◌, refl, sym, ap, subst, ◌∙◌, ℕ, ℤ, Bool, true, false, Option, Some, None, Result, Ok, Err, List, ◌++◌, length}
-use common.{if◌then◌else◌, eq-eqb, Cut, SamePlace, current, ScalarKind, Vector, code_of, same_kind, size_of, Kind, Key}
-use common.{Refusal, NotFound, NoSpace, ReadOnly, WrongKind, Mode, Answer, Done, Refused, Directory, Object, Value}
+use common.{if◌then◌else◌, eq-eqb, Cut, SamePlace, current, ScalarKind, Vector, code_of, same_kind, size_of, Key}
+use common.{Refusal, NotFound, ReadOnly, WrongKind, Mode, Answer, Done, Refused, Directory, Object}
 use common.{Elements, kind_of, object_at, changed, is_read_only, State, StandsFor, Denotes, IsSegment, OnErr, done_answer}
-use common.{Plan, Refuse, Reply, perform, with, with_capacity, found_at, live, live_of, grown_table, Table, Place, Answers}
+use common.{Plan, Refuse, Reply, perform, with, with_capacity, found_at, live, live_of, grown_table, Table}
 use common.{container_at}
 use Rattle.seg_vector.specs.Vector.{capacity_for_more}
 use Rattle.segment_manager.specs.containers.Ranges.{ExtendsVector, extend, extended}

@@ -2,12 +2,12 @@
 use Rattle.segment_manager.proofs.Common as common
 use common.{◌≡◌, refl, sym, ap, subst, ◌∙◌, ℕ, ◌+◌, ◌*◌, ◌<◌, ◌≤◌, ℤ, Bool, true, false, ◌||◌, Option, Some, None, Result}
 use common.{Ok, Err, List, ◌++◌, length, map, take, drop, if◌then◌else◌, arith, IsTrue, list_all, nat_le, le-leb, lt-leb}
-use common.{length-append, length-map, map-append, take-map, eq-eqb, ne_eqb, append_assoc, Cut, SameBut, Has, bytes_of}
+use common.{length-append, length-map, map-append, take-map, eq-eqb, ne_eqb, Cut, SameBut, Has, bytes_of}
 use common.{current, handle, Kind, ScalarKind, Scalar, Vector, code_of, same_kind, is_value, size_of, spelled, spelling}
 use common.{Refusal, NotFound, OutOfRange, ReadOnly, WrongKind, Key, ByHandle, Mode, Answer, Done, Refused, Directory}
-use common.{Object, Value, Numbers, Elements, Bytes, Pairs, Texts, kind_of, count_of, value_extents, padded, object_at}
-use common.{changed, is_read_only, with_items, Answers, State, StandsFor, Denotes, IsValueAt, IsChanged, Located}
-use common.{IsLocated, head_len, is_object, Place, IsSegment, StandsAt, same_Some, value_len, mul-le-mul_left}
+use common.{Object, Value, Numbers, Elements, kind_of, count_of, value_extents, padded, object_at}
+use common.{changed, is_read_only, with_items, State, StandsFor, Denotes, IsValueAt, IsChanged, Located}
+use common.{IsLocated, head_len, Place, IsSegment, StandsAt, same_Some, value_len, mul-le-mul_left}
 use common.{done_answer, IsMissing, OnErr, SamePlace, Table, kind_of_code, leb-true, [], flat_map, has_room, live_of}
 use Rattle.std.proofs.lemmas.List.{nil_from_length}
 use Rattle.segment_manager.proofs.{Calling.denotes-heap, objects.Standings.standing-room, containers.ItemSteps.one-kind}
@@ -16,20 +16,18 @@ use Rattle.std.proofs.lemmas.Bool.{leb-false}
 use Rattle.segment_manager.specs.objects.Located.{container_in, located, value_in}
 use Rattle.std.specs.Prelude.{IfOk, OnOk}
 use Rattle.std.proofs.lemmas.List.{drop-map, length-drop, length-take}
-use Rattle.raw_region.specs.Memory.{patched}
 use Rattle.raw_region.proofs.Bytes.{Has-patched}
 use Rattle.seg_vector.proofs.Typed.{all-both, flat-replaced}
 use Rattle.std.proofs.lemmas.{Bool.and_parts, List.Folds.list_all-append, List.take-append-drop}
-use Rattle.segment_manager.specs.containers.Ranges.{ChangesRange, WritesRange, is_row, numbers_if, range_at, range_in}
-use Rattle.segment_manager.specs.containers.Ranges.{range_of, replaced, with_range, written, written_if}
+use Rattle.segment_manager.specs.containers.Ranges.{ChangesRange, WritesRange, numbers_if, range_at, range_in}
+use Rattle.segment_manager.specs.containers.Ranges.{replaced, with_range, written, written_if}
 use Rattle.segment_manager.specs.objects.{ElementLists.numbers_in, Standing.place_at, Standing.place_in}
-use Rattle.segment_manager.specs.objects.Standing.{element_at}
 use Rattle.segment_manager.proofs.{objects.Locating.said-at, objects.Locating.same-object, objects.Here.standing}
 use Rattle.segment_manager.proofs.{objects.Stored.numbers-good, objects.Written.numbers-object, Codes.code-read}
 use Rattle.segment_manager.proofs.{Codes.numbers-only, objects.Stored.ElementAt, objects.Stored.element-found}
 use Rattle.segment_manager.proofs.{objects.ObjectLists.key-found, objects.Exchanged.denotes-rewritten}
 use Rattle.segment_manager.proofs.{Frame.object-roomy, blocks.Blocks.spelling-length, blocks.Blocks.spelled-length}
-use Rattle.segment_manager.proofs.objects.Rewritten.{value_start, with_value}
+use Rattle.segment_manager.proofs.objects.Rewritten.{value_start}
 use Rattle.segment_manager.proofs.containers.Safely.{seen-refused}
 
 -- ---- a list with others in the places from one on

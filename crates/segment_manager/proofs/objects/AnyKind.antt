@@ -4,7 +4,7 @@ use common.{◌≡◌, refl, sym, ap, subst, ◌∙◌, ℕ, ℤ, pos, true, fal
 use common.{slice_set, eq-eqb, same_Some, Kind, ScalarOf, StringKind, VectorKind, StringsKind, ScalarKind, U8, Refusal}
 use common.{NotFound, WrongKind, code_of, is_value, Key, ByHandle, Command, Literal, literal_of, value_of_literal, Mode}
 use common.{Located, Answer, Done, Refused, elements_at, elements_of, kind_at, Value, Numbers, Elements, Bytes, Pairs}
-use common.{Texts, Object, Directory, kind_of, live, object_at, IsMissing, IsLocated, Plan, Refuse, Reply, perform}
+use common.{Texts, Object, Directory, kind_of, live, object_at, IsLocated, Plan, Refuse, Reply, perform}
 use common.{with, Answers, IsReply, IsReplyOfKind, IsStep, State, StandsFor, changed, effect, element_at, get}
 use common.{is_read_only, set, step, with_items, ne_eqb, scalar_code, size_of, same_kind, handle, arith, bytes_of}
 use common.{◌+◌, ◌≤◌, ◌==◌, SameBut, Place}
@@ -114,13 +114,6 @@ of_kind-replies {s} key {kind} c a f r = record {
       ∙ sym (ap (reply_of s.mode d c) (elements-told d key kind e ∙ f));
 }
 
--- it has no scalars
-pub of_kind-none : (s : State) (key : Key) (kind : Kind) (r : Refusal) (c : Command) → Answers s (λ d. kind_at d key)
-    (Ok kind) → elements_of kind ≡ Err r → Answers s (λ d. scalar_reply s.mode d key c) (Refused r)
-of_kind-none s key kind r c a f = record {
-  answers = λ d l. sym (ap (reply_of s.mode d c) (elements-told d key kind (kind-told d key kind (a.answers d l)) ∙ f));
-}
-
 -- neither scalars nor a vector of them nor a string
 pub other-elements : (kind : Kind) → ((k : ScalarKind) → kind ≡ ScalarOf k → ⊥)
     → ((k : ScalarKind) → kind ≡ VectorKind k → ⊥) → (kind ≡ StringKind → ⊥) → elements_of kind ≡ Err WrongKind
@@ -136,13 +129,6 @@ pub located-replies : (s : State) (key : Key) (o : Located) (l : IsLocated s key
 located-replies s key o l kind k i answer is f r = of_kind-replies key (asked.Get key i)
     (subst (λ (n : Kind). Answers s (λ d. kind_at d key) (Ok n)) is (kind-by_key s key o l)) f
     (reply_of_kind-by_key s key o l kind (asked.Get key i) answer r)
-
--- no object has the key
-pub any-missing : (s : State) (key : Key) (c : Command) (why : Refusal) → IsMissing s key why
-    → Answers s (λ d. scalar_reply s.mode d key c) (Refused why)
-any-missing s key c why m = record {
-  answers = λ d l. ap Refused m.is ∙ sym (ap (reply_of s.mode d c) (ap elements_in (m.missing d l)));
-}
 
 -- ---- writing: the kind of the object
 

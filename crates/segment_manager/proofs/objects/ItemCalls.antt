@@ -3,9 +3,9 @@ use Rattle.segment_manager.proofs.Common as common
 use common.{◌≡◌, sym, ap, ◌∙◌, Ok, Err, Cut, ◌+◌, ◌*◌, ◌≤◌, ℤ, [], map, ◌<◌, pos, live, step, Plan}
 use common.{refl, true, Some, None, List, Made, State, Reply, Bool, arith, take, Extent, handle, place, Scalar, padded}
 use common.{subst, Directory, object_at, IsSegment, replicate, SamePlace, IsChanged, TakesItems, IsRestored}
-use common.{ℕ, Option, Result, Exists, Object, IsStep, effect, length, IsTrue, nat_lt, lt-ltb, le-ltb, perform, live_of}
+use common.{ℕ, Option, Result, Exists, Object, IsStep, effect, length, IsTrue, nat_lt, lt-ltb, le-ltb, perform}
 use common.{false, NewEntry, list_all, take_all, Anonymous, ReadOnly, is_value, head_len, room_for, StandsFor}
-use common.{Refusal, NoSpace, Command, Refused, current, resized, size_of, IsBegun, IsLoose, Denotes, Numbers, has_room}
+use common.{Refusal, NoSpace, Command, Refused, current, resized, size_of, IsBegun, IsLoose, Denotes, Numbers}
 use common.{IsNotBegun, length-map, ObjectRole, ScalarKind, OutOfRange, IsTakenKey, LeadsThere, object_len, with_object}
 use common.{is_read_only, with_new_object, if◌then◌else◌, mul-le-mul_left, length-replicate, IsAllocated, is_good_value}
 use common.{inl, inr, option_map, Mode, Answers, StandsAt, handle_at, pair_of_kind, with_count, Index, Kind}

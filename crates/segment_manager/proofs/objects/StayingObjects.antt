@@ -3,7 +3,7 @@ use Rattle.segment_manager.proofs.Common as common
 use common.{◌≡◌, sym, not, ◌∙◌, ℕ, None, List, [], ◌∷◌, find, cond, Kind, Key, Mode, live, Plan, met, plan, step}
 use common.{refl, ◌==◌, Bool, true, false, Option, Some, Extent, handle, Object, Answer, Refused, perform, Moves, State}
 use common.{ap, is_some, LiveSet, resized, Refusal, NoSpace, ByHandle, Command, Directory, has_key, IsSegment, current}
-use common.{subst, if◌then◌else◌, false≢true, replace_object, is_elementwise, step_of_kind, LeadsOnOfKind, option_map}
+use common.{if◌then◌else◌, false≢true, replace_object, is_elementwise, step_of_kind, LeadsOnOfKind, option_map}
 use common.{IsDirectory, Denotes, Located, object_at, is_object_at, handle_at, same_Some}
 use Rattle.segment_manager.proofs.Refusals.{IsAnother, Leaves, by_change, by_other, by_refusal, by_request, by_same}
 use Rattle.segment_manager.proofs.Refusals.{plan-leaves, plan_of_kind-leaves}

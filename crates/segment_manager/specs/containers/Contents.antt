@@ -1,6 +1,6 @@
 -- Vectors of numbers and texts: what the two have in common as values of objects, and where they stand.
 use Rattle.std.specs.Prelude.{ℕ, ◌+◌, Bool, true, false, Option, Some, None, Result, Ok, Err, List, length}
-use Rattle.std.specs.Prelude.{option_to_list, nat_lt, if◌then◌else◌}
+use Rattle.std.specs.Prelude.{option_to_list, if◌then◌else◌}
 use Rattle.std.specs.List.{list_all}
 use Rattle.raw_region.specs.Format.{current}
 use Rattle.raw_region.specs.Memory.{Cut, are_bytes}

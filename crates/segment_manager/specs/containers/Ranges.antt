@@ -1,6 +1,6 @@
 -- Elements of an array or a vector of scalars that are read, written or put in by one call.
-use Rattle.std.specs.Prelude.{◌≡◌, ℕ, ◌+◌, ◌*◌, ℤ, Bool, ◌&&◌, ◌||◌, IsTrue, None, Some, Result, Ok, Err, List, [], ◌∷◌}
-use Rattle.std.specs.Prelude.{◌++◌, IfOk, drop, length, max, nat_le, slice_set, take, if◌then◌else◌}
+use Rattle.std.specs.Prelude.{ℕ, ◌+◌, ◌*◌, ℤ, Bool, ◌||◌, None, Some, Result, Ok, Err, List}
+use Rattle.std.specs.Prelude.{◌++◌, IfOk, drop, length, nat_le, take, if◌then◌else◌}
 use Rattle.raw_region.specs.Memory.{SameBut, bytes_of}
 use Rattle.best_fit.specs.declared.places.Place.{Place}
 use Rattle.seg_types.specs.declared.kinds.Kind.{Kind}

@@ -1,5 +1,5 @@
 -- An object as it was located: what calls take that look nothing up again.
-use Rattle.std.specs.Prelude.{ℕ, ◌+◌, ◌*◌, Option, Some, None, Result, Ok, Err, length, nat_lt, option_map, if◌then◌else◌}
+use Rattle.std.specs.Prelude.{ℕ, ◌+◌, ◌*◌, Option, Some, Result, Ok, Err, length, nat_lt, option_map, if◌then◌else◌}
 use Rattle.best_fit.specs.Extents.{handle}
 use Rattle.seg_types.specs.declared.kinds.Kind.{Kind}
 use Rattle.seg_types.specs.declared.kinds.Kind.TheVariants.{Scalar}

@@ -1,5 +1,5 @@
 -- The head says which value the object has, and where it stands.
-use Rattle.segment_manager.proofs.Common.{◌∙◌, refl, ap, subst, sym, ℕ, ◌+◌, padded, head_len}
+use Rattle.segment_manager.proofs.Common.{◌∙◌, ap, subst, sym, ℕ, ◌+◌, padded, head_len}
 use Rattle.seg_vector.specs.{Elements.GivesBack, Standing.IsStanding}
 use Rattle.segment_manager.proofs.containers.Released.{elements-contents, has_storage-left, held-object}
 use Rattle.segment_manager.proofs.containers.Released.{number-contents, pairs-contents, some-elements, some-pairs}

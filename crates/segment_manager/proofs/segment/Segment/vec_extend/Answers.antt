@@ -1,5 +1,5 @@
 -- The values are put behind the last of the vector that is found.
-use Rattle.segment_manager.proofs.Common.{exit-is, sym, ap, ◌∙◌, subst, map, Answers, Err, Vector, container_at}
+use Rattle.segment_manager.proofs.Common.{exit-is, sym, ◌∙◌, subst, map, Answers, Err, Vector, container_at}
 use Rattle.segment_manager.proofs.{containers.ScalarTypes.of-vector, containers.VectorAnswers.some-vector}
 use Rattle.segment_manager.proofs.containers.{Extending.extended-missing, Extending.extended-reading}
 use Rattle.segment_manager.proofs.containers.{Extending.extended-stays, VectorAnswers.vector-extended}

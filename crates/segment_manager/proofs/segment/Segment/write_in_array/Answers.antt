@@ -1,5 +1,5 @@
 -- The values are spelled where the elements stand, or there are not so many, or it is no array of them.
-use Rattle.segment_manager.proofs.Common.{◌≡◌, sym, ap, ◌∙◌, ◌*◌, length, length-map, map, subst, ByHandle, IsLocated}
+use Rattle.segment_manager.proofs.Common.{sym, ◌∙◌, ◌*◌, length, length-map, map, subst, ByHandle, IsLocated}
 use Rattle.segment_manager.proofs.Common.{State, current, eqb-true}
 use Rattle.segment_manager.proofs.{Calling.denotes-heap, containers.ScalarTypes.of-vector}
 use Rattle.segment_manager.proofs.containers.RangeCalls.{array-empty, array-framed, array-kind, array-other, array-room}

@@ -1,5 +1,5 @@
 -- The values are written over those of the vector that is found, or it is of another kind.
-use Rattle.segment_manager.proofs.Common.{exit-is, ◌≡◌, sym, ap, ◌∙◌, Ok, Err, map, ByHandle, Located, Vector}
+use Rattle.segment_manager.proofs.Common.{exit-is, ◌∙◌, map, ByHandle, Vector}
 use Rattle.segment_manager.proofs.{Common.refl, containers.ScalarTypes.of-vector, containers.VectorAnswers.some-vector}
 use Rattle.segment_manager.proofs.containers.{RangeCalls.vector-other, Safely.contains}
 use Rattle.segment_manager.proofs.containers.VectorAnswers.{vector-overwritten}

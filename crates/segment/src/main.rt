@@ -120,12 +120,21 @@ fn command<W: Write + Drop>(
     let answer = match asked {
         Invocation::Create(file, size) => create(alloc, disk, file, *size),
         Invocation::Run(file, mode, size) => {
-            let how = Running::PLAIN;
-            answer(rt, disk, scripts, run_of(file, *mode, *size, &how), out)?;
+            let run = Run {
+                file,
+                mode: *mode,
+                size: *size,
+            };
+            answer(rt, disk, scripts, run, &Running::PLAIN, out)?;
             return Ok(0);
         }
         Invocation::RunWith(file, mode, size, how) => {
-            answer(rt, disk, scripts, run_of(file, *mode, *size, how), out)?;
+            let run = Run {
+                file,
+                mode: *mode,
+                size: *size,
+            };
+            answer(rt, disk, scripts, run, how, out)?;
             return Ok(0);
         }
         Invocation::Check(file) => check(alloc, disk, file, &mut out),
@@ -189,17 +198,6 @@ struct Run<'a> {
     file: &'a str,
     mode: ModeName,
     size: Option<u64>,
-    how: &'a Running<'a>,
-}
-
-/// The run of a file, a mode and a size.
-fn run_of<'a>(file: &'a str, mode: ModeName, size: Option<u64>, how: &'a Running<'a>) -> Run<'a> {
-    Run {
-        file,
-        mode,
-        size,
-        how,
-    }
 }
 
 /// Runs the script that is asked for, and gives its answers to an output that makes of them what is wanted.
@@ -208,15 +206,16 @@ fn answer<O: Lined + Drop>(
     disk: &mut HostDisk<'_, HostRuntime>,
     scripts: &mut HostDisk<'_, HostRuntime>,
     run: Run<'_>,
+    how: &Running<'_>,
     out: O,
 ) -> Result<(), CommandFault>
     requires { O.history out ≡ nothing_taken }
 {
-    if run.how.answering.numbered {
-        return answer_to(rt, disk, scripts, run, &mut Numbered::new(out));
+    if how.answering.numbered {
+        return answer_to(rt, disk, scripts, run, how, &mut Numbered::new(out));
     }
     let mut plain = out;
-    answer_to(rt, disk, scripts, run, &mut plain)
+    answer_to(rt, disk, scripts, run, how, &mut plain)
 }
 
 /// The same to an output as it is.
@@ -225,14 +224,15 @@ fn answer_to<O: Lined>(
     disk: &mut HostDisk<'_, HostRuntime>,
     scripts: &mut HostDisk<'_, HostRuntime>,
     run: Run<'_>,
+    how: &Running<'_>,
     out: &mut O,
 ) -> Result<(), CommandFault>
     requires { O.history out.old ≡ nothing_taken }
 {
-    match &run.how.script {
+    match &how.script {
         Script::Input => {
             let mut script = Reading::new(Prompted::new(rt, rt.reader()));
-            run_script(rt, disk, run, &mut script, out)
+            run_script(rt, disk, run, how, &mut script, out)
         }
         Script::File(path) => {
             let Ok(opened) = scripts.open(path) else {
@@ -240,11 +240,11 @@ fn answer_to<O: Lined>(
             };
             let Opened { reader, len: _ } = opened;
             let mut script = reader;
-            run_script(rt, disk, run, &mut script, out)
+            run_script(rt, disk, run, how, &mut script, out)
         }
         Script::Lines(lines) => {
             let text = script_text(rt.alloc(), lines.as_slice())?;
-            run_script(rt, disk, run, &mut Reading::new(text.as_slice()), out)
+            run_script(rt, disk, run, how, &mut Reading::new(text.as_slice()), out)
         }
     }
 }
@@ -254,18 +254,14 @@ fn run_script<S: Source, O: Lined>(
     rt: &HostRuntime,
     disk: &mut HostDisk<'_, HostRuntime>,
     run: Run<'_>,
+    how: &Running<'_>,
     script: &mut S,
     out: &mut O,
 ) -> Result<(), CommandFault>
     requires script { (S.history script.old).failures ≡ 0 }
     requires out { O.history out.old ≡ nothing_taken }
 {
-    let Run {
-        file,
-        mode,
-        size,
-        how,
-    } = run;
+    let Run { file, mode, size } = run;
     let saving = how.keeping.saving;
     let until = if how.answering.strict {
         Until::Refusal
